@@ -1,0 +1,30 @@
+-- What a name is.
+use Rattle.std.specs.Prelude.{◌≡◌, ℕ, ◌≤◌, Bool, not, ◌||◌, ◌&&◌, if◌then◌else◌, ◌==◌, nat_le, nat_lt, List, length, Option, Some, None, Result, Ok, Err}
+use Rattle.std.specs.List.{position}
+use Rattle.q_base.specs.declared.name.NameRefusal.{NameRefusal}
+use Rattle.q_base.specs.declared.name.NameRefusal.TheVariants.{Empty, TooLong, BadByte}
+
+-- a to z, 0 to 9, `_` and `-`
+abbrev pub is_name_byte : ℕ → Bool
+is_name_byte byte = (nat_le 97 byte && nat_le byte 122) || (nat_le 48 byte && nat_le byte 57) || byte == 95 || byte == 45
+
+-- the offset of the first byte that no name has
+abbrev pub first_bad : List ℕ → Option ℕ
+first_bad bytes = position (λ byte. not (is_name_byte byte)) bytes
+
+-- 1 to 64 such bytes
+pub record IsName (bytes : List ℕ) : Type 0 where
+  pub some : 1 ≤ length bytes
+  pub few : length bytes ≤ 64
+  pub good : first_bad bytes ≡ None
+
+-- the name that bytes of a fitting number are, or the first byte that no name has
+abbrev pub name_unless : List ℕ → Option ℕ → Result (List ℕ) NameRefusal
+name_unless bytes None = Ok bytes
+name_unless bytes (Some place) = Err (BadByte place)
+
+-- the name that bytes are, or the first reason why they are none
+abbrev pub read_name : List ℕ → Result (List ℕ) NameRefusal
+read_name bytes =
+    if length bytes == 0 then Err Empty
+    else (if nat_lt 64 (length bytes) then Err (TooLong (length bytes)) else name_unless bytes (first_bad bytes))

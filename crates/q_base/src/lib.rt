@@ -1,0 +1,16 @@
+//! Moments, commits, names, texts and positions: the plain values that every layer speaks of.
+#![tactic(auto)]
+
+mod memory;
+mod moment;
+mod name;
+mod positions;
+#[cfg(test)]
+mod tests;
+mod text;
+
+pub use memory::Memory;
+pub use moment::{Commit, Moment};
+pub use name::{Name, NameRefusal};
+pub use positions::{Positions, positions_of};
+pub use text::Text;

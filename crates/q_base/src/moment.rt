@@ -1,0 +1,48 @@
+//! Moments, and the numbers of commits.
+ghost use Rattle.std.specs.Prelude.{◌≡◌, ◌≤◌, min};
+
+use std::marker::Model;
+
+/// The number of an accepted write, counted from 1. Commit 0 is the empty store.
+pub type Commit = u64;
+
+/// The last second of the year 9999, the greatest that a date of HTTP can show.
+pub const GREATEST_SECONDS: u64 = 253_402_300_799;
+
+/// A whole number of seconds since 1970, at most the last second of the year 9999.
+#[derive(Clone, Copy, Debug, PartialEq, Eq, PartialOrd, Ord)]
+pub struct Moment {
+    seconds: u64,
+}
+
+impl Model for Moment {
+    ghost use Rattle.std.specs.Prelude.{ℕ, ◌≤◌};
+    ghost use Rattle.q_base.specs.declared.moment.TheConstants.{GREATEST_SECONDS};
+
+    ghost Value = { ℕ };
+
+    ghost view = { λ m. m.seconds };
+
+    ghost invariant = { λ m. m.seconds ≤ GREATEST_SECONDS };
+
+    ghost inverse = { λ n. record { seconds = n } };
+}
+
+impl Moment {
+    /// The moment so many seconds after 1970 began; a greater number than the greatest is taken as that.
+    pub fn of(seconds: u64) -> Moment
+        ensures { result ≡ min seconds GREATEST_SECONDS }
+    {
+        Moment {
+            seconds: seconds.min(GREATEST_SECONDS),
+        }
+    }
+
+    /// The seconds since 1970 began.
+    pub fn seconds(self) -> u64
+        ensures same { result ≡ self }
+        ensures capped { result ≤ GREATEST_SECONDS }
+    {
+        self.seconds
+    }
+}
