@@ -1,0 +1,13 @@
+use Rattle.std.proofs.Common.{arith, rules}
+use Rattle.serde_json.specs.View.{view}
+use Rattle.q_doc.proofs.ReadData.{found-IsRead}
+use Rattle.q_doc.proofs.WholeLemmas.{document_whole}
+use Rattle.q_doc.proofs.doc.Doc.read.Goals as goal
+
+-- an object that was read, is not too deep and has whole numbers
+pub invariant_of-result : goal.invariant_of-result
+invariant_of-result c =
+    let read = found-IsRead c.args.text.now (view c.in-Ok.value) c.in-Ok.ensures.ok in (
+      document_whole (view c.in-Ok.value) c.in-Ok-node_of.root read c.in-Ok-node_of.ensures.ok (search rules) (omega arith),
+      c.in-Ok-node_of.ensures.texts,
+    )

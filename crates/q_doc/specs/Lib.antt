@@ -1,0 +1,14 @@
+pub mod Code
+pub mod DocRefusal
+pub mod Document
+pub mod Found
+pub mod Judged
+pub mod Order
+pub mod OrderLaws
+pub mod Path
+pub mod PathLength
+pub mod Printed
+pub mod Shape
+pub mod ShapeFalls
+pub mod TextOrder
+pub mod Tree

@@ -1,0 +1,95 @@
+//! `clone` of texts, paths, nodes and documents: each copy is the same value.
+ghost use Rattle.std.specs.Prelude.{◌≡◌, IfOk};
+ghost use Rattle.q_doc.specs.Tree.{items_of, members_of};
+
+use crate::doc::Doc;
+use crate::node::{Node, Shape};
+use crate::path::Path;
+use crate::text::Text;
+use std::alloc::AllocError;
+
+impl Clone for Text {
+    ghost is_clone = { λ s t. s ≡ t };
+
+    fn clone(&self) -> Result<Text, AllocError> {
+        Ok(Text {
+            text: self.text.clone()?,
+        })
+    }
+}
+
+impl Clone for Path {
+    ghost is_clone = { λ s t. s ≡ t };
+
+    fn clone(&self) -> Result<Path, AllocError> {
+        Ok(Path {
+            segments: copy_of_segments(&self.segments)?,
+        })
+    }
+}
+
+impl Clone for Node {
+    ghost is_clone = { λ s t. s ≡ t };
+
+    fn clone(&self) -> Result<Node, AllocError> {
+        copy_of(self)
+    }
+}
+
+impl Clone for Doc {
+    ghost is_clone = { λ s t. s ≡ t };
+
+    fn clone(&self) -> Result<Doc, AllocError> {
+        Ok(Doc {
+            root: copy_of(&self.root)?,
+        })
+    }
+}
+
+#[cycle(copy_of)]
+fn copy_of(node: &Node) -> Result<Node, AllocError>
+    ensures { IfOk result (λ t. node.now ≡ t) }
+{
+    let shape = match &node.shape {
+        Shape::Null => Shape::Null,
+        Shape::Bool(value) => Shape::Bool(*value),
+        Shape::Number(value) => Shape::Number(*value),
+        Shape::Text(text) => Shape::Text(text.clone()?),
+        Shape::Array(items) => Shape::Array(copy_of_items(items)?),
+        Shape::Object(members) => Shape::Object(copy_of_members(members)?),
+    };
+    Ok(Node { shape })
+}
+
+#[cycle(copy_of)]
+fn copy_of_items(items: &Vec<Node>) -> Result<Vec<Node>, AllocError>
+    ensures { IfOk result (λ v. items.now.items ≡ v.items) }
+{
+    let mut copies = Vec::with_capacity(*items.allocator(), items.len())?;
+    for item in items {
+        copies.push(copy_of(item)?)?;
+    }
+    Ok(copies)
+}
+
+#[cycle(copy_of)]
+fn copy_of_members(members: &Vec<(Text, Node)>) -> Result<Vec<(Text, Node)>, AllocError>
+    ensures { IfOk result (λ v. members.now.items ≡ v.items) }
+{
+    let mut copies = Vec::with_capacity(*members.allocator(), members.len())?;
+    for member in members {
+        let key = member.0.clone()?;
+        copies.push((key, copy_of(&member.1)?))?;
+    }
+    Ok(copies)
+}
+
+fn copy_of_segments(segments: &Vec<Text>) -> Result<Vec<Text>, AllocError>
+    ensures { IfOk result (λ v. segments.now.items ≡ v.items) }
+{
+    let mut copies = Vec::with_capacity(*segments.allocator(), segments.len())?;
+    for segment in segments {
+        copies.push(segment.clone()?)?;
+    }
+    Ok(copies)
+}

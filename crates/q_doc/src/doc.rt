@@ -1,0 +1,86 @@
+//! A document: an object within the limits, whose keys are in order.
+ghost use Rattle.std.specs.Prelude.{◌≡◌, ◌⊎◌, ◌≤◌, length, IfOk};
+ghost use Rattle.q_doc.specs.Document.{IsPlainDocument, HasTexts};
+ghost use Rattle.q_doc.specs.Judged.{judged};
+ghost use Rattle.q_doc.specs.Printed.{printed};
+
+use crate::convert::{depth_of, node_of, value_of};
+use crate::node::Node;
+use crate::print::write_node;
+use crate::refusal::{DocRefusal, Memory};
+use crate::text::Text;
+use json::Writer;
+use std::alloc::Global;
+use std::marker::Model;
+
+/// The greatest length of a document's text, in bytes.
+pub const MAX_LENGTH: usize = 65_536;
+
+/// The greatest depth of a document. An object of plain values has depth 1.
+pub const MAX_DEPTH: usize = 32;
+
+/// A document. Contracts see its value, a `Tree`.
+#[derive(Drop)]
+pub struct Doc {
+    pub(crate) root: Node,
+}
+
+impl Model for Doc {
+    ghost use Rattle.q_doc.specs.Tree.{Tree};
+    ghost use Rattle.q_doc.specs.Code.{tree_code};
+    ghost use Rattle.q_doc.specs.Document.{IsDocument};
+
+    ghost Value = { Tree };
+
+    ghost coded = { tree_code };
+
+    ghost view = { λ a. a.root };
+
+    ghost invariant = { λ a. IsDocument a.root };
+}
+
+impl Doc {
+    /// Reads a document. Of equal keys in one object the last value stays, and the keys are put in
+    /// order.
+    pub fn read(alloc: Global, text: &[u8]) -> Result<Doc, DocRefusal>
+        ensures { (result ≡ Err DocRefusal.Memory) ⊎ (result ≡ judged text.now) }
+    {
+        if text.len() > MAX_LENGTH {
+            return Err(DocRefusal::TooLong { length: text.len() });
+        }
+        let value = match value_of(alloc, text) {
+            Ok(value) => value,
+            Err(refusal) => return Err(refusal),
+        };
+        if !value.is_object() {
+            return Err(DocRefusal::NotObject);
+        }
+        let depth = depth_of(&value);
+        if depth > MAX_DEPTH {
+            return Err(DocRefusal::TooDeep { depth });
+        }
+        match node_of(alloc, value) {
+            Ok(root) => Ok(Doc { root }),
+            Err(refusal) => Err(refusal),
+        }
+    }
+
+    /// The document as compact JSON, with the keys of each object in the order of their bytes.
+    pub fn print(&self, alloc: Global) -> Result<Text, Memory>
+        ensures text { IfOk result (λ s. s ≡ printed self.now) }
+        ensures reads_back { IfOk result (λ s. length s ≤ MAX_LENGTH → judged s ≡ Ok self.now) }
+    {
+        let mut out = Writer::new(Vec::new(alloc));
+        write_node(&self.root, &mut out)?;
+        Ok(Text::of(out.into_inner()))
+    }
+
+    /// The document's value, which is an object.
+    pub fn root(&self) -> &Node
+        ensures same { result.now ≡ self.now }
+        ensures document { IsPlainDocument self.now }
+        ensures texts { HasTexts self.now }
+    {
+        &self.root
+    }
+}

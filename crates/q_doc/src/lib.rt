@@ -1,0 +1,23 @@
+//! Documents: JSON objects of whole numbers, read, printed, walked and put in order.
+#![tactic(auto)]
+
+mod convert;
+mod copies;
+mod doc;
+mod equality;
+pub mod laws;
+mod node;
+mod order;
+mod path;
+mod print;
+mod refusal;
+#[cfg(test)]
+mod tests;
+mod text;
+
+pub use doc::{Doc, MAX_DEPTH, MAX_LENGTH};
+pub use node::{Node, Shape};
+pub use order::compare;
+pub use path::{MAX_SEGMENTS, Path};
+pub use refusal::{DocRefusal, Memory};
+pub use text::Text;

@@ -1,0 +1,44 @@
+//! A value of a document, as a tree.
+ghost use Rattle.std.specs.Prelude.{◌≡◌};
+
+use crate::text::Text;
+use std::marker::Model;
+
+/// A value. Contracts see it as a `Tree` of `specs/Tree.antt`, and `==` is equality of values.
+#[cycle(node)]
+#[derive(Drop)]
+pub struct Node {
+    pub shape: Shape,
+}
+
+/// What kind of value a node is, with its parts. Members stand in the order in which they were put.
+#[cycle(node)]
+#[derive(Drop)]
+pub enum Shape {
+    Null,
+    Bool(bool),
+    Number(i64),
+    Text(Text),
+    Array(Vec<Node>),
+    Object(Vec<(Text, Node)>),
+}
+
+impl Model for Node {
+    ghost use Rattle.q_doc.specs.Tree.{Tree, depth};
+
+    ghost Value = { Tree };
+
+    ghost use Rattle.q_doc.specs.Code.{tree_code};
+
+    ghost coded = { tree_code };
+
+    ghost use Rattle.q_doc.specs.Shape.{tree_of};
+
+    ghost view = { λ a. tree_of a.shape };
+
+    ghost size = { depth };
+
+    ghost use Rattle.q_doc.specs.ShapeFalls.{falls};
+
+    ghost size_decreases = { λ a h. falls a.shape };
+}

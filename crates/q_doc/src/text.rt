@@ -1,0 +1,61 @@
+//! A text, which is UTF-8.
+ghost use Rattle.std.specs.Prelude.{string_bytes, ◌≡◌, IfOk};
+ghost use Rattle.std.specs.Str.{IsUtf8};
+
+use std::marker::Model;
+
+/// A text or a key. Whoever makes one from bytes owes that they are UTF-8.
+#[derive(Drop)]
+pub struct Text {
+    pub(crate) text: String,
+}
+
+impl Model for Text {
+    ghost use Rattle.std.specs.Prelude.{ℕ, List, string_bytes};
+
+    ghost Value = { List ℕ };
+
+    ghost view = { λ a. string_bytes a.text };
+}
+
+impl Text {
+    /// The text of these bytes, in no new memory.
+    pub fn of(bytes: Vec<u8>) -> Text
+        requires { IsUtf8 bytes.items }
+        ensures { result ≡ bytes.items }
+    {
+        Text {
+            text: unsafe { String::from_utf8_unchecked(bytes) },
+        }
+    }
+
+    /// The text of a string, in no new memory.
+    pub(crate) fn from_string(text: String) -> Text
+        ensures value { result ≡ string_bytes text }
+        ensures utf8 { IsUtf8 result }
+    {
+        Text { text }
+    }
+
+    /// The bytes of the text.
+    pub fn as_slice(&self) -> &[u8]
+        ensures value { result.now ≡ self.now }
+        ensures utf8 { IsUtf8 result.now }
+    {
+        self.text.as_str().as_bytes()
+    }
+
+    /// The text as a slice of Rust's type for texts.
+    pub fn as_str(&self) -> &str
+        ensures { result.now ≡ self.now }
+    {
+        self.text.as_str()
+    }
+
+    /// The bytes of the text, in no new memory.
+    pub fn into_vec(self) -> Vec<u8>
+        ensures { result.items ≡ self }
+    {
+        self.text.into_bytes()
+    }
+}
