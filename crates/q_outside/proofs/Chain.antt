@@ -1,0 +1,37 @@
+-- Calls one after another take, give and tell what they did together.
+use Rattle.std.proofs.Common.{◌≡◌, ℕ, List, [], ◌∷◌, ◌++◌, Option, Some, None, refl, append_assoc, append-nil, sym, subst}
+use Rattle.q_outside.specs.Told.{Takes, Gives, Ticks}
+
+-- a call that took nothing leaves what was left
+pub Takes-nothing : {A : Type 0} (left : Option (List A)) → Takes left left []
+Takes-nothing None = tt
+Takes-nothing (Some left) = (left, refl, refl)
+
+-- what two calls took is taken in one
+pub Takes-append : {A : Type 0} (first middle last : Option (List A)) (xs ys : List A) → Takes first middle xs → Takes middle last ys → Takes first last (xs ++ ys)
+Takes-append None middle last xs ys t u = tt
+Takes-append (Some left) None last xs ys t u = let e = t.1 in cc
+Takes-append {A} (Some left) (Some rest) last xs ys t u =
+    let same : rest ≡ t.0 = let e = t.1 in cc in
+    let first : left ≡ xs ++ t.0 = t.2 in
+    let second : rest ≡ ys ++ u.0 = u.2 in
+    let joined : (xs ++ ys) ++ u.0 ≡ xs ++ (ys ++ u.0) = append_assoc xs ys u.0 in
+    (u.0, u.1, cc)
+
+-- a call that gave nothing leaves what was held
+pub Gives-nothing : {A : Type 0} (held : Option (List A)) → Gives held held []
+Gives-nothing None = tt
+Gives-nothing (Some held) = let e : held ++ [] ≡ held = append-nil held in cc
+
+-- what two calls gave is given in one
+pub Gives-append : {A : Type 0} (first middle last : Option (List A)) (xs ys : List A) → Gives first middle xs → Gives middle last ys → Gives first last (xs ++ ys)
+Gives-append None middle last xs ys t u = tt
+Gives-append (Some held) None last xs ys t u = cc
+Gives-append {A} (Some held) (Some more) last xs ys t u =
+    let joined : (held ++ xs) ++ ys ≡ held ++ (xs ++ ys) = append_assoc held xs ys in
+    cc
+
+-- one moment more
+pub Ticks-append : {C : Type 0} (tells : C → ℕ → C → Type 0) (first middle last : C) (xs ys : List ℕ) → Ticks tells first xs middle → Ticks tells middle ys last → Ticks tells first (xs ++ ys) last
+Ticks-append tells first middle last [] ys t u = subst (λ c. Ticks tells c ys last) (sym t) u
+Ticks-append tells first middle last (x ∷ xs) ys t u = (t.0, t.1, Ticks-append tells t.0 middle last xs ys t.2 u)

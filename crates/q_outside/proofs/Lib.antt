@@ -1,0 +1,3 @@
+pub mod Chain
+mod Given
+mod Pieces

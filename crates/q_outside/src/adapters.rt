@@ -1,0 +1,104 @@
+//! The edge: what the operating system reads, writes and tells. Nothing is known of its bytes and moments.
+//!
+//! A count of faults is a number of 64 bits. At its greatest a further fault is told as the end of the
+//! source, or as a piece that the sink took, since neither tells its bytes.
+ghost use Rattle.std.specs.Prelude.{◌≡◌, ℕ, None};
+
+use crate::outside::{Clock, Failed, Sink, Source};
+use q_base::Moment;
+use std::io::{Read, Write};
+use std::rt;
+
+/// The source of what a reader of std gives, as standard input.
+#[derive(Debug, Drop)]
+pub struct ReadSource<R: Read + Drop> {
+    reader: R,
+    faults: u64,
+}
+
+impl<R: Read + Drop> ReadSource<R> {
+    /// The source of this reader, which has not failed yet.
+    pub fn new(reader: R) -> ReadSource<R>
+        ensures { result.faults ≡ 0 }
+    {
+        ReadSource { reader, faults: 0 }
+    }
+}
+
+impl<R: Read + Drop> Source for ReadSource<R> {
+    ghost left = { λ _. None };
+
+    ghost faults = { λ s. s.faults };
+
+    fn take(&mut self, into: &mut [u8]) -> Result<usize, Failed> {
+        match self.reader.read(into) {
+            Ok(count) => Ok(count),
+            Err(_) if self.faults < u64::MAX => {
+                self.faults += 1;
+                Err(Failed)
+            }
+            Err(_) => Ok(0),
+        }
+    }
+}
+
+/// The sink of a writer of std, as standard output.
+#[derive(Debug, Drop)]
+pub struct WriteSink<W: Write + Drop> {
+    writer: W,
+    faults: u64,
+}
+
+impl<W: Write + Drop> WriteSink<W> {
+    /// The sink of this writer, which has not failed yet.
+    pub fn new(writer: W) -> WriteSink<W>
+        ensures { result.faults ≡ 0 }
+    {
+        WriteSink { writer, faults: 0 }
+    }
+}
+
+impl<W: Write + Drop> Sink for WriteSink<W> {
+    ghost held = { λ _. None };
+
+    ghost faults = { λ s. s.faults };
+
+    fn give(&mut self, bytes: &[u8]) -> Result<usize, Failed> {
+        match self.writer.write(bytes) {
+            Ok(count) if count > 0 => Ok(count),
+            _ if self.faults < u64::MAX => {
+                self.faults += 1;
+                Err(Failed)
+            }
+            _ => Ok(bytes.len()),
+        }
+    }
+
+    fn end(&mut self) {
+        let _ = self.writer.flush();
+    }
+}
+
+/// The clock of the operating system. Where it fails, or stands before 1970, the moment is 0.
+#[derive(Debug, Drop)]
+pub struct SystemClock<R: rt::Clock + Drop> {
+    clock: R,
+}
+
+impl<R: rt::Clock + Drop> SystemClock<R> {
+    /// The clock of this runtime.
+    pub fn new(clock: R) -> SystemClock<R> {
+        SystemClock { clock }
+    }
+}
+
+impl<R: rt::Clock + Drop> Clock for SystemClock<R> {
+    ghost tells = { λ _ _ _. Unit {0} };
+
+    fn now(&mut self) -> Moment {
+        match self.clock.since_1970() {
+            Ok(passed) => Moment::of(passed.as_secs()),
+            Err(_) => Moment::of(0),
+        }
+    }
+}

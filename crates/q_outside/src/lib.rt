@@ -1,0 +1,22 @@
+//! What lies outside of the program: sources and sinks of bytes, clocks, and how a connection ended.
+#![tactic(auto)]
+
+mod adapters;
+mod clocks;
+mod faults;
+mod give;
+mod outside;
+mod script;
+mod served;
+mod sinks;
+mod sources;
+
+pub use adapters::{ReadSource, SystemClock, WriteSink};
+pub use clocks::{FixedClock, ListClock};
+pub use faults::Faults;
+pub use give::{give_all, give_both};
+pub use outside::{Clock, Failed, Sink, Source};
+pub use script::Script;
+pub use served::{Served, Why};
+pub use sinks::{EndlessSink, ListSink};
+pub use sources::{ListSource, PlainSource};

@@ -1,0 +1,32 @@
+//! How a connection was served.
+
+/// Why a connection ended.
+#[derive(Clone, Copy, Debug, PartialEq, Eq)]
+pub enum Why {
+    /// The source ended, and no byte but CR and LF was taken since the last request.
+    InputEnd,
+    /// The source ended inside a request.
+    Truncated,
+    /// A request whose framing was refused has been answered.
+    BadFraming {
+        /// The offset of the request's first byte.
+        place: usize,
+    },
+    /// A request that asked for the end of the connection has been answered.
+    CloseAsked,
+    /// As many requests as one connection may make have been answered.
+    RequestLimit,
+    /// The source failed.
+    ReadFault,
+    /// The sink failed.
+    WriteFault,
+}
+
+/// What came of a connection.
+#[derive(Clone, Copy, Debug, PartialEq, Eq)]
+pub struct Served {
+    /// How many requests were answered, with the one whose reply the sink did not take.
+    pub requests: u64,
+    /// Why the connection ended.
+    pub why: Why,
+}

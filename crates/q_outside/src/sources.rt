@@ -1,0 +1,99 @@
+//! Sources over bytes in memory.
+ghost use Rattle.std.specs.Prelude.{◌≡◌, ℕ, ◌<◌, ◌≤◌, ◌+◌, ◌++◌, List, [], length, take, drop, Some, IfOk, OnErr};
+
+use crate::outside::{Failed, Source};
+use crate::script::{Script, Turn};
+
+/// A source that never fails, and gives as much as there is room for. It tells its bytes.
+#[derive(Debug, Drop)]
+pub struct PlainSource {
+    /// All the bytes.
+    pub bytes: Vec<u8>,
+    /// How many of them were taken.
+    pub at: usize,
+    ghost within: { at ≤ length bytes.items },
+}
+
+impl PlainSource {
+    /// The source of these bytes.
+    pub fn of(bytes: Vec<u8>) -> PlainSource
+        ensures bytes { result.bytes ≡ bytes }
+        ensures at { result.at ≡ 0 }
+    {
+        PlainSource { bytes, at: 0 }
+    }
+}
+
+impl Source for PlainSource {
+    ghost left = { λ s. Some (drop s.at s.bytes.items) };
+
+    ghost faults = { λ _. 0 };
+
+    fn take(&mut self, into: &mut [u8]) -> Result<usize, Failed> {
+        let taken = copy_piece(self.bytes.as_slice(), self.at, into, usize::MAX);
+        self.at += taken;
+        Ok(taken)
+    }
+}
+
+/// A source that fails at some calls and gives its bytes in pieces, both by a script. It tells its bytes.
+#[derive(Debug, Drop)]
+pub struct ListSource {
+    /// All the bytes.
+    pub bytes: Vec<u8>,
+    /// How many of them were taken.
+    pub at: usize,
+    /// How often it has failed.
+    pub faults: u64,
+    /// What its calls do.
+    pub script: Script,
+    ghost within: { at ≤ length bytes.items },
+}
+
+impl ListSource {
+    /// The source of these bytes, whose calls do what the script says.
+    pub fn of(bytes: Vec<u8>, script: Script) -> ListSource
+        ensures bytes { result.bytes ≡ bytes }
+        ensures at { result.at ≡ 0 }
+        ensures faults { result.faults ≡ 0 }
+    {
+        ListSource {
+            bytes,
+            at: 0,
+            faults: 0,
+            script,
+        }
+    }
+}
+
+impl Source for ListSource {
+    ghost left = { λ s. Some (drop s.at s.bytes.items) };
+
+    ghost faults = { λ s. s.faults };
+
+    fn take(&mut self, into: &mut [u8]) -> Result<usize, Failed> {
+        let turn = self.script.next();
+        if turn == Turn::Fails && self.faults < u64::MAX {
+            self.faults += 1;
+            return Err(Failed);
+        }
+        let most = turn.most();
+        let taken = copy_piece(self.bytes.as_slice(), self.at, into, most);
+        self.at += taken;
+        Ok(taken)
+    }
+}
+
+/// Copies the bytes from a place on to the front of the room, at most so many, and answers how many.
+fn copy_piece(bytes: &[u8], at: usize, into: &mut [u8], most: usize) -> usize
+    requires some { 0 < most }
+    requires from { at ≤ length bytes.now }
+    ensures within { result ≤ length into.old }
+    ensures left { at + result ≤ length bytes.now }
+    ensures copied { drop at bytes.now ≡ take result into.new ++ drop (at + result) bytes.now }
+    ensures end { 0 < length into.old → result ≡ 0 → length bytes.now ≤ at }
+{
+    let count = (bytes.len() - at).min(into.len()).min(most);
+    into[..count].copy_from_slice(&bytes[at..at + count]);
+    count
+}
