@@ -1,0 +1,397 @@
+-- Which bytes decide what stands at the front of a stream: those of the item alone.
+use Rattle.std.proofs.Common.{◌≡◌, ℕ, zero, suc, ◌+◌, ◌-◌, ◌<◌, ◌≤◌, List, [], ◌∷◌, ◌++◌, length, take, drop, Option, Some, None, option_map, true, false, ◌&&◌, nat_eq, nat_lt, nat_le, refl, sym, ◌∙◌, ap, subst, arith, inl, inr, lit≤}
+use Rattle.std.proofs.Math.Seq.{take-append-add}
+use Rattle.std.proofs.lemmas.List.{append_assoc, take-append-drop, take-take, take_at, drop-append-le, drop-take, length-take, length-take-le, length-drop, length-append}
+use Rattle.std.proofs.lemmas.Bool.{cases_Bool, cases_lt, lt-ltb, ltb-true, le-leb, lt-leb, true≢false, and_parts}
+use Rattle.http_message.specs.Text.{empty_line, blank_length, head_length, begins_bare_return, window, lead_length, front_of, behind_lead, Front, BareReturn, Text, TooLarge, Unfinished}
+
+-- two bytes decide whether an empty line stands at the front
+pub line_front : (bytes : List ℕ) (n : ℕ) (more : List ℕ) → 2 ≤ n → 2 ≤ length bytes
+    → empty_line (take n bytes ++ more) ≡ empty_line bytes
+line_front [] n more two some = absurd (omega arith)
+line_front (a ∷ []) n more two some = absurd (omega arith)
+line_front (a ∷ b ∷ bytes) zero more two some = absurd (omega arith)
+line_front (a ∷ b ∷ bytes) (suc zero) more two some = absurd (omega arith)
+line_front (a ∷ b ∷ bytes) (suc (suc n)) more two some = refl
+
+-- two bytes decide whether a bare CR does
+pub return_front : (bytes : List ℕ) (n : ℕ) (more : List ℕ) → 2 ≤ n → 2 ≤ length bytes
+    → begins_bare_return (take n bytes ++ more) ≡ begins_bare_return bytes
+return_front [] n more two some = absurd (omega arith)
+return_front (a ∷ []) n more two some = absurd (omega arith)
+return_front (a ∷ b ∷ bytes) zero more two some = absurd (omega arith)
+return_front (a ∷ b ∷ bytes) (suc zero) more two some = absurd (omega arith)
+return_front (a ∷ b ∷ bytes) (suc (suc n)) more two some = refl
+
+-- a bare CR is two bytes
+pub return_two : (bytes : List ℕ) → begins_bare_return bytes ≡ true → 2 ≤ length bytes
+return_two [] bare = absurd (true≢false (sym bare))
+return_two (a ∷ []) bare = absurd (true≢false (sym bare))
+return_two (a ∷ b ∷ bytes) bare = omega arith
+
+-- the bytes of an empty line decide it
+pub line_cut : (bytes more : List ℕ) → 0 < empty_line bytes
+    → empty_line (take (empty_line bytes) bytes ++ more) ≡ empty_line bytes
+line_cut [] more some = absurd (omega arith)
+line_cut (a ∷ []) more some =
+    elim (cases_Bool (nat_eq a 10)) [
+      | inl feed ↦ rw (feed, feed) refl
+      | inr other ↦ elim (cases_Bool (nat_eq a 13)) [
+        | inl return ↦ let none : 0 < 0 = rw (other, return) at some in absurd (omega arith)
+        | inr neither ↦ let none : 0 < 0 = rw (other, neither) at some in absurd (omega arith)
+      ]
+    ]
+line_cut (a ∷ b ∷ bytes) more some =
+    elim (cases_Bool (nat_eq a 10)) [
+      | inl feed ↦ rw (feed, feed) refl
+      | inr other ↦ elim (cases_Bool (nat_eq a 13)) [
+        | inl return ↦ elim (cases_Bool (nat_eq b 10)) [
+          | inl feed ↦ rw (other, return, feed) (rw (other, return, feed) refl)
+          | inr bare ↦ let none : 0 < 0 = rw (other, return, bare) at some in absurd (omega arith)
+        ]
+        | inr neither ↦ let none : 0 < 0 = rw (other, neither) at some in absurd (omega arith)
+      ]
+    ]
+
+-- an empty line lies in the bytes
+pub line_fits : (bytes : List ℕ) → empty_line bytes ≤ length bytes
+line_fits [] = omega arith
+line_fits (a ∷ []) =
+    elim (cases_Bool (nat_eq a 10)) [
+      | inl feed ↦ rw feed (let e : 1 ≤ 1 = lit≤ tt in e)
+      | inr other ↦ elim (cases_Bool (nat_eq a 13)) [
+        | inl return ↦ rw (other, return) (let e : 0 ≤ 1 = lit≤ tt in e)
+        | inr neither ↦ rw (other, neither) (let e : 0 ≤ 1 = lit≤ tt in e)
+      ]
+    ]
+line_fits (a ∷ b ∷ bytes) =
+    elim (cases_Bool (nat_eq a 10)) [
+      | inl feed ↦ rw feed (omega arith)
+      | inr other ↦ elim (cases_Bool (nat_eq a 13 && nat_eq b 10)) [
+        | inl return ↦ rw (other, return) (omega arith)
+        | inr neither ↦ rw (other, neither) (omega arith)
+      ]
+    ]
+
+-- a line feed that an empty line follows ends a head
+pub head_at : (x : ℕ) (rest : List ℕ) (size : ℕ) → nat_eq x 10 ≡ true → empty_line rest ≡ size → 0 < size
+    → head_length (x ∷ rest) ≡ Some (suc size)
+head_at x rest size feed is some = let more : nat_lt 0 size ≡ true = lt-ltb 0 size some in rw (feed, is, more) refl
+
+-- the empty lines at the front, and two bytes behind them, decide how long they are
+pub blank_cut : (bytes : List ℕ) (b n : ℕ) (more : List ℕ) → blank_length bytes ≡ b → b + 2 ≤ n
+    → b + 2 ≤ length bytes → blank_length (take n bytes ++ more) ≡ b
+blank_cut [] b n more is two some = absurd (omega arith)
+blank_cut (x ∷ []) b n more is two some = absurd (omega arith)
+blank_cut (x ∷ y ∷ bytes) b zero more is two some = absurd (omega arith)
+blank_cut (x ∷ y ∷ bytes) b (suc zero) more is two some = absurd (omega arith)
+blank_cut (x ∷ y ∷ bytes) b (suc (suc n)) more is two some =
+    elim (cases_Bool (nat_lt 0 (empty_line (x ∷ y ∷ bytes)))) [
+      | inl empty ↦
+          let longer : suc (blank_length (y ∷ bytes)) ≡ b = rw empty at is in
+          let rest : blank_length (y ∷ (take n bytes ++ more)) ≡ blank_length (y ∷ bytes) =
+          blank_cut (y ∷ bytes) (blank_length (y ∷ bytes)) (suc n) more refl (omega arith) (omega arith) in
+          rw empty (ap suc rest ∙ longer)
+      | inr none ↦ rw none (rw none at is)
+    ]
+
+-- what an answer's successor was
+pub suc_inv : (o : Option ℕ) (n : ℕ) → option_map suc o ≡ Some n → (m : ℕ) × (o ≡ Some m) × (n ≡ suc m)
+suc_inv None n is = absurd (cc)
+suc_inv (Some m) n is = (m, refl, cc)
+
+-- a head has at least the two line ends, and lies in the bytes
+pub head_bounds : (bytes : List ℕ) (n : ℕ) → head_length bytes ≡ Some n → (2 ≤ n) × (n ≤ length bytes)
+head_bounds [] n is = absurd (cc)
+head_bounds (x ∷ bytes) n is =
+    elim (cases_Bool (nat_eq x 10 && nat_lt 0 (empty_line bytes))) [
+      | inl ends ↦
+          let here : Some (suc (empty_line bytes)) ≡ Some n = rw ends at is in
+          let size : suc (empty_line bytes) ≡ n = cc in
+          let some : 0 < empty_line bytes = ltb-true 0 (empty_line bytes) (and_parts (nat_eq x 10) (nat_lt 0 (empty_line bytes)) ends).1 in
+          (omega arith, omega (arith, line_fits bytes))
+      | inr further ↦
+          let later : option_map suc (head_length bytes) ≡ Some n = rw further at is in
+          let (m, at, size) = suc_inv (head_length bytes) n later in
+          let rest = head_bounds bytes m at in
+          (omega (arith, rest.0), omega (arith, rest.1))
+    ]
+
+-- the bytes of a head's text decide where it ends
+pub head_cut : (bytes : List ℕ) (n : ℕ) (more : List ℕ) → head_length bytes ≡ Some n
+    → head_length (take n bytes ++ more) ≡ Some n
+head_cut [] n more is = absurd (cc)
+head_cut (x ∷ bytes) n more is =
+    elim (cases_Bool (nat_eq x 10 && nat_lt 0 (empty_line bytes))) [
+      | inl ends ↦
+          let here : Some (suc (empty_line bytes)) ≡ Some n = rw ends at is in
+          let size : n ≡ suc (empty_line bytes) = cc in
+          let parts = and_parts (nat_eq x 10) (nat_lt 0 (empty_line bytes)) ends in
+          let some : 0 < empty_line bytes = ltb-true 0 (empty_line bytes) parts.1 in
+          rw size (head_at x (take (empty_line bytes) bytes ++ more) (empty_line bytes) parts.0 (line_cut bytes more some) some)
+      | inr further ↦
+          let later : option_map suc (head_length bytes) ≡ Some n = rw further at is in
+          let (m, at, size) = suc_inv (head_length bytes) n later in
+          let bounds = head_bounds bytes m at in
+          let same : empty_line (take m bytes ++ more) ≡ empty_line bytes =
+          line_front bytes m more bounds.0 (omega (arith, bounds.0, bounds.1)) in
+          rw (size, same, further) (ap (option_map suc) (head_cut bytes m more at))
+    ]
+
+-- the window, its length, and that of bytes that were cut
+pub window_is : (bytes : List ℕ) → window bytes ≡ take 16384 bytes
+unfolding window
+window_is bytes = refl
+
+pub window_fits : (bytes : List ℕ) → (length (window bytes) ≤ 16384) × (length (window bytes) ≤ length bytes)
+window_fits bytes =
+    let size : length (window bytes) ≡ length (take 16384 bytes) = ap length (window_is bytes) in
+    (omega (arith, size, length-take 16384 bytes), omega (arith, size, length-take 16384 bytes))
+
+pub take_past : (n : ℕ) (xs ys : List ℕ) → length xs ≤ n → take n (xs ++ ys) ≡ xs ++ take (n - length xs) ys
+take_past n xs ys past =
+    let e : n ≡ length xs + (n - length xs) = omega arith in
+    ap (λ m. take m (xs ++ ys)) e ∙ take-append-add xs ys (n - length xs)
+
+pub window_cut : (bytes : List ℕ) (d : ℕ) (more : List ℕ) → d ≤ length (window bytes)
+    → window (take d bytes ++ more) ≡ take d (window bytes) ++ take (16384 - d) more
+window_cut bytes d more fits =
+    let bounds = window_fits bytes in
+    let size : length (take d bytes) ≡ d = length-take-le d bytes (omega (arith, bounds.1)) in
+    let same : take d bytes ≡ take d (window bytes) =
+    sym (take-take d 16384 bytes (omega (arith, bounds.0))) ∙ ap (take d) (sym (window_is bytes)) in
+    window_is (take d bytes ++ more) ∙ take_past 16384 (take d bytes) more (omega (arith, size, bounds.0))
+    ∙ ap (λ n. take d bytes ++ take (16384 - n) more) size
+    ∙ ap (λ xs. xs ++ take (16384 - d) more) same
+
+-- what stands at the front, by what stands behind the empty lines
+pub lead_is : (bytes : List ℕ) → lead_length bytes ≡ blank_length (window bytes)
+unfolding lead_length
+lead_is bytes = refl
+
+pub front_return : (bytes : List ℕ) → begins_bare_return (behind_lead bytes) ≡ true → front_of bytes ≡ BareReturn
+unfolding front_of
+front_return bytes bare = rw bare refl
+
+pub front_text : (bytes : List ℕ) (n : ℕ) → begins_bare_return (behind_lead bytes) ≡ false
+    → head_length (behind_lead bytes) ≡ Some n → front_of bytes ≡ Text (take n (behind_lead bytes))
+unfolding front_of
+front_text bytes n other at = rw (other, at) refl
+
+pub front_large : (bytes : List ℕ) → begins_bare_return (behind_lead bytes) ≡ false
+    → head_length (behind_lead bytes) ≡ None → 16384 ≤ length bytes → front_of bytes ≡ TooLarge
+unfolding front_of
+front_large bytes other none full =
+    let yes_full : nat_le 16384 (length bytes) ≡ true = le-leb 16384 (length bytes) full in
+    rw (other, none, yes_full) refl
+
+pub front_open : (bytes : List ℕ) → begins_bare_return (behind_lead bytes) ≡ false
+    → head_length (behind_lead bytes) ≡ None → length bytes < 16384 → front_of bytes ≡ Unfinished
+unfolding front_of
+front_open bytes other none room =
+    let not_full : nat_le 16384 (length bytes) ≡ false = lt-leb 16384 (length bytes) room in
+    rw (other, none, not_full) refl
+
+-- the first bytes, so many, decide what stands at the front
+pub record Settles (bytes : List ℕ) (d : ℕ) (front : Front) : Type 0 where
+  pub all : (more : List ℕ) → front_of (take d bytes ++ more) ≡ front
+  pub leads : (more : List ℕ) → lead_length (take d bytes ++ more) ≡ lead_length bytes
+
+-- what is behind the empty lines, where these and n bytes more were cut
+pub blank_same : (bytes : List ℕ) (n : ℕ) (more : List ℕ) → 2 ≤ n → n ≤ length (behind_lead bytes)
+    → blank_length (window (take (blank_length (window bytes) + n) bytes ++ more)) ≡ blank_length (window bytes)
+blank_same bytes n more two fits =
+    let w = window bytes in
+    let b = blank_length w in
+    let whole : b + n ≤ length w = omega (arith, length-drop b w, two) in
+    ap blank_length (window_cut bytes (b + n) more whole)
+    ∙ blank_cut w b (b + n) (take (16384 - (b + n)) more) refl (omega arith) (omega arith)
+
+pub behind_cut : (bytes : List ℕ) (n : ℕ) (more : List ℕ) → 2 ≤ n → n ≤ length (behind_lead bytes)
+    → behind_lead (take (blank_length (window bytes) + n) bytes ++ more)
+    ≡ take n (behind_lead bytes) ++ take (16384 - (blank_length (window bytes) + n)) more
+behind_cut bytes n more two fits =
+    let w = window bytes in
+    let b = blank_length w in
+    let cut = take (b + n) bytes ++ more in
+    let rest = take (16384 - (b + n)) more in
+    let whole : b + n ≤ length w = omega (arith, length-drop b w, two) in
+    let size : length (take (b + n) w) ≡ b + n = length-take-le (b + n) w whole in
+    ap (λ m. drop m (window cut)) (blank_same bytes n more two fits)
+    ∙ ap (drop b) (window_cut bytes (b + n) more whole)
+    ∙ drop-append-le b (take (b + n) w) rest (omega (arith, size))
+    ∙ ap (λ xs. xs ++ rest) (drop-take b n w)
+
+-- the text of a head decides
+pub settles_text : (bytes : List ℕ) (n : ℕ) → begins_bare_return (behind_lead bytes) ≡ false
+    → head_length (behind_lead bytes) ≡ Some n
+    → Settles bytes (lead_length bytes + n) (Text (take n (behind_lead bytes)))
+unfolding lead_length
+settles_text bytes n other at =
+    let b = blank_length (window bytes) in
+    let behind = behind_lead bytes in
+    let bounds = head_bounds behind n at in
+    let cut : List ℕ → List ℕ = λ more. take (b + n) bytes ++ more in
+    let rest : List ℕ → List ℕ = λ more. take (16384 - (b + n)) more in
+    record {
+      all = λ more.
+          let is : behind_lead (cut more) ≡ take n behind ++ rest more = behind_cut bytes n more bounds.0 bounds.1 in
+          let still : begins_bare_return (behind_lead (cut more)) ≡ false =
+          ap begins_bare_return is ∙ return_front behind n (rest more) bounds.0 (omega (arith, bounds.0, bounds.1)) ∙ other in
+          let ends : head_length (behind_lead (cut more)) ≡ Some n = ap head_length is ∙ head_cut behind n (rest more) at in
+          let text : take n (behind_lead (cut more)) ≡ take n behind =
+          ap (take n) is ∙ take_at (take n behind) (rest more) n (length-take-le n behind bounds.1) in
+          front_text (cut more) n still ends ∙ ap Text text;
+      leads = λ more. blank_same bytes n more bounds.0 bounds.1;
+    }
+
+-- a bare CR and the byte behind it decide
+pub settles_return : (bytes : List ℕ) → begins_bare_return (behind_lead bytes) ≡ true
+    → Settles bytes (lead_length bytes + 2) BareReturn
+unfolding lead_length
+settles_return bytes bare =
+    let b = blank_length (window bytes) in
+    let behind = behind_lead bytes in
+    let fits = return_two behind bare in
+    let two : 2 ≤ 2 = lit≤ tt in
+    record {
+      all = λ more.
+          let is = behind_cut bytes 2 more two fits in
+          front_return (take (b + 2) bytes ++ more)
+          (ap begins_bare_return is ∙ return_front behind 2 (take (16384 - (b + 2)) more) two fits ∙ bare);
+      leads = λ more. blank_same bytes 2 more two fits;
+    }
+
+-- a full window decides
+pub settles_large : (bytes : List ℕ) → begins_bare_return (behind_lead bytes) ≡ false
+    → head_length (behind_lead bytes) ≡ None → 16384 ≤ length bytes → Settles bytes 16384 TooLarge
+unfolding lead_length
+settles_large bytes other none full =
+    let same : (more : List ℕ) → window (take 16384 bytes ++ more) ≡ window bytes = λ more.
+    window_is (take 16384 bytes ++ more)
+    ∙ take_at (take 16384 bytes) more 16384 (length-take-le 16384 bytes full) ∙ sym (window_is bytes) in
+    let behind : (more : List ℕ) → behind_lead (take 16384 bytes ++ more) ≡ behind_lead bytes = λ more.
+    ap (λ xs. drop (blank_length xs) xs) (same more) in
+    record {
+      all = λ more. front_large (take 16384 bytes ++ more) (ap begins_bare_return (behind more) ∙ other)
+          (ap head_length (behind more) ∙ none)
+          (omega (arith, length-append (take 16384 bytes) more, length-take-le 16384 bytes full));
+      leads = λ more. ap blank_length (same more);
+    }
+
+-- what decides the first bytes decides all, and more, and others of them
+pub settles_grow : (bytes : List ℕ) (d : ℕ) (front : Front) (more : List ℕ) → Settles bytes d front
+    → (front_of (bytes ++ more) ≡ front) × (lead_length (bytes ++ more) ≡ lead_length bytes)
+settles_grow bytes d front more settles =
+    let whole : take d bytes ++ (drop d bytes ++ more) ≡ bytes ++ more =
+    sym (append_assoc (take d bytes) (drop d bytes) more) ∙ ap (λ xs. xs ++ more) (take-append-drop d bytes) in (
+      ap front_of (sym whole) ∙ settles.all (drop d bytes ++ more),
+      ap lead_length (sym whole) ∙ settles.leads (drop d bytes ++ more),
+    )
+
+pub settles_take : (bytes : List ℕ) (d n : ℕ) (front : Front) → d ≤ n → Settles bytes d front
+    → (front_of (take n bytes) ≡ front) × (lead_length (take n bytes) ≡ lead_length bytes)
+settles_take bytes d n front below settles =
+    let whole : take d bytes ++ drop d (take n bytes) ≡ take n bytes =
+    ap (λ xs. xs ++ drop d (take n bytes)) (sym (take-take d n bytes below)) ∙ take-append-drop d (take n bytes) in (
+      ap front_of (sym whole) ∙ settles.all (drop d (take n bytes)),
+      ap lead_length (sym whole) ∙ settles.leads (drop d (take n bytes)),
+    )
+
+-- what stands behind the empty lines, as one of three
+pub data Reading (bytes : List ℕ) : Type 0 where
+  bare : begins_bare_return (behind_lead bytes) ≡ true → Reading bytes
+  complete : (n : ℕ) → begins_bare_return (behind_lead bytes) ≡ false
+      → head_length (behind_lead bytes) ≡ Some n → Reading bytes
+  incomplete : begins_bare_return (behind_lead bytes) ≡ false
+      → head_length (behind_lead bytes) ≡ None → Reading bytes
+
+pub reading_by : (bytes : List ℕ) (o : Option ℕ) → begins_bare_return (behind_lead bytes) ≡ false
+    → head_length (behind_lead bytes) ≡ o → Reading bytes
+reading_by bytes None other is = incomplete other is
+reading_by bytes (Some n) other is = complete n other is
+
+pub reading : (bytes : List ℕ) → Reading bytes
+reading bytes =
+    elim (cases_Bool (begins_bare_return (behind_lead bytes))) [
+      | inl yes_bare ↦ bare yes_bare
+      | inr other ↦ reading_by bytes (head_length (behind_lead bytes)) other refl
+    ]
+
+-- a part of the window is that part of all the bytes
+pub part_of_window : (bytes : List ℕ) (b n : ℕ) → b + n ≤ 16384
+    → take n (drop b (window bytes)) ≡ take n (drop b bytes)
+part_of_window bytes b n fits =
+    ap (λ xs. take n (drop b xs)) (window_is bytes)
+    ∙ sym (drop-take b n (take 16384 bytes)) ∙ ap (drop b) (take-take (b + n) 16384 bytes fits)
+    ∙ drop-take b n bytes
+
+-- a front that is known is decided by the first bytes
+pub record SettlesText (bytes text : List ℕ) : Type 0 where
+  pub settles : Settles bytes (lead_length bytes + length text) (Text text)
+  pub is : text ≡ take (length text) (drop (lead_length bytes) bytes)
+  pub some : 2 ≤ length text
+  pub within : lead_length bytes + length text ≤ length bytes
+  pub limit : lead_length bytes + length text ≤ 16384
+
+pub text_settles : (bytes : List ℕ) (n : ℕ) → begins_bare_return (behind_lead bytes) ≡ false
+    → head_length (behind_lead bytes) ≡ Some n → SettlesText bytes (take n (behind_lead bytes))
+unfolding lead_length
+text_settles bytes n other at =
+    let w = window bytes in
+    let b = blank_length w in
+    let behind = behind_lead bytes in
+    let bounds = head_bounds behind n at in
+    let size : length (take n behind) ≡ n = length-take-le n behind bounds.1 in
+    let fits = window_fits bytes in
+    let whole : b + n ≤ length w = omega (arith, bounds.0, bounds.1, length-drop b w) in
+    let limit : b + n ≤ 16384 = omega (arith, whole, fits.0) in
+    record {
+      settles = rw size (settles_text bytes n other at);
+      is = part_of_window bytes b n limit ∙ ap (λ m. take m (drop b bytes)) (sym size);
+      some = rw size bounds.0;
+      within = rw size (omega (arith, whole, fits.1));
+      limit = rw size limit;
+    }
+
+pub settled_text : (bytes text : List ℕ) → front_of bytes ≡ Text text → SettlesText bytes text
+settled_text bytes text front =
+    elim (reading bytes) [
+      | bare is ↦ let clash : BareReturn ≡ Text text = sym (front_return bytes is) ∙ front in absurd (cc)
+      | complete n other at ↦
+          let same : Text (take n (behind_lead bytes)) ≡ Text text = sym (front_text bytes n other at) ∙ front in
+          let P : List ℕ → Type 0 = λ t. SettlesText bytes t in
+          let e : take n (behind_lead bytes) ≡ text = cc in
+          subst P e (text_settles bytes n other at)
+      | incomplete other none ↦
+          elim (cases_lt (length bytes) 16384) [
+            | inl room ↦ let clash : Unfinished ≡ Text text = sym (front_open bytes other none room) ∙ front in absurd (cc)
+            | inr full ↦ let clash : TooLarge ≡ Text text = sym (front_large bytes other none full) ∙ front in absurd (cc)
+          ]
+    ]
+
+pub settled_return : (bytes : List ℕ) → front_of bytes ≡ BareReturn → Settles bytes (lead_length bytes + 2) BareReturn
+settled_return bytes front =
+    elim (reading bytes) [
+      | bare is ↦ settles_return bytes is
+      | complete n other at ↦
+          let clash : Text (take n (behind_lead bytes)) ≡ BareReturn = sym (front_text bytes n other at) ∙ front in absurd (cc)
+      | incomplete other none ↦
+          elim (cases_lt (length bytes) 16384) [
+            | inl room ↦ let clash : Unfinished ≡ BareReturn = sym (front_open bytes other none room) ∙ front in absurd (cc)
+            | inr full ↦ let clash : TooLarge ≡ BareReturn = sym (front_large bytes other none full) ∙ front in absurd (cc)
+          ]
+    ]
+
+pub settled_large : (bytes : List ℕ) → front_of bytes ≡ TooLarge → Settles bytes 16384 TooLarge
+settled_large bytes front =
+    elim (reading bytes) [
+      | bare is ↦ let clash : BareReturn ≡ TooLarge = sym (front_return bytes is) ∙ front in absurd (cc)
+      | complete n other at ↦
+          let clash : Text (take n (behind_lead bytes)) ≡ TooLarge = sym (front_text bytes n other at) ∙ front in absurd (cc)
+      | incomplete other none ↦
+          elim (cases_lt (length bytes) 16384) [
+            | inl room ↦ let clash : Unfinished ≡ TooLarge = sym (front_open bytes other none room) ∙ front in absurd (cc)
+            | inr full ↦ settles_large bytes other none full
+          ]
+    ]

@@ -1,0 +1,26 @@
+-- Which texts are the head of a request.
+use Rattle.std.specs.Prelude.{◌≤◌, ℕ, List, [], length}
+use Rattle.httparse.specs.Grammar.{RequestHead, ReadsRequest}
+use Rattle.httparse.specs.Spans.{IsRequestWithin, IsRequestAt}
+use Rattle.httparse.specs.declared.spans.HeaderSpan.{HeaderSpan}
+use Rattle.httparse.specs.declared.spans.RequestSpans.{RequestSpans}
+
+-- there is room for so many fields: a field has three bytes at least
+abbrev pub field_room : ℕ
+field_room = 5462
+
+-- the whole text is this head, whose fields have room
+pub record IsHead (text : List ℕ) (head : RequestHead) : Type 0 where
+  pub reads : ReadsRequest text head []
+  pub room : length head.fields ≤ field_room
+
+-- the whole text is no head
+pub record IsNoHead (text : List ℕ) : Type 0 where
+  pub none : (head : RequestHead) → ¬ (IsHead text head)
+
+-- the spans say where the parts of this head are in the text
+pub record IsHeadAt
+    (text : List ℕ) (spans : List HeaderSpan) (parts : RequestSpans) (head : RequestHead) : Type 0 where
+  pub is : IsHead text head
+  pub within : IsRequestWithin text spans parts
+  pub at : IsRequestAt text spans parts head

@@ -1,0 +1,17 @@
+pub mod Built
+pub mod Fields
+pub mod Found
+pub mod Head
+pub mod Input
+pub mod Item
+pub mod Laws
+pub mod Named
+pub mod Parts
+pub mod Placed
+pub mod Scan
+pub mod Shape
+pub mod Split
+pub mod Text
+pub use Rattle.httparse.specs.Spans
+pub use Rattle.q_base.specs.Name
+pub use Rattle.q_outside.specs.Told

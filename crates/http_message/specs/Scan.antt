@@ -1,0 +1,57 @@
+-- What a search for the end of a head knows, whatever bytes follow.
+use Rattle.std.specs.Prelude.{◌≡◌, ℕ, ◌+◌, ◌<◌, ◌≤◌, true, false, List, [], ◌∷◌, ◌++◌, length, drop, slice_index, Some, None, option_map, ◌⊎◌}
+use Rattle.httparse.specs.Ascii.{line_feed, carriage_return}
+use Rattle.http_message.specs.Text.{empty_line, blank_length, head_length, begins_bare_return}
+use Rattle.http_message.specs.declared.scan.Scan.{Scan}
+use Rattle.http_message.specs.declared.scan.End.{End}
+use Rattle.http_message.specs.declared.scan.End.TheVariants.{At, Behind}
+use Rattle.http_message.specs.declared.scan.Look.{Look}
+use Rattle.http_message.specs.declared.scan.Look.TheVariants.{BareReturn, Text, Unfinished}
+
+-- the empty line at the front has this length, whatever follows
+pub record IsLine (rest : List ℕ) (size : ℕ) : Type 0 where
+  pub all : (more : List ℕ) → empty_line (rest ++ more) ≡ size
+  pub fits : size ≤ length rest
+
+-- the next byte decides whether the bytes begin with an empty line
+pub record IsCut (rest : List ℕ) : Type 0 where
+  pub cut : (rest ≡ []) ⊎ (rest ≡ carriage_return ∷ [])
+
+-- the first bytes, so many, are empty lines, whatever follows
+pub record Skips (bytes : List ℕ) (size : ℕ) : Type 0 where
+  pub all : (more : List ℕ)
+      → blank_length (bytes ++ more) ≡ size + blank_length (drop size bytes ++ more)
+  pub fits : size ≤ length bytes
+
+-- no head ends by a line feed among the first bytes, so many, whatever follows
+pub record Passes (bytes : List ℕ) (size : ℕ) : Type 0 where
+  pub all : (more : List ℕ)
+      → head_length (bytes ++ more) ≡ option_map (λ n. size + n) (head_length (drop size bytes ++ more))
+  pub fits : size ≤ length bytes
+
+-- what is known of the bytes that were looked at
+pub record IsScanned (bytes : List ℕ) (scan : Scan) : Type 0 where
+  pub skips : Skips bytes scan.blank
+  pub passes : Passes (drop scan.blank bytes) scan.passed
+
+-- the first line feed behind those that were passed
+pub record IsFeed (bytes : List ℕ) (feed : ℕ) : Type 0 where
+  pub passes : Passes bytes feed
+  pub below : feed < length bytes
+  pub is : slice_index bytes feed ≡ line_feed
+
+-- where a head ends, or that it does not yet
+abbrev pub IsEnd : List ℕ → End → Type 0
+IsEnd bytes (At size) = head_length bytes ≡ Some size
+IsEnd bytes (Behind passed) = (head_length bytes ≡ None) × Passes bytes passed
+
+-- what a look at the bytes of a window shows
+abbrev pub IsLook : List ℕ → Look → Type 0
+IsLook bytes (BareReturn lead) =
+    (lead ≡ blank_length bytes) × (begins_bare_return (drop lead bytes) ≡ true)
+IsLook bytes (Text lead size) =
+    (lead ≡ blank_length bytes) × (begins_bare_return (drop lead bytes) ≡ false)
+    × (head_length (drop lead bytes) ≡ Some size)
+IsLook bytes (Unfinished scan) =
+    (scan.blank ≡ blank_length bytes) × (begins_bare_return (drop scan.blank bytes) ≡ false)
+    × (head_length (drop scan.blank bytes) ≡ None) × IsScanned bytes scan

@@ -1,0 +1,176 @@
+//! The bytes that were taken from a source and are not used yet.
+ghost use Rattle.std.specs.Prelude.{◌≡◌, ℕ, ◌+◌, ◌-◌, ◌<◌, ◌≤◌, List, [], length, take, drop, slice_range, vec_len, IfOk, OnErr};
+ghost use Rattle.httparse.specs.Spans.{span_bytes};
+ghost use Rattle.q_outside.specs.Told.{Takes, IsEnded, Counts};
+ghost use Rattle.http_message.specs.Input.{Grows, IsFilled, IsReached, room_size};
+
+use httparse::spans::Span;
+use q_base::Memory;
+use q_outside::{Failed, Source};
+use std::alloc::Global;
+use std::marker::Model;
+
+/// The bytes of the longest head and of the longest body.
+pub const ROOM_SIZE: usize = 81_920;
+
+/// Bytes in a buffer of a fixed size. Contracts see them as a list.
+#[derive(Drop)]
+pub struct Input {
+    buffer: Vec<u8>,
+    start: usize,
+    end: usize,
+}
+
+impl Model for Input {
+    ghost use Rattle.std.specs.Prelude.{ℕ, List, slice_range};
+    ghost use Rattle.http_message.specs.Placed.{IsPlaced};
+
+    ghost Value = { List ℕ };
+
+    ghost view = { λ i. slice_range i.buffer.items i.start i.end };
+
+    ghost invariant = { λ i. IsPlaced i.buffer.items i.start i.end };
+}
+
+/// How more bytes came.
+#[derive(Clone, Copy, Debug, PartialEq, Eq)]
+pub enum Filled {
+    /// Some did.
+    More,
+    /// The source had ended.
+    Ended,
+    /// The source failed.
+    Failed,
+}
+
+/// Whether so many bytes are held.
+#[derive(Clone, Copy, Debug, PartialEq, Eq)]
+pub enum Reached {
+    /// They are.
+    Whole,
+    /// The source had ended.
+    Ended,
+    /// The source failed.
+    Failed,
+}
+
+impl Input {
+    /// No bytes, and the room for them.
+    pub fn new(alloc: Global) -> Result<Input, Memory>
+        ensures { IfOk result (λ input. input ≡ []) }
+    {
+        let buffer = vec![in alloc; 0; ROOM_SIZE]?;
+        Ok(Input {
+            buffer,
+            start: 0,
+            end: 0,
+        })
+    }
+
+    /// The bytes.
+    pub fn bytes(&self) -> &[u8]
+        ensures { result.now ≡ self.now }
+    {
+        &self.buffer[self.start..self.end]
+    }
+
+    /// How many there are.
+    pub fn len(&self) -> usize
+        ensures { result ≡ length self.now }
+    {
+        self.end - self.start
+    }
+
+    /// Drops all of them.
+    pub fn clear(&mut self)
+        ensures { self.new ≡ [] }
+    {
+        self.start = 0;
+        self.end = 0;
+    }
+
+    /// Drops the first of them. None is moved.
+    pub fn skip(&mut self, count: usize)
+        requires { count ≤ length self.old }
+        ensures { self.new ≡ drop count self.old }
+    {
+        if self.start + count == self.end {
+            self.start = 0;
+            self.end = 0;
+        } else {
+            self.start += count;
+        }
+    }
+
+    /// Takes more bytes behind these. They are moved to the front where the room behind them is used
+    /// up.
+    pub fn fill<S: Source>(&mut self, source: &mut S) -> Filled
+        requires { length self.old < room_size }
+        ensures grows { Grows (S.left source.old) (S.left source.new) self.old self.new }
+        ensures filled { IsFilled (IsEnded (S.left source.new)) (S.faults source.old < S.faults source.new) self.old self.new result }
+        ensures count { S.faults source.old ≤ S.faults source.new }
+    {
+        let place = make_room(&mut self.buffer, self.start, self.end);
+        self.start = place.start;
+        self.end = place.end;
+        match take_behind(source, &mut self.buffer, place.end) {
+            Ok(0) => Filled::Ended,
+            Ok(count) => {
+                self.end = place.end + count;
+                Filled::More
+            }
+            Err(Failed) => Filled::Failed,
+        }
+    }
+
+    /// Takes more bytes until so many are held.
+    pub fn fill_to<S: Source>(&mut self, source: &mut S, size: usize) -> Reached
+        requires { size ≤ room_size }
+        ensures grows { Grows (S.left source.old) (S.left source.new) self.old self.new }
+        ensures reached { IsReached (IsEnded (S.left source.new)) (S.faults source.old < S.faults source.new) size self.new result }
+        ensures count { S.faults source.old ≤ S.faults source.new }
+    {
+        while self.len() < size {
+            match self.fill(source) {
+                Filled::More => {}
+                Filled::Ended => return Reached::Ended,
+                Filled::Failed => return Reached::Failed,
+            }
+        }
+        Reached::Whole
+    }
+}
+
+/// Where the bytes stand once there is room behind them: they are moved to the front if need be.
+fn make_room(buffer: &mut Vec<u8>, start: usize, end: usize) -> Span
+    requires ordered { start ≤ end }
+    requires within { end ≤ vec_len buffer.old }
+    requires some { end - start < vec_len buffer.old }
+    ensures same { span_bytes buffer.new.items result ≡ slice_range buffer.old.items start end }
+    ensures ordered { result.start ≤ result.end }
+    ensures room { result.end < vec_len buffer.new }
+    ensures len { vec_len buffer.new ≡ vec_len buffer.old }
+{
+    if end < buffer.len() {
+        return Span { start, end };
+    }
+    buffer.copy_within(start..end, 0);
+    Span {
+        start: 0,
+        end: end - start,
+    }
+}
+
+/// Takes bytes behind the first ones, so many, and answers how many came.
+fn take_behind<S: Source>(source: &mut S, buffer: &mut Vec<u8>, end: usize) -> Result<usize, Failed>
+    requires { end < vec_len buffer.old }
+    ensures kept { take end buffer.new.items ≡ take end buffer.old.items }
+    ensures len { vec_len buffer.new ≡ vec_len buffer.old }
+    ensures within { IfOk result (λ n. end + n ≤ vec_len buffer.new) }
+    ensures taken { IfOk result (λ n. Takes (S.left source.old) (S.left source.new) (slice_range buffer.new.items end (end + n))) }
+    ensures end { IfOk result (λ n. n ≡ 0 → IsEnded (S.left source.new)) }
+    ensures failed { OnErr result (Takes (S.left source.old) (S.left source.new) []) }
+    ensures count { Counts (S.faults source.old) (S.faults source.new) result }
+{
+    source.take(&mut buffer[end..])
+}
