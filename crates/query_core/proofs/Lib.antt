@@ -1,0 +1,6 @@
+pub mod CandidateLemmas
+pub mod FilterLemmas
+pub mod Rising
+pub mod RowOrder
+mod StandardFacts
+pub mod WindowLemmas

@@ -1,0 +1,11 @@
+pub mod Candidates
+pub mod Code
+pub mod Filters
+pub mod Limits
+pub mod Meaning
+pub mod Print
+pub mod Same
+pub mod SameLaws
+pub mod Shape
+pub mod ShapeFalls
+pub mod Window

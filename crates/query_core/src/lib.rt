@@ -1,0 +1,24 @@
+//! Queries: filters and their meaning, orders of rows, windows, and the printed text of a query.
+#![tactic(auto)]
+
+mod compare;
+mod copies;
+mod equality;
+mod filter;
+pub mod laws;
+mod meaning;
+mod print;
+mod query;
+mod rows;
+#[cfg(test)]
+mod tests;
+mod windows;
+mod words;
+
+pub use compare::compare_rows;
+pub use filter::{Filter, Form, Op};
+pub use meaning::satisfies;
+pub use print::print_query;
+pub use query::{Kind, Order, Query, Verdict};
+pub use rows::{Docs, Row, Rows};
+pub use windows::window;
