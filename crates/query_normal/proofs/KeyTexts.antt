@@ -1,0 +1,57 @@
+-- The text of a key tells the key.
+use Rattle.std.proofs.Common.{◌≡◌, ℕ, ◌≤◌, true, not, List, [], ◌∷◌, ◌++◌, length, Some, None, cond, nat_lt, inl, inr, refl, sym, ap₂, append_assoc, ◌∙◌, arith, subst}
+use Rattle.std.specs.List.{position_or_len}
+use Rattle.std.proofs.lemmas.Bool.{cases_Bool, ltb-false}
+use Rattle.q_base.specs.Name.{IsName, is_name_byte}
+use Rattle.query_normal.specs.declared.key.KeyShape.{KeyShape}
+use Rattle.query_normal.specs.declared.key.KeyShape.TheVariants.{Record}
+use Rattle.query_normal.specs.Keys.{key_text, IsKey}
+
+-- no byte is a slash
+abbrev pub NoSlash : List ℕ → Type 0
+NoSlash [] = Unit {0}
+NoSlash (x ∷ xs) = (x ≡ 47 → ⊥) × NoSlash xs
+
+-- a byte of names is no slash
+pub byte_no_slash : (x : ℕ) → is_name_byte x ≡ true → x ≡ 47 → ⊥
+byte_no_slash x h e = let slash : is_name_byte 47 ≡ true = subst (λ (b : ℕ). is_name_byte b ≡ true) e h in cc
+
+-- where the first place is past the end, it is at the length
+pub first_none : (place len : ℕ) → cond (nat_lt place len) (Some place) None ≡ None → len ≤ place
+first_none place len h =
+    elim (cases_Bool (nat_lt place len)) [
+      | inl before ↦ absurd (let some : Some place ≡ None = sym (rw before) ∙ h in cc)
+      | inr past ↦ ltb-false place len past
+    ]
+
+-- where no byte is bad, none is a slash
+pub no_slash_from : (xs : List ℕ) → length xs ≤ position_or_len (λ byte. not (is_name_byte byte)) xs → NoSlash xs
+no_slash_from [] h = tt
+no_slash_from (x ∷ xs) h =
+    elim (cases_Bool (is_name_byte x)) [
+      | inl good ↦ (byte_no_slash x good, no_slash_from xs (let more = rw good at h in omega arith))
+      | inr bad ↦ absurd (let none = rw bad at h in omega arith)
+    ]
+
+pub no_slash : (xs : List ℕ) → IsName xs → NoSlash xs
+no_slash xs name = no_slash_from xs (first_none _ _ name.good)
+
+-- a text without a slash is parted from what follows at the first slash in one way
+pub parts_unique : (a b c d : List ℕ) → NoSlash a → NoSlash b → a ++ 47 ∷ c ≡ b ++ 47 ∷ d → (a ≡ b) × (c ≡ d)
+parts_unique [] [] c d p q e = (refl, let h : c ≡ d = cc in h)
+parts_unique [] (y ∷ ys) c d p q e = absurd (q.0 (let h : y ≡ 47 = cc in h))
+parts_unique (x ∷ xs) [] c d p q e = absurd (p.0 (let h : x ≡ 47 = cc in h))
+parts_unique (x ∷ xs) (y ∷ ys) c d p q e =
+    let tails : xs ++ 47 ∷ c ≡ ys ++ 47 ∷ d = cc in
+    let rest : (xs ≡ ys) × (c ≡ d) = parts_unique xs ys c d p.1 q.1 tails in
+    let head : x ≡ y = cc in
+    ((let h : x ∷ xs ≡ y ∷ ys = cc (head, rest.0) in h), rest.1)
+
+-- keys of one text are one key
+pub key_text-injective : (a b : KeyShape) → IsKey a → IsKey b → key_text a ≡ key_text b → a ≡ b
+unfolding key_text
+key_text-injective (Record c i) (Record d j) p q e =
+    let tails : (c ++ 47 ∷ []) ++ i ≡ (d ++ 47 ∷ []) ++ j = cc in
+    let cut : c ++ 47 ∷ i ≡ d ++ 47 ∷ j = sym (append_assoc c (47 ∷ []) i) ∙ tails ∙ append_assoc d (47 ∷ []) j in
+    let parts = parts_unique c d i j (no_slash c p.0) (no_slash d q.0) cut in
+    ap₂ Record parts.0 parts.1

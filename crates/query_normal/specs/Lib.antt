@@ -1,0 +1,6 @@
+pub mod Bits
+pub mod Keys
+pub mod Pages
+pub mod SameKey
+pub use Rattle.q_base.specs.Name
+pub use Rattle.q_base.specs.Positions

@@ -1,0 +1,27 @@
+-- What a page is, and whether it holds a key.
+use Rattle.std.specs.Prelude.{ℕ, Bool, false, List, get_or}
+use Rattle.std.specs.List.{list_all}
+use Rattle.q_base.specs.Positions.{positions_of}
+use Rattle.query_normal.specs.declared.key.KeyShape.{KeyShape}
+use Rattle.query_normal.specs.Keys.{key_text}
+
+-- the front up to which commits were matched, the number of commits, the clock, and 2 ^ log2_bits bits
+pub record Page : Type 0 where
+  pub log2_bits : ℕ
+  pub hashes : ℕ
+  pub front : ℕ
+  pub commits : ℕ
+  pub moment : ℕ
+  pub bits : List Bool
+
+-- the positions of a key
+abbrev pub positions : KeyShape → ℕ → ℕ → List ℕ
+positions key log2_bits hashes = positions_of (key_text key) log2_bits hashes
+
+-- whether bit j is set
+abbrev pub is_set : Page → ℕ → Bool
+is_set page j = get_or page.bits j false
+
+-- whether all bits of the key are set
+abbrev pub page_holds : Page → KeyShape → Bool
+page_holds page key = list_all (is_set page) (positions key page.log2_bits page.hashes)

@@ -1,0 +1,170 @@
+//! Keys and their texts.
+ghost use Rattle.std.specs.Prelude.{◌≡◌, IfOk};
+ghost use Rattle.std.specs.Cmp.{partial_equiv_from_equiv};
+ghost use Rattle.query_normal.specs.Keys.{key_text};
+
+use q_base::{Memory, Name};
+use std::alloc::{AllocError, Global};
+use std::hash::{Hash, Hasher};
+use std::marker::Model;
+
+/// What a key stands for.
+#[derive(Debug, Drop)]
+pub enum KeyShape {
+    /// One record of a collection.
+    Record {
+        /// The collection.
+        collection: Name,
+        /// The record's id in it.
+        id: Name,
+    },
+}
+
+/// A key, which keeps its text. Contracts see its shape: keys are compared by value, and hashed by
+/// their text.
+#[derive(Debug, Drop)]
+pub struct Key {
+    shape: KeyShape,
+    text: Vec<u8>,
+}
+
+impl Model for Key {
+    ghost use Rattle.query_normal.specs.declared.key.KeyShape.{KeyShape};
+
+    ghost Value = { KeyShape };
+
+    ghost use Rattle.query_normal.specs.Keys.{key_text, IsKey};
+    ghost use Rattle.std.specs.Prelude.{◌≡◌};
+
+    ghost view = { λ k. k.shape };
+
+    ghost invariant = { λ k. record { text : k.text.items ≡ key_text k.shape; valid : IsKey k.shape } };
+}
+
+impl Key {
+    ghost use Rattle.query_normal.specs.Keys.{key_text, IsKey};
+
+    /// The key of a record.
+    pub fn record(alloc: Global, collection: Name, id: Name) -> Result<Key, Memory>
+        ensures { IfOk result (λ key. key ≡ KeyShape.Record collection id) }
+    {
+        let text = record_text(alloc, &collection, &id)?;
+        Ok(Key {
+            shape: KeyShape::Record { collection, id },
+            text,
+        })
+    }
+
+    /// The key's text.
+    pub fn text(&self) -> &[u8]
+        ensures text { result.now ≡ key_text self.now }
+        ensures valid { IsKey self.now }
+    {
+        self.text.as_slice()
+    }
+
+    /// What the key stands for.
+    pub fn shape(&self) -> &KeyShape
+        ensures { result.now ≡ self.now }
+    {
+        &self.shape
+    }
+}
+
+/// The text of a record's key: `r/COLLECTION/ID`.
+fn record_text(alloc: Global, collection: &Name, id: &Name) -> Result<Vec<u8>, Memory>
+    ensures { IfOk result (λ text. text.items ≡ key_text (KeyShape.Record collection.now id.now)) }
+{
+    let collection = collection.as_slice();
+    let id = id.as_slice();
+    let mut text = Vec::with_capacity(alloc, collection.len() + id.len() + 3)?;
+    text.extend_from_slice(b"r/")?;
+    text.extend_from_slice(collection)?;
+    text.extend_from_slice(b"/")?;
+    text.extend_from_slice(id)?;
+    Ok(text)
+}
+
+impl Clone for KeyShape {
+    ghost is_clone = { λ s t. s ≡ t };
+
+    fn clone(&self) -> Result<KeyShape, AllocError> {
+        match self {
+            KeyShape::Record { collection, id } => Ok(KeyShape::Record {
+                collection: collection.clone()?,
+                id: id.clone()?,
+            }),
+        }
+    }
+}
+
+impl PartialEq for KeyShape {
+    ghost use Rattle.query_normal.specs.Keys.{same_key};
+    ghost use Rattle.query_normal.specs.SameKey.{same_key_equiv};
+
+    ghost eq = { same_key };
+
+    ghost laws = { partial_equiv_from_equiv same_key_equiv };
+
+    fn eq(&self, other: &KeyShape) -> bool {
+        match (self, other) {
+            (
+                KeyShape::Record { collection, id },
+                KeyShape::Record {
+                    collection: other_collection,
+                    id: other_id,
+                },
+            ) => collection == other_collection && id == other_id,
+        }
+    }
+}
+
+impl Eq for KeyShape {
+    ghost use Rattle.query_normal.specs.SameKey.{same_key_equiv};
+
+    ghost laws = { same_key_equiv };
+}
+
+impl Clone for Key {
+    ghost is_clone = { λ s t. s ≡ t };
+
+    fn clone(&self) -> Result<Key, AllocError> {
+        Ok(Key {
+            shape: self.shape.clone()?,
+            text: self.text.clone()?,
+        })
+    }
+}
+
+impl PartialEq for Key {
+    ghost use Rattle.query_normal.specs.Keys.{same_key};
+    ghost use Rattle.query_normal.specs.SameKey.{same_key_equiv};
+
+    ghost eq = { same_key };
+
+    ghost laws = { partial_equiv_from_equiv same_key_equiv };
+
+    fn eq(&self, other: &Key) -> bool {
+        self.shape == other.shape
+    }
+}
+
+impl Eq for Key {
+    ghost use Rattle.query_normal.specs.SameKey.{same_key_equiv};
+
+    ghost laws = { same_key_equiv };
+}
+
+impl Hash for Key {
+    ghost use Rattle.std.specs.Hash as fed;
+    ghost use Rattle.query_normal.specs.Keys.{key_text};
+    ghost use Rattle.query_normal.specs.SameKey.{same_text};
+
+    ghost hash_input = { λ k. fed.slice fed.u8 (key_text k) };
+
+    ghost respects_eq = { same_text };
+
+    fn hash<H: Hasher>(&self, state: &mut H) {
+        self.text.as_slice().hash(state);
+    }
+}

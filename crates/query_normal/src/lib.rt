@@ -1,0 +1,12 @@
+//! Keys, which name what a client may read and keep, and the page that says which copies are outdated.
+#![tactic(auto)]
+
+pub mod bits;
+mod key;
+mod laws;
+
+pub use key::{Key, KeyShape};
+pub use laws::{keys_are_equal_where_their_texts_are, same_key_is_equality};
+
+#[cfg(test)]
+mod tests;
