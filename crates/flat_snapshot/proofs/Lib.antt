@@ -1,0 +1,5 @@
+pub mod ByteLemmas
+pub mod ReadLemmas
+pub mod SpellingLemmas
+pub mod StandardFacts
+pub mod WriteLemmas

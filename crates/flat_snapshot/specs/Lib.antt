@@ -1,0 +1,5 @@
+pub mod PageText
+pub mod Reading
+pub use Rattle.query_normal.specs.Bits
+pub use Rattle.query_normal.specs.Keys
+pub use Rattle.query_normal.specs.Pages

@@ -1,0 +1,15 @@
+//! Pages: which copies are outdated, as a flat text of bytes.
+#![tactic(auto)]
+
+mod laws;
+mod page;
+mod read;
+mod write;
+
+pub use laws::pages_have_one_spelling;
+pub use page::Page;
+pub use read::PageRefusal;
+pub use write::{set_bit, write_head, write_page};
+
+#[cfg(test)]
+mod tests;

@@ -1,0 +1,94 @@
+//! The parts of a page's text, as they are read.
+ghost use Rattle.std.specs.Prelude.{◌≡◌, ◌+◌, ◌≤◌, length, take, bytes_eq, codes};
+ghost use Rattle.flat_snapshot.specs.Reading.{word_at, first_bad_field};
+
+use q_base::Moment;
+use std::error::Error;
+use std::fmt;
+
+/// The number of bytes before the bits.
+pub const HEAD_BYTES: usize = 30;
+
+/// Why bytes are no page. The first that holds, in this order, is the answer: fewer bytes than a
+/// head has, the mark, a field by its place, the number of bytes.
+#[derive(Clone, Copy, Debug, PartialEq, Eq)]
+pub enum PageRefusal {
+    /// There are not so many bytes as there must be.
+    BadSize {
+        /// How many there must be.
+        want: usize,
+        /// How many there are.
+        found: usize,
+    },
+    /// The first four bytes are not `QSF1`.
+    BadMark,
+    /// A field is outside its limits.
+    BadField {
+        /// The offset of its first byte.
+        place: usize,
+    },
+    /// There was no memory for the page.
+    Memory,
+}
+
+impl fmt::Display for PageRefusal {
+    fn fmt<W: fmt::Write>(&self, f: &mut fmt::Formatter<W>) -> fmt::Result {
+        match self {
+            PageRefusal::BadSize { want, found } => {
+                write!(f, "a page of {want} bytes is wanted, and there are {found}")
+            }
+            PageRefusal::BadMark => write!(f, "a page begins with QSF1"),
+            PageRefusal::BadField { place } => {
+                write!(
+                    f,
+                    "the field of a page at byte {place} is outside its limits"
+                )
+            }
+            PageRefusal::Memory => write!(f, "out of memory"),
+        }
+    }
+}
+
+impl Error for PageRefusal {}
+
+/// Whether the bytes begin with `QSF1`.
+pub fn has_mark(bytes: &[u8]) -> bool
+    requires { 4 ≤ length bytes.now }
+    ensures { result ≡ bytes_eq (take 4 bytes.now) (codes "QSF1") }
+{
+    &bytes[..4] == b"QSF1".as_slice()
+}
+
+/// Eight bytes as a number, the high byte first.
+pub fn word_at(bytes: &[u8], place: usize) -> u64
+    requires { place + 8 ≤ length bytes.now }
+    ensures { result ≡ word_at bytes.now place }
+{
+    match <[u8; 8]>::try_from(&bytes[place..place + 8]) {
+        Ok(word) => u64::from_be_bytes(word),
+        Err(_) => unreachable!(),
+    }
+}
+
+/// The offset of the first field outside its limits.
+pub fn first_bad_field(
+    log2_bits: u8,
+    hashes: u8,
+    front: u64,
+    commits: u64,
+    seconds: u64,
+) -> Option<usize>
+    ensures { result ≡ first_bad_field log2_bits hashes front commits seconds }
+{
+    if !(1..=16).contains(&hashes) {
+        Some(4)
+    } else if !(10..=22).contains(&log2_bits) {
+        Some(5)
+    } else if commits < front {
+        Some(6)
+    } else if Moment::of(seconds).seconds() < seconds {
+        Some(22)
+    } else {
+        None
+    }
+}
