@@ -1,0 +1,4 @@
+pub mod CountLemmas
+pub mod FilterLemmas
+pub mod HeldLemmas
+pub mod PutLemmas

@@ -1,0 +1,48 @@
+-- What a filter holds: keys, each with the second at which it leaves.
+use Rattle.std.specs.Prelude.{◌≡◌, ℕ, ◌^◌, Bool, true, false, nat_lt, List, [], ◌++◌, map, All}
+use Rattle.std.specs.List.{list_any, range_with_len}
+use Rattle.std.specs.List.Sorted.{IsPermutation}
+use Rattle.query_normal.specs.declared.key.KeyShape.{KeyShape}
+use Rattle.query_normal.specs.Keys.{same_key}
+use Rattle.expiring_filter.specs.Held.{count_among, is_among}
+
+-- the size of its bits, the hashes of a key, the greatest moment so far, the held keys, each once, and the keys that may be added without memory
+pub record Filter : Type 0 where
+  pub log2_bits : ℕ
+  pub hashes : ℕ
+  pub clock : ℕ
+  pub held : List (KeyShape × ℕ)
+  pub reserved : List KeyShape
+
+-- a filter that holds no key
+abbrev pub empty_filter : ℕ → ℕ → Filter
+empty_filter log2_bits hashes = record {
+  log2_bits = log2_bits;
+  hashes = hashes;
+  clock = 0;
+  held = [];
+  reserved = [];
+}
+
+-- whether a key is held
+abbrev pub is_held : Filter → KeyShape → Bool
+is_held filter key = is_among filter.held key
+
+-- whether a key may be added without memory
+abbrev pub is_reserved : Filter → KeyShape → Bool
+is_reserved filter key = list_any (same_key key) filter.reserved
+
+-- how often a position stands among those of the held keys, with repetitions
+abbrev pub count_of : Filter → ℕ → ℕ
+count_of filter j = count_among filter.log2_bits filter.hashes filter.held j
+
+-- a bit for each position, set where the count is above 0
+abbrev pub bits_of : Filter → List Bool
+bits_of filter = map (λ j. nat_lt 0 (count_of filter j)) (range_with_len 0 (2 ^ filter.log2_bits))
+
+-- the key went, and no other
+pub record Removes (key : KeyShape) (old new : List (KeyShape × ℕ)) : Type 0 where
+  pub gone : List (KeyShape × ℕ)
+  pub parted : IsPermutation old (gone ++ new)
+  pub same : All (λ e. same_key key e.0 ≡ true) gone
+  pub others : All (λ e. same_key key e.0 ≡ false) new

@@ -1,0 +1,7 @@
+pub mod Counts
+pub mod Due
+pub mod Filter
+pub mod Held
+pub use Rattle.query_normal.specs.Bits
+pub use Rattle.query_normal.specs.Keys
+pub use Rattle.query_normal.specs.Pages
