@@ -1,0 +1,17 @@
+pub mod Bytes
+pub mod FilterReading
+pub mod FilterText
+pub mod Grammar
+pub mod Lexing
+pub mod Numbers
+pub mod OrderReading
+pub mod OrderText
+pub mod Printed
+pub mod Queries
+pub mod QueryText
+pub mod Quoted
+pub mod Reading
+pub mod Refusals
+pub mod Seen
+pub mod Spelling
+pub mod Tokens
