@@ -1,0 +1,6 @@
+-- a new hub stands for no entry
+use Rattle.quaestor_server.proofs.HistoryLemmas.{new_stands}
+use Rattle.quaestor_server.proofs.owned.Owned.new.Goals as goal
+
+pub invariant_of-result : goal.invariant_of-result
+invariant_of-result c = new_stands _ c.args.config _ c.new.ensures c.new-2.ensures.items

@@ -1,0 +1,158 @@
+-- What a connection did, told whole.
+use Rattle.std.specs.Prelude.{◌≡◌, ◌⊎◌, ℕ, ◌<◌, ◌≤◌, ◌++◌, Bool, true, false, not, List, [], ◌∷◌, length, map, take, Option}
+use Rattle.std.specs.List.{enumerate_from, flat_map, list_all}
+use Rattle.http_message.specs.Item.{Item, IsItem, IsOpen, closes}
+use Rattle.http_message.specs.Text.{is_blank}
+use Rattle.q_outside.specs.Told.{Takes, IsEnded, Gives}
+use Rattle.q_outside.specs.declared.served.Why.{Why}
+use Rattle.q_outside.specs.declared.served.Why.TheVariants.{InputEnd, Truncated, BadFraming, CloseAsked, RequestLimit, ReadFault, WriteFault}
+use Rattle.quaestor_server.specs.declared.entry.Entry.{Entry}
+use Rattle.quaestor_server.specs.declared.told.Told.{Told}
+use Rattle.quaestor_server.specs.declared.told.Told.TheVariants.{Memory}
+use Rattle.quaestor_server.specs.Ask.{ask_of, IsEntryOf, IsToldOf, IsFresh}
+use Rattle.quaestor_server.specs.Desk.{IsPrefix, IsHelped}
+use Rattle.quaestor_server.specs.Legal.{IsLegal}
+use Rattle.quaestor_server.specs.Reply.{reply}
+use Rattle.quaestor_server.specs.ReplyText.{IsReplyText}
+use Rattle.quaestor_server.specs.Setting.{Setting}
+
+-- so many requests are answered on one connection
+abbrev pub request_limit : ℕ
+request_limit = 10000
+
+-- One item of a connection, with what came of it.
+pub record Exchange : Type 0 where
+  -- its bytes, whole and no more
+  pub piece : List ℕ
+  -- what they are
+  pub item : Item
+  -- what the clock told when the last of them was taken
+  pub moment : ℕ
+  -- the history that the desk knew then
+  pub known : List Entry
+  -- the history that it knew when the item was answered
+  pub after : List Entry
+  -- the entries that were made for it, with their places
+  pub own : List (ℕ × Entry)
+  -- its text
+  pub text : List ℕ
+
+-- The item is answered by its entry, and its text is that of the reply at the entry's place.
+pub record IsServed (g : Setting) (x : Exchange) : Type 0 where
+  -- what stands before its entries; others may have made some of it since
+  pub before : List Entry
+  pub helps : List Entry
+  pub entry : Entry
+  pub told : Told
+  pub later : IsPrefix x.known before
+  pub helped : IsHelped g before helps entry
+  pub after_is : x.after ≡ (before ++ helps) ++ entry ∷ []
+  pub own_is : x.own ≡ enumerate_from (length before) (helps ++ entry ∷ [])
+  pub is_of : IsEntryOf (ask_of x.item) x.moment entry
+  pub fresh : IsFresh g x.known entry
+  pub told_is : IsToldOf (ask_of x.item) (reply g (before ++ helps) entry) told
+  pub text_is : IsReplyText told (closes x.item) x.text
+
+-- For want of memory the item has no entry, and its text says so.
+pub record IsUnserved (x : Exchange) : Type 0 where
+  pub later : IsPrefix x.known x.after
+  pub own_is : x.own ≡ []
+  pub text_is : IsReplyText Memory (closes x.item) x.text
+
+-- what is true of each item of a connection
+pub record IsExchange (g : Setting) (x : Exchange) : Type 0 where
+  pub is_item : IsItem x.piece x.item
+  pub came_of : IsServed g x ⊎ IsUnserved x
+
+-- from the first history to the last, each item was taken at one that holds all before it
+abbrev pub Talk : Setting → List Entry → List Exchange → List Entry → Type 0
+Talk g first [] last = IsPrefix first last
+Talk g first (x ∷ xs) last = IsPrefix first x.known × IsExchange g x × Talk g x.after xs last
+
+-- the bytes of the items, one after another
+abbrev pub pieces : List Exchange → List ℕ
+pieces xs = flat_map (λ x. x.piece) xs
+
+-- their texts, one after another
+abbrev pub texts : List Exchange → List ℕ
+texts xs = flat_map (λ x. x.text) xs
+
+-- their entries, in order
+abbrev pub owns : List Exchange → List (ℕ × Entry)
+owns xs = flat_map (λ x. x.own) xs
+
+-- what the clock told for them, in turn
+abbrev pub moments : List Exchange → List ℕ
+moments xs = map (λ x. x.moment) xs
+
+-- no item ends the connection
+abbrev pub none_closes : List Exchange → Bool
+none_closes xs = list_all (λ x. not (closes x.item)) xs
+
+-- What a connection's objects tell at one moment.
+pub record Side : Type 0 where
+  -- the history that the desk knows, and the entries of its own
+  pub seen : List Entry
+  pub mine : List (ℕ × Entry)
+  -- the bytes that the source has left, and those that the sink holds, where they tell them
+  pub left : Option (List ℕ)
+  pub held : Option (List ℕ)
+  -- their counts of faults
+  pub faults_in : ℕ
+  pub faults_out : ℕ
+
+-- From one moment to another these items were answered, and besides them these bytes were taken.
+pub record Progress (g : Setting) (a b : Side) (tells : List ℕ → Type 0) (xs : List Exchange) (rest : List ℕ) : Type 0 where
+  pub taken : Takes a.left b.left (pieces xs ++ rest)
+  pub talk : Talk g a.seen xs b.seen
+  pub legal : IsLegal g b.seen
+  pub mine : b.mine ≡ a.mine ++ owns xs
+  pub ticks : tells (moments xs)
+  pub faults_in : a.faults_in ≤ b.faults_in
+  pub faults_out : a.faults_out ≤ b.faults_out
+
+-- No item ended the connection, there was room for one more, and each text was given.
+pub record IsStopped (a b : Side) (xs : List Exchange) : Type 0 where
+  pub none : none_closes xs ≡ true
+  pub few : length xs < request_limit
+  pub given : Gives a.held b.held (texts xs)
+
+-- The last item ended the connection. Its first byte is at this place.
+pub record IsClosed (xs : List Exchange) (place : ℕ) : Type 0 where
+  pub others : List Exchange
+  pub last : Exchange
+  pub are : xs ≡ others ++ last ∷ []
+  pub none : none_closes others ≡ true
+  pub closing : closes last.item ≡ true
+  pub few : length others < request_limit
+  pub place_is : place ≡ length (pieces others)
+
+-- The sink failed inside the text of the last item.
+pub record IsBroken (a b : Side) (xs : List Exchange) : Type 0 where
+  pub others : List Exchange
+  pub last : Exchange
+  pub are : xs ≡ others ++ last ∷ []
+  pub none : none_closes others ≡ true
+  pub few : length others < request_limit
+  pub size : ℕ
+  pub part : size ≤ length last.text
+  pub given : Gives a.held b.held (texts others ++ take size last.text)
+
+-- what is true at the end that the connection tells
+abbrev pub Ends : Why → Side → Side → List Exchange → List ℕ → Type 0
+Ends InputEnd a b xs rest = IsStopped a b xs × IsEnded b.left × IsOpen rest × (is_blank rest ≡ true)
+Ends Truncated a b xs rest = IsStopped a b xs × IsEnded b.left × IsOpen rest × (is_blank rest ≡ false)
+Ends (BadFraming place) a b xs rest = IsClosed xs place × Gives a.held b.held (texts xs)
+Ends CloseAsked a b xs rest = ⊥
+Ends RequestLimit a b xs rest = (none_closes xs ≡ true) × (length xs ≡ request_limit) × Gives a.held b.held (texts xs)
+Ends ReadFault a b xs rest = IsStopped a b xs × IsOpen rest × (a.faults_in < b.faults_in)
+Ends WriteFault a b xs rest = IsBroken a b xs × (a.faults_out < b.faults_out)
+
+-- A connection was served: so many items were answered, and it ended for this reason.
+pub record Conversation (g : Setting) (a b : Side) (tells : List ℕ → Type 0) (requests : ℕ) (why : Why) : Type 0 where
+  pub exchanges : List Exchange
+  -- the bytes that were taken besides
+  pub rest : List ℕ
+  pub progress : Progress g a b tells exchanges rest
+  pub count : length exchanges ≡ requests
+  pub ends : Ends why a b exchanges rest

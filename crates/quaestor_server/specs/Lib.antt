@@ -1,0 +1,15 @@
+pub mod Answer
+pub mod Ask
+pub mod Connection
+pub mod Date
+pub mod Desk
+pub mod EndLaw
+pub mod Given
+pub mod Journal
+pub mod Legal
+pub mod Reply
+pub mod ReplyText
+pub mod Round
+pub mod Setting
+pub mod Standing
+pub mod State
