@@ -1,0 +1,29 @@
+# Commands for contributors; `make` alone lists them. The gate is `rt ci`, which .ci/run calls alone.
+CRATES := $(sort $(notdir $(patsubst %/src,%,$(wildcard crates/*/src))))
+
+help: ## lists the commands
+	@awk -F ':.*## ' '/^[a-z-]+:.*## / { printf "  %-10s %s\n", $$1, $$2 }' $(firstword $(MAKEFILE_LIST))
+check: ## proves what changed, every crate, lowest first
+	rt all check
+fmt: ## lays out every crate
+	@for crate in $(CRATES); do (cd crates/$$crate && rt fmt) || exit 1; done
+lint: ## tests the style that rt does not
+	@sh tools/lint.sh
+edits: ## tries the must-fail edits; CRATE=name for one crate
+	rt must-fail $(CRATE)
+plant: named ## lists wrong bodies that the contracts of CRATE=name let through
+	cd crates/$(CRATE) && rt plant
+crate: named ## makes the folders of a new CRATE=name
+	mkdir -p $(addprefix crates/$(CRATE)/,src specs proofs must-fail)
+program: ## proves, builds and tries the program, so that ./quaestor runs the proved one
+	@QUAESTOR_PROVED=1 ./quaestor pipe --clock 100 < examples/first.http | cmp - examples/first.reply
+run: ## runs the program over standard input: make run ARGS="pipe --clock 100"
+	@./quaestor $(ARGS)
+example: ## runs the first example and compares its output with the text of the README
+	./quaestor pipe --clock 100 < examples/first.http | cmp - examples/first.reply
+ci: fmt lint ## the gate, as a merge runs it, after the layout and the style
+	rt ci
+
+named:
+	@test -n "$(CRATE)" || { echo "say which: CRATE=name" >&2; exit 2; }
+.PHONY: help check fmt lint edits plant crate program run example ci named

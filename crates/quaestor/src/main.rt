@@ -1,0 +1,39 @@
+//! The program: its words, standard input and output, and the system's clock.
+#![tactic(auto)]
+
+use q_outside::{ReadSource, SystemClock, WriteSink};
+use quaestor_prog::{Status, run};
+use std::env;
+use std::io::ErrorKind;
+use std::process::ExitCode;
+use std::rt::Env;
+
+/// The words behind the program's name. Words that are not UTF-8 are no words of a command.
+fn words_of<R: Env + AllocGlobal>(rt: &R) -> Result<Vec<String>, Status> {
+    let mut words = Vec::new(rt.alloc());
+    match env::args(rt) {
+        Ok(args) => {
+            for word in args.skip(1) {
+                if words.push(word).is_err() {
+                    return Err(Status::Memory);
+                }
+            }
+        }
+        Err(fault) if fault.kind() == ErrorKind::OutOfMemory => return Err(Status::Memory),
+        Err(_) => {}
+    }
+    Ok(words)
+}
+
+fn main(rt: HostRuntime) -> ExitCode {
+    let status = match words_of(&rt) {
+        Ok(words) => {
+            let mut source = ReadSource::new(rt.stdin());
+            let mut sink = WriteSink::new(rt.stdout());
+            let mut clock = SystemClock::new(&rt);
+            run(rt.alloc(), &words, &mut source, &mut sink, &mut clock)
+        }
+        Err(status) => status,
+    };
+    ExitCode::from(status.code())
+}

@@ -1,0 +1,8 @@
+-- the desk was new, and its configuration the default one
+use Rattle.std.proofs.Common.{◌∙◌}
+use Rattle.quaestor_prog.proofs.RunLemmas.{piped}
+use Rattle.quaestor_prog.proofs.program.pipe.Goals as goal
+
+pub returns : goal.returns
+returns g c =
+    piped _ _ c.serve_connection-served.new.desk.entries _ _ _ _ _ _ (c.new-desk.ensures.setting ∙ c.default-config.ensures) c.new-desk.ensures.empty c.serve_connection-served.ensures.conversation c.of.ensures
