@@ -1,11 +1,11 @@
 //! The counting filter.
-ghost use Rattle.std.specs.Prelude.{◌≡◌, ◌⊎◌, ◌+◌, ◌*◌, ◌^◌, ◌<◌, ◌≤◌, max, not, ◌&&◌, if◌then◌else◌, true, false, [], IsTrue, IfOk, OnOk, OnErr, length};
+ghost use Rattle.std.specs.Prelude.{◌≡◌, ◌⊎◌, ◌+◌, ◌*◌, ◌^◌, ◌<◌, ◌≤◌, max, not, ◌&&◌, if◌then◌else◌, true, false, [], IsTrue, IfOk, OnOk, OnErr, length, map};
 ghost use Rattle.query_normal.specs.declared.key.KeyShape.{KeyShape as AKey};
 ghost use Rattle.query_normal.specs.Bits.{flat_bits};
 ghost use Rattle.query_normal.specs.Keys.{same_key};
 ghost use Rattle.expiring_filter.specs.Filter.{empty_filter, is_held, is_reserved, count_of, bits_of, Removes};
 ghost use Rattle.expiring_filter.specs.Held.{put_until, Expires};
-ghost use Rattle.std.specs.List.{list_any};
+ghost use Rattle.std.specs.List.{list_any, IsDistinct};
 ghost use Rattle.std.specs.BinaryHeap.{heap_items, heap_len, heap_capacity};
 ghost use Rattle.indexmap.specs.IndexMap.{index_map_len, spare};
 ghost use Rattle.indexmap.specs.IndexSet.{index_set_len};
@@ -166,6 +166,7 @@ impl CountingFilter {
     pub fn keys(&self) -> u32
         ensures count { result ≡ length self.now.held }
         ensures few { result ≤ 1000000 }
+        ensures once { IsDistinct same_key (map (λ e. e.0) self.now.held) }
     {
         self.held.len() as u32
     }

@@ -38,7 +38,7 @@ document_finding (Some found) = present found.0 found.1
 abbrev pub result_at : KeyShape → List Change → ℕ → Finding
 result_at (Record collection id) journal n = document_finding (document_at journal n collection id)
 
--- what the row with this number puts, by its number and its document; there is no row 0
+-- what the change of this commit puts, by its number and its document; commits begin at 1, so the empty store puts nothing
 abbrev pub row_at : List Change → ℕ → Option (ℕ × Tree)
 row_at journal zero = None
 row_at journal (suc n) = option_and_then (λ change. put_at (suc n) change.document) (slice_get journal n)
