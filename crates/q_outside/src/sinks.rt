@@ -50,6 +50,7 @@ impl<L: Ledger> ListSink<L> {
         requires some { 0 < L.parts }
         ensures empty { IfOk result (λ s. s.bytes.items ≡ []) }
         ensures faults { IfOk result (λ s. s.faults ≡ 0) }
+        ensures room { IfOk result (λ s. room ≤ vec_capacity s.bytes) }
     {
         let faults = Faults::new(blank);
         let bytes = Vec::with_capacity(alloc, room)?;
