@@ -1,10 +1,10 @@
 -- From what stands at the front of the bytes that are held to the item that they begin with.
-use Rattle.std.proofs.Common.{◌≡◌, ℕ, ◌+◌, ◌-◌, ◌<◌, ◌≤◌, List, ◌++◌, length, take, drop, refl, sym, ◌∙◌, ap, subst, arith, lit≤, if◌then◌else◌, inl, inr}
+use Rattle.std.proofs.Common.{◌≡◌, ℕ, ◌+◌, ◌-◌, ◌<◌, ◌≤◌, List, ◌++◌, length, take, drop, true, refl, sym, ◌∙◌, ap, subst, arith, lit≤, if◌then◌else◌, inl, inr}
 use Rattle.std.proofs.Math.Seq.{take-add}
 use Rattle.std.proofs.lemmas.Bool.{cases_Bool}
 use Rattle.std.proofs.lemmas.List.{drop-take, drop-drop, drop-append-le, take-append-le, length-take-le, length-drop, length-append}
 use Rattle.httparse.specs.Spans.{span_bytes}
-use Rattle.http_message.specs.Built.{AreNames}
+use Rattle.http_message.specs.Built.{Target, AreNames, fits}
 use Rattle.http_message.specs.Found.{IsReturnAt, IsTextAt, IsTooLarge, IsUnfinished}
 use Rattle.http_message.specs.Head.{IsNoHead}
 use Rattle.http_message.specs.Item.{Item, bad_head, not_built, request, IsItemOf, no_head, unbuilt, whole, IsItemBy, IsOpen, no_text, cut_short}
@@ -15,7 +15,7 @@ use Rattle.http_message.specs.declared.build.Shape.{Shape}
 use Rattle.http_message.specs.declared.parts.Parts.{Parts}
 use Rattle.http_message.specs.declared.parts.Taken.{Taken}
 use Rattle.http_message.specs.declared.parts.Taken.TheVariants.{Request, BadHead, NotBuilt, InputEnd, Truncated, ReadFault}
-use Rattle.http_message.proofs.BuildLemmas.{built_names}
+use Rattle.http_message.proofs.BuildLemmas.{built_parts}
 use Rattle.http_message.proofs.FrontLemmas.{settled_text, settled_return, settled_large, settles_take, settles_grow}
 use Rattle.http_message.proofs.TargetLemmas.{target_front, target_wider}
 
@@ -92,11 +92,11 @@ item_large held at =
 pub item_request : (held : List ℕ) (lead size : ℕ) (shape : Shape) (parts : Parts) → IsTextAt held lead size
     → IsBuiltFrom (take size (drop lead held)) shape → ArePartsOf lead (lead + size) shape parts
     → (lead + size) + shape.size ≤ length held → IsRequestHeld held parts
-item_request held lead size shape parts at built are fits =
+item_request held lead size shape parts at built are complete =
     let text = take size (drop lead held) in
     let body = take shape.size (drop (lead + size) held) in
     let body_size : length body ≡ shape.size =
-    length-take-le shape.size (drop (lead + size) held) (omega (arith, fits, length-drop (lead + size) held)) in
+    length-take-le shape.size (drop (lead + size) held) (omega (arith, complete, length-drop (lead + size) held)) in
     let wide : IsTargetWithin size shape.target =
     target_wider (length text) size shape.target (omega (arith, text_size held lead size at)) built.within.target in
     let target : target_in held parts.target ≡ target_in text shape.target =
@@ -106,14 +106,16 @@ item_request held lead size shape parts at built are fits =
     rw (are.first, are.last) (ap (λ n. take n (drop (lead + size) held)) count) in
     let item : request_in held parts ≡ request shape.method (target_in text shape.target) body =
     rw (are.method, target, bytes) refl in
-    let names : AreNames (target_in text shape.target) = built_names built.head (built_in text shape) built.built in
+    let made = built_parts built.head (built_in text shape) built.built in
+    let P : Target → Type 0 = λ named. fits shape.method named ≡ true in
     record {
       item = text_item held lead size shape.size parts.length (request_in held parts) at are.size
-          (omega (arith, are.size, fits)) built.within.body
+          (omega (arith, are.size, complete)) built.within.body
           (whole built.head (built_in text shape) built.is built.built body_size item);
       target = target_wider (lead + size) parts.length parts.target (omega (arith, are.size)) are.target_within;
       body = (omega (arith, are.first, are.last), omega (arith, are.size, are.last));
-      names = subst AreNames (sym target) names;
+      names = subst AreNames (sym target) made.0;
+      fit = rw are.method (subst P (sym target) made.1);
       body_fits = rw bytes (omega (arith, body_size, built.within.body));
     }
 

@@ -1,6 +1,7 @@
 -- What a target names, case by case, and ranges of bytes behind others.
 use Rattle.std.proofs.Common.{◌≡◌, ℕ, ◌+◌, ◌-◌, ◌≤◌, List, length, take, drop, Option, Some, None, is_none, true, false, ◌&&◌, nat_eq, nat_le, codes, refl, sym, ◌∙◌, ap, subst, arith, inl, inr}
 use Rattle.std.specs.List.{list_any, starts_with, position}
+use Rattle.std.specs.Str.{bytes_eq}
 use Rattle.std.proofs.lemmas.List.{take-take, length-take}
 use Rattle.std.proofs.lemmas.Slice.{between_is}
 use Rattle.std.proofs.lemmas.Bool.{cases_Bool, and_parts, leb-true, true≢false}
@@ -9,8 +10,8 @@ use Rattle.httparse.specs.Spans.{span_bytes}
 use Rattle.httparse.specs.declared.spans.Span.{Span}
 use Rattle.http_message.specs.Shape.{target_in, IsTargetWithin}
 use Rattle.http_message.specs.declared.target.TargetParts.{TargetParts}
-use Rattle.http_message.specs.declared.target.TargetParts.TheVariants.{Record, Elsewhere}
-use Rattle.http_message.specs.Built.{Target, record_of, target_of, record_at, record_by, record_between, is_unread, is_slash, is_name, elsewhere, AreNames}
+use Rattle.http_message.specs.declared.target.TargetParts.TheVariants.{Record, Match, Filter, Elsewhere}
+use Rattle.http_message.specs.Built.{Target, record_of, match_path, filter_path, elsewhere, target_of, route_at, record_at, record_by, record_between, is_unread, is_slash, is_name, AreNames}
 
 -- a query or an escape is not read
 pub target_unread : (text : List ℕ) → list_any is_unread text ≡ true → target_of text ≡ None
@@ -23,12 +24,12 @@ pub target_record : (text : List ℕ) → list_any is_unread text ≡ false
 unfolding target_of
 target_record text read document = rw (read, document) refl
 
--- other targets behind `/v1/` are not built
-pub target_unknown : (text : List ℕ) → list_any is_unread text ≡ false
+-- other targets of `/v1/` are one of two paths
+pub target_route : (text : List ℕ) → list_any is_unread text ≡ false
     → starts_with nat_eq text (codes "/v1/d/") ≡ false → starts_with nat_eq text (codes "/v1/") ≡ true
-    → target_of text ≡ None
+    → target_of text ≡ route_at text
 unfolding target_of
-target_unknown text read other version = rw (read, other, version) refl
+target_route text read other version = rw (read, other, version) refl
 
 -- targets behind another path are elsewhere
 pub target_elsewhere : (text : List ℕ) → list_any is_unread text ≡ false
@@ -57,12 +58,16 @@ pub target_front : (n : ℕ) (bytes : List ℕ) (target : TargetParts) → IsTar
     → target_in (take n bytes) target ≡ target_in bytes target
 target_front n bytes (Record collection id) within =
     rw (span_front n bytes collection within.0.1, span_front n bytes id within.1.1) refl
+target_front n bytes Match within = refl
+target_front n bytes Filter within = refl
 target_front n bytes Elsewhere within = refl
 
 -- ranges that lie in some bytes lie in more
 pub target_wider : (m n : ℕ) (target : TargetParts) → m ≤ n → IsTargetWithin m target → IsTargetWithin n target
 target_wider m n (Record collection id) more within =
     ((within.0.0, omega (arith, within.0.1)), (within.1.0, omega (arith, within.1.1)))
+target_wider m n Match more within = tt
+target_wider m n Filter more within = tt
 target_wider m n Elsewhere more within = tt
 
 -- the ranges of a target in a part of the text
@@ -105,6 +110,23 @@ pub names_between : (path : List ℕ) (place : Option ℕ) (target : Target) →
 names_between path None target is = absurd (cc)
 names_between path (Some place) target is = names_by (take place path) (drop (place + 1) path) target is
 
+-- the other paths of `/v1/` have no names
+pub names_route : (text : List ℕ) (target : Target) → route_at text ≡ Some target → AreNames target
+names_route text target is =
+    elim (cases_Bool (bytes_eq text (codes "/v1/match"))) [
+      | inl matching ↦
+          let here : Some match_path ≡ Some target = rw matching at is in
+          let same : match_path ≡ target = cc in
+          subst AreNames same tt
+      | inr other ↦ elim (cases_Bool (bytes_eq text (codes "/v1/filter"))) [
+        | inl page ↦
+            let here : Some filter_path ≡ Some target = rw (other, page) at is in
+            let same : filter_path ≡ target = cc in
+            subst AreNames same tt
+        | inr none ↦ let clash : ◌≡◌ {A = Option Target} None (Some target) = rw (other, none) at is in absurd (cc)
+      ]
+    ]
+
 pub target_names : (text : List ℕ) (target : Target) → target_of text ≡ Some target → AreNames target
 target_names text target is =
     elim (cases_Bool (list_any is_unread text)) [
@@ -113,7 +135,7 @@ target_names text target is =
         | inl document ↦
             names_between (drop 6 text) (position is_slash (drop 6 text)) target (sym (target_record text read document) ∙ is)
         | inr other ↦ elim (cases_Bool (starts_with nat_eq text (codes "/v1/"))) [
-          | inl version ↦ let clash : ◌≡◌ {A = Option Target} None (Some target) = sym (target_unknown text read other version) ∙ is in absurd (cc)
+          | inl version ↦ names_route text target (sym (target_route text read other version) ∙ is)
           | inr further ↦ elim (cases_Bool (starts_with nat_eq text (codes "/"))) [
             | inl slash ↦
                 let here : Some elsewhere ≡ Some target = sym (target_elsewhere text read other further slash) ∙ is in

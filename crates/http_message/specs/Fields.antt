@@ -5,7 +5,7 @@ use Rattle.std.specs.List.{list_all}
 use Rattle.std.specs.Str.{str_eq_ignore_ascii_case}
 use Rattle.std.specs.Str.Parse.{digits_value}
 use Rattle.http_message.specs.declared.method.Method.{Method}
-use Rattle.http_message.specs.declared.method.Method.TheVariants.{Get, Put}
+use Rattle.http_message.specs.declared.method.Method.TheVariants.{Get, Put, Post}
 
 -- a field's name, and its value without the white space around it
 abbrev pub Pair : Type 0
@@ -37,6 +37,7 @@ stated_length text =
 -- all fields: Host stands once, Content-Length once with a PUT, and no other field.
 abbrev pub body_size : Method → List (List ℕ) → List (List ℕ) → ℕ → Option ℕ
 body_size Get (host ∷ []) [] count = if count == 1 then Some 0 else None
+body_size Post (host ∷ []) [] count = if count == 1 then Some 0 else None
 body_size Put (host ∷ []) (text ∷ []) count = if count == 2 then stated_length text else None
 body_size _ _ _ _ = None
 

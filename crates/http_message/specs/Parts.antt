@@ -1,7 +1,7 @@
 -- What `next_request` answers, of the bytes that are held.
 use Rattle.std.specs.Prelude.{◌≡◌, ℕ, ◌+◌, ◌<◌, ◌≤◌, true, false, List, length, take, drop}
 use Rattle.httparse.specs.Spans.{span_bytes, IsWithin}
-use Rattle.http_message.specs.Built.{AreNames}
+use Rattle.http_message.specs.Built.{AreNames, fits}
 use Rattle.http_message.specs.Fields.{body_limit}
 use Rattle.http_message.specs.Item.{Item, bad_head, not_built, request, IsItem, IsOpen}
 use Rattle.http_message.specs.Placed.{room_size}
@@ -39,6 +39,7 @@ pub record IsRequestHeld (held : List ℕ) (parts : Parts) : Type 0 where
   pub target : IsTargetWithin parts.length parts.target
   pub body : IsWithin parts.length parts.body
   pub names : AreNames (target_in held parts.target)
+  pub fit : fits parts.method (target_in held parts.target) ≡ true
   pub body_fits : length (span_bytes held parts.body) ≤ body_limit
 
 -- No item is whole in the bytes: `ended` or `failed` says why no more came.

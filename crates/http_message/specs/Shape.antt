@@ -2,11 +2,11 @@
 use Rattle.std.specs.Prelude.{◌≡◌, ◌≤◌, ℕ, List, length, Some, None}
 use Rattle.httparse.specs.Grammar.{RequestHead}
 use Rattle.httparse.specs.Spans.{span_bytes, IsWithin}
-use Rattle.http_message.specs.Built.{Target, record_of, elsewhere, Built, built_of}
+use Rattle.http_message.specs.Built.{Target, record_of, match_path, filter_path, elsewhere, Built, built_of}
 use Rattle.http_message.specs.Fields.{body_limit}
 use Rattle.http_message.specs.Head.{IsHead, IsNoHead}
 use Rattle.http_message.specs.declared.target.TargetParts.{TargetParts}
-use Rattle.http_message.specs.declared.target.TargetParts.TheVariants.{Record, Elsewhere}
+use Rattle.http_message.specs.declared.target.TargetParts.TheVariants.{Record, Match, Filter, Elsewhere}
 use Rattle.http_message.specs.declared.build.Shape.{Shape}
 use Rattle.http_message.specs.declared.build.Judged.{Judged}
 use Rattle.http_message.specs.declared.build.Judged.TheVariants.{NoHead, Unbuilt, Whole}
@@ -14,11 +14,15 @@ use Rattle.http_message.specs.declared.build.Judged.TheVariants.{NoHead, Unbuilt
 -- what the ranges of a target name in the bytes
 abbrev pub target_in : List ℕ → TargetParts → Target
 target_in bytes (Record collection id) = record_of (span_bytes bytes collection) (span_bytes bytes id)
+target_in bytes Match = match_path
+target_in bytes Filter = filter_path
 target_in bytes Elsewhere = elsewhere
 
 -- the ranges of a target lie in so many bytes
 abbrev pub IsTargetWithin : ℕ → TargetParts → Type 0
 IsTargetWithin size (Record collection id) = IsWithin size collection × IsWithin size id
+IsTargetWithin size Match = Unit {0}
+IsTargetWithin size Filter = Unit {0}
 IsTargetWithin size Elsewhere = Unit {0}
 
 -- what is built, with the ranges read in the bytes

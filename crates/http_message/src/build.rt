@@ -1,9 +1,9 @@
 //! What is built of a head: a request of this server, or nothing.
-ghost use Rattle.std.specs.Prelude.{◌≡◌, length, take, map, Option, option_map, IfSome};
+ghost use Rattle.std.specs.Prelude.{◌≡◌, ℕ, List, length, take, map, Option, option_map, IfSome};
 ghost use Rattle.httparse.specs.Spans.{IsRequestWithin, span_bytes, header_bytes};
-ghost use Rattle.http_message.specs.Built.{built, method_of};
+ghost use Rattle.http_message.specs.Built.{built, fits, method_of};
 ghost use Rattle.http_message.specs.Head.{field_room};
-ghost use Rattle.http_message.specs.Shape.{built_in, IsShapeWithin, IsJudged};
+ghost use Rattle.http_message.specs.Shape.{built_in, target_in, IsShapeWithin, IsJudged};
 
 use crate::fields::size_of;
 use crate::head::read_head;
@@ -57,6 +57,9 @@ fn build(text: &[u8], parts: RequestSpans, spans: &[HeaderSpan]) -> Option<Shape
     }
     let method = read_method(parts.method.of(text))?;
     let target = read_target(parts.path.of(text))?;
+    if !fits(method, target) {
+        return None;
+    }
     let size = size_of(text, method, &spans[..parts.headers])?;
     Some(Shape {
         method,
@@ -75,5 +78,20 @@ fn read_method(text: &[u8]) -> Option<Method>
     if text == b"PUT".as_slice() {
         return Some(Method::Put);
     }
+    if text == b"POST".as_slice() {
+        return Some(Method::Post);
+    }
     None
+}
+
+/// Whether the target is one of the method's.
+fn fits(method: Method, target: TargetParts) -> bool
+    ensures { (bytes : List ℕ) → result ≡ fits method (target_in bytes target) }
+{
+    match (method, target) {
+        (Method::Get | Method::Put, TargetParts::Record { .. } | TargetParts::Elsewhere) => true,
+        (Method::Get, TargetParts::Filter) => true,
+        (Method::Post, TargetParts::Match) => true,
+        _ => false,
+    }
 }

@@ -88,7 +88,7 @@ fn body_size(
     ensures limit { IfSome result (λ size. size ≤ body_limit) }
 {
     match (method, hosts, lengths) {
-        (Method::Get, Named::Once(_), Named::Absent) if count == 1 => Some(0),
+        (Method::Get | Method::Post, Named::Once(_), Named::Absent) if count == 1 => Some(0),
         (Method::Put, Named::Once(_), Named::Once(value)) if count == 2 => {
             stated_length(value.of(text))
         }

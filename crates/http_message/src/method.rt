@@ -5,4 +5,5 @@
 pub enum Method {
     Get,
     Put,
+    Post,
 }

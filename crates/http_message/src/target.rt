@@ -1,9 +1,9 @@
-//! The target of a request: the record that it names.
+//! The target of a request: the record, or the path, that it names.
 ghost use Rattle.std.specs.Prelude.{◌≡◌, ℕ, ◌+◌, ◌-◌, ◌<◌, ◌≤◌, List, length, drop, Option, option_map, IfSome};
 ghost use Rattle.std.specs.List.{list_any, position};
 ghost use Rattle.httparse.specs.Spans.{IsWithin};
 ghost use Rattle.q_base.specs.Name.{first_bad, is_name_byte};
-ghost use Rattle.http_message.specs.Built.{target_of, record_at, is_unread, is_slash, is_name};
+ghost use Rattle.http_message.specs.Built.{target_of, route_at, record_at, is_unread, is_slash, is_name};
 ghost use Rattle.http_message.specs.Shape.{target_in, IsTargetWithin};
 
 use httparse::spans::Span;
@@ -13,6 +13,10 @@ use httparse::spans::Span;
 pub enum TargetParts {
     /// The record of a collection and an id.
     Record { collection: Span, id: Span },
+    /// The path at which a match is asked for.
+    Match,
+    /// The path of the page of outdated keys.
+    Filter,
     /// Something else.
     Elsewhere,
 }
@@ -29,6 +33,8 @@ impl TargetParts {
                 collection: span_behind(collection, size),
                 id: span_behind(id, size),
             },
+            TargetParts::Match => TargetParts::Match,
+            TargetParts::Filter => TargetParts::Filter,
             TargetParts::Elsewhere => TargetParts::Elsewhere,
         }
     }
@@ -61,10 +67,24 @@ pub fn read_target(target: &[u8]) -> Option<TargetParts>
         };
     }
     if target.starts_with(b"/v1/") {
-        return None;
+        return read_route(target);
     }
     if target.starts_with(b"/") {
         return Some(TargetParts::Elsewhere);
+    }
+    None
+}
+
+/// What a target of `/v1/` names that is no record's.
+fn read_route(target: &[u8]) -> Option<TargetParts>
+    ensures value { option_map (target_in target.now) result ≡ route_at target.now }
+    ensures within { IfSome result (IsTargetWithin (length target.now)) }
+{
+    if target == b"/v1/match".as_slice() {
+        return Some(TargetParts::Match);
+    }
+    if target == b"/v1/filter".as_slice() {
+        return Some(TargetParts::Filter);
     }
     None
 }

@@ -35,6 +35,7 @@ fn tell(text: &mut Vec<u8>, held: &[u8], taken: Taken) -> Result<usize, Memory> 
             match parts.method {
                 Method::Get => text.extend_from_slice(b"GET ")?,
                 Method::Put => text.extend_from_slice(b"PUT ")?,
+                Method::Post => text.extend_from_slice(b"POST ")?,
             }
             match parts.target {
                 TargetParts::Record { collection, id } => {
@@ -42,6 +43,8 @@ fn tell(text: &mut Vec<u8>, held: &[u8], taken: Taken) -> Result<usize, Memory> 
                     text.extend_from_slice(b" ")?;
                     text.extend_from_slice(part(held, id))?;
                 }
+                TargetParts::Match => text.extend_from_slice(b"match")?,
+                TargetParts::Filter => text.extend_from_slice(b"filter")?,
                 TargetParts::Elsewhere => text.extend_from_slice(b"elsewhere")?,
             }
             text.extend_from_slice(b": ")?;
@@ -89,7 +92,7 @@ fn long_head(alloc: Global, size: usize) -> Result<Vec<u8>, Memory> {
 
 #[test]
 fn items_are_those_of_the_bytes_in_whatever_pieces(rt: HostRuntime) -> Result<(), Fail> {
-    let rows: [(&[u8], &[u8]); 16] = [
+    let rows: [(&[u8], &[u8]); 22] = [
         (
             b"PUT /v1/d/shop/p1 HTTP/1.1\r\nHost: a\r\nContent-Length: 7\r\n\r\n{\"a\":1}\r\n\nGET /v1/d/shop/p1 HTTP/1.1\nhost:a\n\nPUT /v1/d/a_b/p-2 HTTP/1.1\r\nCONTENT-LENGTH: 002\r\nHOST: a\r\n\r\n{}\r\n\r\n",
             b"PUT shop p1: {\"a\":1}\nGET shop p1: \nPUT a_b p-2: {}\nend\n",
@@ -124,6 +127,27 @@ fn items_are_those_of_the_bytes_in_whatever_pieces(rt: HostRuntime) -> Result<()
             b"HEAD /v2 HTTP/1.1\r\nHost: a\r\n\r\n",
             b"not built 00030\n",
         ),
+        (
+            b"POST /v1/match HTTP/1.1\r\nHost: a\r\n\r\nGET /v1/filter HTTP/1.1\nhost: b\n\nPOST /v1/match HTTP/1.1\nHOST:\n\n",
+            b"POST match: \nGET filter: \nPOST match: \nend\n",
+        ),
+        (
+            b"GET /v1/match HTTP/1.1\r\nHost: a\r\n\r\n",
+            b"not built 00035\n",
+        ),
+        (
+            b"PUT /v1/filter HTTP/1.1\nHost: a\nContent-Length: 2\n\n{}",
+            b"not built 00051\n",
+        ),
+        (
+            b"POST /v1/match HTTP/1.1\nHost: a\nContent-Length: 0\n\n",
+            b"not built 00051\n",
+        ),
+        (
+            b"POST /v1/d/a/b HTTP/1.1\nHost: a\n\n",
+            b"not built 00033\n",
+        ),
+        (b"POST /v2 HTTP/1.1\nHost: a\n\n", b"not built 00027\n"),
     ];
     for (bytes, want) in rows {
         for size in SIZES {

@@ -1,4 +1,4 @@
-use Rattle.std.proofs.Common.{◌+◌, ◌-◌, ◌≤◌, length, drop, arith}
+use Rattle.std.proofs.Common.{◌+◌, ◌-◌, ◌≤◌, length, drop, sym, ◌∙◌, arith}
 use Rattle.std.proofs.lemmas.List.{length-take}
 use Rattle.httparse.specs.Spans.{span_bytes}
 use Rattle.http_message.specs.Shape.{target_in}
@@ -16,7 +16,8 @@ returns-clause-value c =
     rw moved (built_some c.args.parts.version (span_bytes text c.args.parts.method) (span_bytes text path) _
     c.in_ok-method.method (target_in (span_bytes text path) c.in_ok-target.target) c.in_ok-size.size
     c.if-parts-ne1.false (rw c.of.ensures at c.in_ok-method.ensures)
-    (rw c.of-2.ensures at c.in_ok-target.ensures.value) c.in_ok-size.ensures.size)
+    (rw c.of-2.ensures at c.in_ok-target.ensures.value)
+    (sym (c.fits.ensures (span_bytes text path)) ∙ c.if-not-fits.false) c.in_ok-size.ensures.size)
 
 -- the target lies in the text, and so do its parts
 pub returns-clause-within : goal.returns-clause-within

@@ -1,7 +1,7 @@
 use Rattle.std.proofs.Common.{◌≡◌, ℕ, ◌+◌, ◌-◌, rules, length, drop, Some, sym, ◌∙◌, ap, arith, subst}
 use Rattle.std.proofs.lemmas.List.{take_rest, length-drop}
 use Rattle.http_message.specs.Shape.{IsTargetWithin}
-use Rattle.http_message.proofs.TargetLemmas.{target_unread, target_record, target_unknown, target_elsewhere, target_no_path}
+use Rattle.http_message.proofs.TargetLemmas.{target_unread, target_record, target_route, target_elsewhere, target_no_path}
 use Rattle.http_message.proofs.target.read_target.Goals as goal
 
 pub returns-then-is_unread-clause-value : goal.returns-then-is_unread-clause-value
@@ -31,7 +31,8 @@ returns-in-None-clause-value c =
 
 pub returns-then-starts_with-2-clause-value : goal.returns-then-starts_with-2-clause-value
 returns-then-starts_with-2-clause-value c =
-    sym (target_unknown c.args.target.now (sym c.is_unread.ensures ∙ c.if-is_unread.false)
+    c.read_route.ensures.value
+    ∙ sym (target_route c.args.target.now (sym c.is_unread.ensures ∙ c.if-is_unread.false)
     (sym c.starts_with.ensures.value ∙ c.if-starts_with.false)
     (sym c.starts_with-2.ensures.value ∙ c.if-starts_with-2.true))
 
