@@ -1,5 +1,6 @@
 pub mod CandidateLemmas
 pub mod FilterLemmas
+pub mod Firsts
 pub mod Rising
 pub mod RowOrder
 mod StandardFacts

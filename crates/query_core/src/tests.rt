@@ -170,3 +170,37 @@ fn rows_that_satisfy_come_in_order(rt: HostRuntime) -> Result<(), Fail> {
     assert!(rt; has_versions(rt.alloc(), 1, 1, &[1])?);
     Ok(())
 }
+
+/// 300 rows of one document, whose ids and versions fall from 400 on.
+fn falling(alloc: Global) -> Result<Docs, Fail> {
+    let mut rows = Vec::new(alloc);
+    for i in 0..300u64 {
+        let version = 400 - i;
+        let id = format!(in alloc; "p{version}")?;
+        rows.push(row(alloc, id.as_bytes(), version, b"{}")?)?;
+    }
+    Ok(Docs::of(rows))
+}
+
+#[test]
+fn the_first_of_many_rows_are_found(rt: HostRuntime) -> Result<(), Fail> {
+    let alloc = rt.alloc();
+    let query = Query {
+        collection: Name::read(alloc, b"shop")?,
+        filter: Filter {
+            form: Form::Constant(true),
+        },
+        order: Order::of(Vec::new(alloc)),
+        skip: 1,
+        take: 3,
+    };
+    let docs = falling(alloc)?;
+    let rows = window(alloc, &query, &docs)?;
+    assert!(rt;
+        rows.as_slice()
+            .iter()
+            .map(|row| row.1)
+            .eq([102u64, 103, 104].iter().copied())
+    );
+    Ok(())
+}

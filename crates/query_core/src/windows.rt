@@ -1,7 +1,7 @@
 //! The window of a query: the rows that satisfy, in order, without the first and cut off.
-ghost use Rattle.std.specs.Prelude.{◌≡◌, ◌+◌, map, filter, take, drop, option_map, IfOk, OnOk, All};
-ghost use Rattle.query_core.specs.Window.{matches, window};
-ghost use Rattle.query_core.specs.Candidates.{row_of, value_of, value_at, candidates_cmp, IsRanked, AreCandidates};
+ghost use Rattle.std.specs.Prelude.{◌≡◌, ◌+◌, ◌++◌, ◌∷◌, [], List, map, filter, take, drop, option_map, IfOk, OnOk};
+ghost use Rattle.query_core.specs.Window.{Row as ARow, in_order, matches, window};
+ghost use Rattle.query_core.specs.Candidates.{row_of, value_of, value_at, candidates_cmp, is_past, IsRanked, IsLast, HasFirsts, AreFirst};
 
 use crate::compare::turned;
 use crate::meaning::satisfies;
@@ -15,51 +15,140 @@ use std::cmp::Ordering;
 /// The most paths of an order whose values are kept beside each row. No query of the language has more.
 const KEPT: usize = 4;
 
+/// More candidates than these, and than twice the wanted ones, are sorted and cut off.
+const MANY: usize = 32;
+
 /// A row that satisfies, with the values at the first paths of the order, each looked up once.
-#[derive(Drop)]
+#[derive(Clone, Copy)]
 struct Candidate<'a> {
     row: &'a Row,
     values: [Option<&'a Node>; KEPT],
 }
 
+/// The candidates that may be among the first in order of those that were seen.
+#[derive(Drop)]
+struct Firsts<'a> {
+    found: Vec<Candidate<'a>>,
+    /// The last of the first ones when the candidates were cut off. What is not before it comes too late.
+    last: Option<Candidate<'a>>,
+}
+
 /// The rows that satisfy a query, in its order, without the first `skip`, and `take` of them at most.
-/// The order of the documents does not matter, where no two have one id.
+/// The order of the documents does not matter, where no two have one id. Beside the rows that it gives
+/// it takes memory for some `2 * (skip + take)` references, however many documents satisfy.
 pub fn window(alloc: Global, query: &Query, docs: &Docs) -> Result<Rows, Memory>
     ensures { IfOk result (λ rows. rows ≡ window query.now docs.now) }
 {
-    let found = sorted(alloc, query, docs)?;
-    let rows = copies(alloc, &found, query.skip as usize, query.take as usize)?;
+    let (skip, count) = (query.skip as usize, query.take as usize);
+    let found = sorted(alloc, query, docs, skip + count)?;
+    let rows = copies(alloc, &found, skip, count)?;
     Ok(Rows { rows })
 }
 
+/// The rows that satisfy, in order, as far as the first `count`.
 fn sorted<'a>(
     alloc: Global,
     query: &Query,
     docs: &'a Docs,
+    count: usize,
 ) -> Result<Vec<Candidate<'a>>, AllocError>
-    ensures { IfOk result (λ found. map row_of found.items ≡ matches query.now docs.now) }
+    ensures { IfOk result (λ found. take count (map row_of found.items) ≡ take count (matches query.now docs.now)) }
 {
-    let mut found = candidates(alloc, query, &docs.rows)?;
-    let order = query.order.as_slice();
-    found.sort_by(|a, b| compare_candidates(order, a, b))?;
+    let mut found = candidates(alloc, query, &docs.rows, count)?;
+    sort(&mut found, query.order.as_slice())?;
     Ok(found)
 }
 
-/// The rows that satisfy, as they stand.
+/// The rows that satisfy, but for some that are not among the first `count` in order.
 fn candidates<'a>(
     alloc: Global,
     query: &Query,
     docs: &'a [Row],
+    count: usize,
 ) -> Result<Vec<Candidate<'a>>, AllocError>
-    ensures { IfOk result (λ found. AreCandidates query.now docs.now found.items) }
+    ensures { IfOk result (λ found. AreFirst query.now docs.now count found.items) }
 {
-    let mut found = Vec::new(alloc);
+    let mut firsts = Firsts {
+        found: Vec::new(alloc),
+        last: None,
+    };
     for row in docs {
         if satisfies(&query.filter, &row.2) {
-            found.push(ranked(&query.order, row))?;
+            offer(&mut firsts, &query.order, count, &ranked(&query.order, row))?;
         }
     }
-    Ok(found)
+    Ok(firsts.found)
+}
+
+/// Takes one more candidate, unless it comes behind the first `count`.
+fn offer<'a>(
+    firsts: &mut Firsts<'a>,
+    order: &Order,
+    count: usize,
+    new: &Candidate<'a>,
+) -> Result<(), AllocError>
+    ensures { (seen : List ARow) → IsRanked order.now new.now → HasFirsts order.now count seen firsts.old
+        → OnOk result (HasFirsts order.now count (seen ++ row_of new.now ∷ []) firsts.new) }
+{
+    let paths = order.as_slice();
+    if is_past(paths, &firsts.last, new) {
+        return Ok(());
+    }
+    make_room(firsts, paths, count)?;
+    firsts.found.push(*new)?;
+    Ok(())
+}
+
+/// Cuts off the candidates where they are many.
+fn make_room(
+    firsts: &mut Firsts<'_>,
+    order: &[(Path, bool)],
+    count: usize,
+) -> Result<(), AllocError>
+    ensures { (seen : List ARow) → HasFirsts order.now count seen firsts.old → OnOk result (HasFirsts order.now count seen firsts.new) }
+{
+    if firsts.found.len() / 2 <= count.max(MANY) {
+        return Ok(());
+    }
+    firsts.last = cut(&mut firsts.found, order, count)?;
+    Ok(())
+}
+
+/// Whether a candidate is not before the last one that may be among the first.
+fn is_past(order: &[(Path, bool)], last: &Option<Candidate<'_>>, new: &Candidate<'_>) -> bool
+    ensures { result ≡ is_past order.now last.now new.now }
+{
+    match last {
+        None => false,
+        Some(last) => !compare_candidates(order, new, last).is_lt(),
+    }
+}
+
+/// Puts candidates in order and keeps the first `count`. The answer is the last of these, if there are
+/// so many.
+fn cut<'a>(
+    found: &mut Vec<Candidate<'a>>,
+    order: &[(Path, bool)],
+    count: usize,
+) -> Result<Option<Candidate<'a>>, AllocError>
+    ensures kept { OnOk result (found.new.items ≡ take count (in_order (candidates_cmp order.now 0) found.old.items)) }
+    ensures last { IfOk result (λ last. IsLast count found.new.items last) }
+{
+    sort(found, order)?;
+    found.truncate(count);
+    if count > 0 && found.len() == count {
+        Ok(Some(found[count - 1]))
+    } else {
+        Ok(None)
+    }
+}
+
+/// Puts candidates in order.
+fn sort(found: &mut Vec<Candidate<'_>>, order: &[(Path, bool)]) -> Result<(), AllocError>
+    ensures { OnOk result (found.new.items ≡ in_order (candidates_cmp order.now 0) found.old.items) }
+{
+    found.sort_by(|a, b| compare_candidates(order, a, b))?;
+    Ok(())
 }
 
 fn ranked<'a>(order: &Order, row: &'a Row) -> Candidate<'a>

@@ -1,17 +1,11 @@
-use Rattle.std.proofs.Common.{ap, ◌∙◌, rules}
-use Rattle.query_core.specs.Window.{matches}
-use Rattle.query_core.specs.Candidates.{candidates_cmp}
-use Rattle.query_core.proofs.CandidateLemmas.{matches-candidates}
-use Rattle.query_core.proofs.Rising.{sort_by_is_in_order}
-use Rattle.query_core.proofs.RowOrder.{candidates_cmp_total}
+use Rattle.std.proofs.Common.{List, take, ap, ◌∙◌}
+use Rattle.query_core.specs.Window.{Row, matches}
+use Rattle.query_core.proofs.CandidateLemmas.{firsts_sorted}
 use Rattle.query_core.proofs.windows.sorted.Goals as goal
 
--- the sort puts the candidates in order, and their rows with them
+-- the first candidates in order are the first rows
 pub returns : goal.returns
 returns c =
-    let order = c.as_slice-order.result.now in
-    let found = c.in_ok-found.found.items in
-    let sorted = c.sort_by.new.self.items in
-    let in_place = sort_by_is_in_order (candidates_cmp order 0) (candidates_cmp_total order 0) found sorted c.in_ok-sort_by.ensures.sorted c.in_ok-sort_by.ensures.stable (λ a r q k. search rules) in
-    matches-candidates c.args.query.now c.deref.result.now order found sorted c.in_ok-found.ensures c.as_slice-order.ensures in_place
-    ∙ ap (matches c.args.query.now) (c.deref.ensures.value ∙ c.docs.view_is)
+    let query = c.args.query.now in let count = c.args.count in
+    firsts_sorted query c.deref.result.now count c.as_slice.result.now c.in_ok-found.found.items c.sort.new.found.items c.in_ok-found.ensures c.as_slice.ensures c.in_ok-sort.ensures
+    ∙ ap (λ (docs : List Row). take count (matches query docs)) (c.deref.ensures.value ∙ c.docs.view_is)
