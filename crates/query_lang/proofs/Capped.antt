@@ -4,7 +4,7 @@ use Rattle.std.proofs.lemmas.Bool.{cases_lt}
 use Rattle.std.proofs.lemmas.Bool.Decides.{nat_tests}
 use Rattle.query_core.specs.Filters.{Filter, constant, negated, height}
 use Rattle.query_core.specs.Limits.{leaves}
-use Rattle.query_lang.specs.declared.filter_reader.TheConstants.{MAX_HEIGHT}
+use Rattle.query_lang.specs.declared.operands.TheConstants.{MAX_HEIGHT}
 use Rattle.query_lang.specs.FilterReading.{capped_sum, kept, negated_times, State, atom}
 use Rattle.query_lang.specs.declared.filter_reader.Level.{Level}
 use Rattle.query_lang.specs.declared.filter_reader.Pending.{Pending}

@@ -15,7 +15,7 @@ use Rattle.query_core.specs.Limits.{leaves}
 use Rattle.query_lang.specs.declared.refusal.QueryRefusal.{QueryRefusal}
 use Rattle.query_lang.specs.declared.refusal.QueryRefusal.TheVariants.{TooMany, TooDeep}
 use Rattle.std.proofs.lemmas.Bool.Decides.{nat_tests}
-use Rattle.query_lang.specs.declared.filter_reader.Join.TheVariants as join
+use Rattle.query_lang.specs.declared.operands.Join.TheVariants as join
 use Rattle.query_lang.specs.Grammar.{FilterTree, alternatives, OrTail, no_or, or_and, AndTree, conjuncts, AndTail, no_and, and_not, NotTree, negation, one, Atom, nested, always, never, existing, comparing, listing, holding, filter_tokens, or_tokens, and_tokens, further_tokens, not_tokens, atom_tokens, filter_meaning, not_meaning, atom_meaning, any_of, FilterFits, OrsFit, AndFits, FurtherFit, NotFits, AtomFits, Segment, path_tokens, path_keys, Value, truth_value, value_token, value_tree, value_tokens, more_values}
 use Rattle.query_lang.specs.Tokens.{Token, word, sign}
 use Rattle.query_lang.proofs.Capped.{plus, atom_plus, with_not, plus_negated}

@@ -74,7 +74,7 @@ run_list total (stuck left there) s good = absurd good
 run_list total (none left) s good = absurd good
 
 -- a refused number is taken nowhere
-no_bad_token : (p : Pending) (s s' : State) → on_token p s bad_number ≡ Ok s' → ⊥
+pub no_bad_token : (p : Pending) (s s' : State) → on_token p s bad_number ≡ Ok s' → ⊥
 unfolding on_token on_operand segment_at item_at on_exists on_path on_value on_list on_first_item on_after_item on_joint
 no_bad_token pending.Operand s s' e = cc
 no_bad_token pending.ExistsSegment s s' e = cc

@@ -5,9 +5,9 @@ use Rattle.std.proofs.lemmas.List.{map-append}
 use Rattle.query_core.specs.Filters.{Filter, constant, operands_of, height, operands_height}
 use Rattle.query_core.specs.Limits.{leaves, operands_leaves}
 use Rattle.query_lang.specs.declared.filter_reader.Level.{Level}
-use Rattle.query_lang.specs.declared.filter_reader.TheConstants.{MAX_HEIGHT}
-use Rattle.query_lang.specs.declared.filter_reader.Join.{Join}
-use Rattle.query_lang.specs.declared.filter_reader.Join.TheVariants as join
+use Rattle.query_lang.specs.declared.operands.TheConstants.{MAX_HEIGHT}
+use Rattle.query_lang.specs.declared.operands.Join.{Join}
+use Rattle.query_lang.specs.declared.operands.Join.TheVariants as join
 use Rattle.query_lang.specs.declared.filter_reader.Pending.TheVariants as pending
 use Rattle.query_lang.specs.FilterText.{capped}
 use Rattle.query_lang.specs.FilterReading.{State, capped_sum, kept, negated_times, level_above, join_all, joined_all, put, with_operand, joined, joined_height, join_of, closed, without_pending}

@@ -6,11 +6,15 @@ pub mod NumeralLemmas
 pub mod StandsLemmas
 pub mod ReadingLemmas
 pub mod QuotedSpelling
+pub mod QuotedEnds
 pub mod WordSpelling
 pub mod SignSpelling
 pub mod NumberSpelling
 pub mod TokenSpelling
+pub mod LexemeCases
 pub mod TextReading
+pub mod Refused
+pub mod SpelledOut
 pub mod FilterTextReading
 pub mod OrderTextReading
 pub mod QueryTextReading
@@ -21,5 +25,10 @@ pub mod Capped
 pub mod Steps
 pub mod Frames
 pub mod Shadows
+pub mod Growing
 pub mod Soundness
+pub mod Completing
+pub mod FilterMending
+pub mod OrderMending
+pub mod NumberMending
 pub mod Completeness

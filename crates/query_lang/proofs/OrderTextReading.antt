@@ -83,7 +83,7 @@ run_list total (inside what left) s o e = cc
 run_list total (stuck left there) s o e = cc
 run_list total (none left) s o e = cc
 
-no_bad_token : (p : OrderPending) (s s' : State) → on_token p s bad_number ≡ Ok s' → ⊥
+pub no_bad_token : (p : OrderPending) (s s' : State) → on_token p s bad_number ≡ Ok s' → ⊥
 unfolding on_token on_item on_segment on_path
 no_bad_token pending.Start s s' e = cc
 no_bad_token pending.Item s s' e = cc
@@ -164,67 +164,67 @@ order_read (i ∷ is) few fits = items_read true [] i is (omega arith) fits
 -- ---- what is read is the tokens of items
 
 -- what was read of a path
-data Place : Type 0 where
+pub data Place : Type 0 where
   start_here : Place
   item_here : Place
   behind_dot : Segment → List Segment → Place
   behind_segment : Segment → List Segment → Place
 
 -- the items so far, the newest first, and what was read of the next; or the last item is whole
-data Shadow : Type 0 where
+pub data Shadow : Type 0 where
   within : List Item → Place → Shadow
   complete : List Item → Item → Shadow
 
-abbrev items_before : List Item → List Token → List Token
+abbrev pub items_before : List Item → List Token → List Token
 items_before [] rest = rest
 items_before (i ∷ is) rest = items_before is (item_tokens i (sign Comma ∷ rest))
 
-abbrev place_before : Place → List Token → List Token
+abbrev pub place_before : Place → List Token → List Token
 place_before start_here rest = rest
 place_before item_here rest = rest
 place_before (behind_dot seg ss) rest = path_tokens seg ss (sign Dot ∷ rest)
 place_before (behind_segment seg ss) rest = path_tokens seg ss rest
 
-abbrev shadow_before : Shadow → List Token → List Token
+abbrev pub shadow_before : Shadow → List Token → List Token
 shadow_before (within is p) rest = items_before is (place_before p rest)
 shadow_before (complete is i) rest = items_before is (item_tokens i rest)
 
-abbrev place_pending : Place → OrderPending
+abbrev pub place_pending : Place → OrderPending
 place_pending start_here = pending.Start
 place_pending item_here = pending.Item
 place_pending (behind_dot seg ss) = pending.Segment (path_keys seg ss)
 place_pending (behind_segment seg ss) = pending.Path (path_keys seg ss)
 
-abbrev shadow_pending : Shadow → OrderPending
+abbrev pub shadow_pending : Shadow → OrderPending
 shadow_pending (within is p) = place_pending p
 shadow_pending (complete is i) = pending.Joint
 
 -- the number of whole items
-abbrev shadow_count : Shadow → ℕ
+abbrev pub shadow_count : Shadow → ℕ
 shadow_count (within is p) = length is
 shadow_count (complete is i) = suc (length is)
 
-abbrev ListFits : List Item → Type 0
+abbrev pub ListFits : List Item → Type 0
 ListFits [] = Unit {0}
 ListFits (i ∷ is) = (length i.others < 8) × ListFits is
 
 -- nothing was read at the start, and a path has begun only below the limit
-abbrev PlaceFits : List Item → Place → Type 0
+abbrev pub PlaceFits : List Item → Place → Type 0
 PlaceFits is start_here = length is ≡ 0
 PlaceFits is item_here = length is ≤ 4
 PlaceFits is (behind_dot seg ss) = (length is < 4) × (length ss < 8)
 PlaceFits is (behind_segment seg ss) = (length is < 4) × (length ss < 8)
 
-abbrev ShadowFits : Shadow → Type 0
+abbrev pub ShadowFits : Shadow → Type 0
 ShadowFits (within is p) = ListFits is × PlaceFits is p
 ShadowFits (complete is i) = ListFits is × (length is < 4) × (length i.others < 8)
 
-record Follows (c : Shadow) (t : Token) (s : State) : Type 0 where
-  shadow : Shadow
-  same_pending : shadow_pending shadow ≡ s.pending
-  same_count : shadow_count shadow ≡ length s.paths
-  fits : ShadowFits shadow
-  before : (rest : List Token) → shadow_before shadow rest ≡ shadow_before c (t ∷ rest)
+pub record Follows (c : Shadow) (t : Token) (s : State) : Type 0 where
+  pub shadow : Shadow
+  pub same_pending : shadow_pending shadow ≡ s.pending
+  pub same_count : shadow_count shadow ≡ length s.paths
+  pub fits : ShadowFits shadow
+  pub before : (rest : List Token) → shadow_before shadow rest ≡ shadow_before c (t ∷ rest)
 
 taken : (c : Shadow) (t : Token) (x s : State) → ◌≡◌ {A = Result State Cause} (Ok x) (Ok s) → Follows c t x → Follows c t s
 taken c t x s e follows = let same : x ≡ s = cc in subst (Follows c t) same follows
@@ -381,7 +381,7 @@ joint_follows is i s (sign OpenList) s' count fits e = cc
 joint_follows is i s (sign CloseList) s' count fits e = cc
 joint_follows is i s (sign Dot) s' count fits e = cc
 
-token_follows : (c : Shadow) (s : State) (t : Token) (s' : State) → shadow_count c ≡ length s.paths → ShadowFits c → on_token (shadow_pending c) s t ≡ Ok s' → Follows c t s'
+pub token_follows : (c : Shadow) (s : State) (t : Token) (s' : State) → shadow_count c ≡ length s.paths → ShadowFits c → on_token (shadow_pending c) s t ≡ Ok s' → Follows c t s'
 unfolding on_token
 token_follows (within is start_here) s t s' count (fits, none_yet) e = item_follows is start_here s t s' count fits (λ rest. refl) e
 token_follows (within is item_here) s t s' count (fits, few) e = item_follows is item_here s t s' count fits (λ rest. refl) e
@@ -390,15 +390,15 @@ token_follows (within is (behind_segment seg ss)) s t s' count fits e = path_fol
 token_follows (complete is i) s t s' count fits e = joint_follows is i s t s' count fits e
 
 -- items in order
-abbrev listed_items : List Item → Item → List Item → List Item
+abbrev pub listed_items : List Item → Item → List Item → List Item
 listed_items [] i tail = i ∷ tail
 listed_items (j ∷ js) i tail = listed_items js j (i ∷ tail)
 
-listed_tokens : (js : List Item) (i : Item) (tail : List Item) (rest : List Token) → order_tokens (listed_items js i tail) rest ≡ items_before js (item_tokens i (more_items tail rest))
+pub listed_tokens : (js : List Item) (i : Item) (tail : List Item) (rest : List Token) → order_tokens (listed_items js i tail) rest ≡ items_before js (item_tokens i (more_items tail rest))
 listed_tokens [] i tail rest = refl
 listed_tokens (j ∷ js) i tail rest = listed_tokens js j (i ∷ tail) rest
 
-listed_len : (js : List Item) (i : Item) (tail : List Item) → length (listed_items js i tail) ≡ length js + length (i ∷ tail)
+pub listed_len : (js : List Item) (i : Item) (tail : List Item) → length (listed_items js i tail) ≡ length js + length (i ∷ tail)
 listed_len [] i tail = omega arith
 listed_len (j ∷ js) i tail = listed_len js j (i ∷ tail) ∙ omega arith
 
@@ -409,7 +409,7 @@ listed_fit (j ∷ js) i tail before fits = listed_fit js j (i ∷ tail) before.1
 abbrev pub HasItems : List Token → Type 0
 HasItems ts = (is : List Item) × (length is ≤ 4) × ItemsFit is × (order_tokens is [] ≡ ts)
 
-items_of : (is : List Item) (i : Item) → ListFits is → length is < 4 → length i.others < 8 → HasItems (items_before is (item_tokens i []))
+pub items_of : (is : List Item) (i : Item) → ListFits is → length is < 4 → length i.others < 8 → HasItems (items_before is (item_tokens i []))
 items_of is i fits room short = (listed_items is i [], omega (arith, listed_len is i []), listed_fit is i [] fits (short, tt), listed_tokens is i [] [])
 
 end_items : (c : Shadow) (paths o : Order) → ShadowFits c → got (ended 0 (shadow_pending c) paths) ≡ Some o → HasItems (shadow_before c [])

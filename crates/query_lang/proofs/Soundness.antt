@@ -185,6 +185,22 @@ item_follows ws w seg ss u us s t s' outer fits (Err x) is e = cc
 
 -- ---- where an operand is whole
 
+-- what is whole inside a parenthesis is one operand behind it
+pub close_shadow : (w : Waiting) (ws : List Waiting) (ors : List AndTree) (ands : List NotTree) (n : NotTree) → ShadowFits (whole (w ∷ ws) ors ands n)
+    → (m : NotTree) × ShadowFits (whole ws w.ors w.ands m) × ((rest : List Token) → shadow_before (whole ws w.ors w.ands m) rest ≡ shadow_before (whole (w ∷ ws) ors ands n) (sign Close ∷ rest))
+close_shadow w ws ors ands n fits =
+    let t = disjunction ors (conjunction ands n no_and) no_or in
+    let tokens : (rest : List Token) → filter_tokens t rest ≡ ors_before ors (ands_before ands (not_tokens n rest)) =
+    λ rest. disjunction_tokens ors (conjunction ands n no_and) no_or rest ∙ ap (ors_before ors) (conjunction_tokens ands n no_and rest) in
+    let (outer_fits, ors_fit, ands_fit, n_fits) = fits in
+    let (room, w_ors, w_ands, ws_fit) = outer_fits in
+    let inner_fits = disjunction_fits (suc (length ws)) ors (conjunction ands n no_and) no_or ors_fit (conjunction_fits (suc (length ws)) ands n no_and ands_fit n_fits tt) tt in (
+      negations w.nots (one (nested t)),
+      (ws_fit, w_ors, w_ands, negations_fit (length ws) w.nots (one (nested t)) (room, inner_fits)),
+      λ rest. ap (λ ts. outer_before ws (ors_before w.ors (ands_before w.ands ts)))
+          (negations_tokens w.nots (one (nested t)) rest ∙ ap (λ ts. nots_before w.nots (sign Open ∷ ts)) (tokens (sign Close ∷ rest))),
+    )
+
 -- a closing parenthesis
 close_follows : (ws : List Waiting) (ors : List AndTree) (ands : List NotTree) (n : NotTree) (s : State) (outer : List Level) (s' : State) → length ws ≡ length outer
     → ShadowFits (whole ws ors ands n) → closed s outer ≡ Ok s' → Follows (whole ws ors ands n) (sign Close) s'
@@ -192,20 +208,8 @@ unfolding closed
 close_follows ws ors ands n s [] s' same fits e = cc
 close_follows [] ors ands n s (level ∷ outer) s' same fits e = absurd (omega arith)
 close_follows (w ∷ ws) ors ands n s (level ∷ outer) s' same fits e =
-    let t = disjunction ors (conjunction ands n no_and) no_or in
-    let tokens : (rest : List Token) → filter_tokens t rest ≡ ors_before ors (ands_before ands (not_tokens n rest)) =
-    λ rest. disjunction_tokens ors (conjunction ands n no_and) no_or rest ∙ ap (ors_before ors) (conjunction_tokens ands n no_and rest) in
-    let (outer_fits, ors_fit, ands_fit, n_fits) = fits in
-    let (room, w_ors, w_ands, ws_fit) = outer_fits in
-    let inner_fits = disjunction_fits (suc (length ws)) ors (conjunction ands n no_and) no_or ors_fit (conjunction_fits (suc (length ws)) ands n no_and ands_fit n_fits tt) tt in
-    taken (whole (w ∷ ws) ors ands n) (sign Close) _ s' e (record {
-      shadow = whole ws w.ors w.ands (negations w.nots (one (nested t)));
-      same_pending = refl;
-      same_outer = omega arith;
-      fits = (ws_fit, w_ors, w_ands, negations_fit (length ws) w.nots (one (nested t)) (room, inner_fits));
-      before = λ rest. ap (λ ts. outer_before ws (ors_before w.ors (ands_before w.ands ts)))
-          (negations_tokens w.nots (one (nested t)) rest ∙ ap (λ ts. nots_before w.nots (sign Open ∷ ts)) (tokens (sign Close ∷ rest)));
-    })
+    let (m, m_fits, before) = close_shadow w ws ors ands n fits in
+    taken (whole (w ∷ ws) ors ands n) (sign Close) _ s' e (record { shadow = whole ws w.ors w.ands m; same_pending = refl; same_outer = omega arith; fits = m_fits; before = before })
 
 joint_follows : (ws : List Waiting) (ors : List AndTree) (ands : List NotTree) (n : NotTree) (s : State) (t : Token) (s' : State) → length ws ≡ length s.outer
     → ShadowFits (whole ws ors ands n) → on_joint s t ≡ Ok s' → Follows (whole ws ors ands n) t s'
@@ -491,7 +495,7 @@ abbrev pub HasTree : List Token → Type 0
 HasTree ts = (t : FilterTree) × FilterFits 0 t × (filter_tokens t [] ≡ ts)
 
 -- what is whole at the outermost level is a tree
-whole_tree : (ors : List AndTree) (ands : List NotTree) (n : NotTree) → ShadowFits (whole [] ors ands n) → HasTree (ors_before ors (ands_before ands (not_tokens n [])))
+pub whole_tree : (ors : List AndTree) (ands : List NotTree) (n : NotTree) → ShadowFits (whole [] ors ands n) → HasTree (ors_before ors (ands_before ands (not_tokens n [])))
 whole_tree ors ands n (ws_fit, ors_fit, ands_fit, n_fits) = (
   disjunction ors (conjunction ands n no_and) no_or,
   disjunction_fits 0 ors (conjunction ands n no_and) no_or ors_fit (conjunction_fits 0 ands n no_and ands_fit n_fits tt) tt,

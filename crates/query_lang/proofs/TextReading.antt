@@ -43,7 +43,7 @@ blanks_end bytes blank =
     let count : prefix_len is_blank bytes ≡ length bytes = ap (prefix_len is_blank) (sym (append-nil bytes)) ∙ prefix_len-run is_blank bytes [] blank refl in
     no_byte (after_blanks bytes) (omega (arith, length-drop (prefix_len is_blank bytes) bytes))
 
-spelled_some : (t : Token) → IsToken t → 0 < length (spelled t)
+pub spelled_some : (t : Token) → IsToken t → 0 < length (spelled t)
 spelled_some t is = not_empty (spelled t) (no_blank t (32 ∷ []) is) where
   not_empty : (bytes : List ℕ) → is_blank (first (bytes ++ 32 ∷ [])) ≡ false → 0 < length bytes
   not_empty [] e = cc
@@ -86,7 +86,7 @@ sign_no_end bytes None e =
     ]
 
 -- a text with a byte that is no blank does not end
-no_end : (b : ℕ) (bs : List ℕ) → lexeme_at (b ∷ bs) ≡ ends → ⊥
+pub no_end : (b : ℕ) (bs : List ℕ) → lexeme_at (b ∷ bs) ≡ ends → ⊥
 no_end b bs e =
     elim (tested (is_letter b)) [
       | inl letter ↦ (let no = sym (at_word (b ∷ bs) (some_byte (length bs)) letter) ∙ e in cc)

@@ -9,10 +9,11 @@ use Rattle.query_lang.specs.declared.filter_reader.Asked.TheVariants.{Compare as
 use Rattle.query_lang.specs.declared.filter_reader.Pending.{Pending}
 use Rattle.query_lang.specs.declared.filter_reader.Pending.TheVariants as pending
 use Rattle.query_lang.specs.declared.filter_reader.Level.{Level}
-use Rattle.query_lang.specs.declared.filter_reader.Join.{Join}
-use Rattle.query_lang.specs.declared.filter_reader.Join.TheVariants as join
+use Rattle.query_lang.specs.declared.operands.Join.{Join}
+use Rattle.query_lang.specs.declared.operands.Join.TheVariants as join
 use Rattle.query_lang.specs.declared.filter_reader.FilterReader.{FilterReader}
-use Rattle.query_lang.specs.declared.filter_reader.TheConstants.{MAX_HEIGHT, MAX_LEAVES, MAX_OPEN}
+use Rattle.query_lang.specs.declared.filter_reader.TheConstants.{MAX_LEAVES, MAX_OPEN}
+use Rattle.query_lang.specs.declared.operands.TheConstants.{MAX_HEIGHT}
 use Rattle.query_lang.specs.declared.refusal.Cause.{Cause}
 use Rattle.query_lang.specs.declared.refusal.Cause.TheVariants as cause
 use Rattle.query_lang.specs.declared.token.Reserved.TheVariants.{And, Or, Not, In, Has, Exists, True, False, Null}

@@ -3,6 +3,7 @@ pub mod FilterReading
 pub mod FilterText
 pub mod Grammar
 pub mod Lexing
+pub mod Mending
 pub mod Numbers
 pub mod OrderReading
 pub mod OrderText

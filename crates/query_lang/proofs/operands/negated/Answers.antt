@@ -2,7 +2,7 @@
 use Rattle.std.proofs.Common.{◌≡◌, ◌+◌, ◌-◌, suc, sym, ap, ◌∙◌, arith}
 use Rattle.query_core.specs.Filters.{negated}
 use Rattle.query_lang.specs.FilterReading.{negated_times}
-use Rattle.query_lang.proofs.filter_reader.negated.Goals as goal
+use Rattle.query_lang.proofs.operands.negated.Goals as goal
 
 pub nots-preserved : goal.nots-preserved
 nots-preserved c =
