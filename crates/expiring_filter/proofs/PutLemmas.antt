@@ -1,6 +1,7 @@
 -- A key put among the held ones.
-use Rattle.std.proofs.Common.{◌≡◌, ◌⊎◌, ℕ, ◌+◌, ◌*◌, ◌^◌, ◌<◌, ◌≤◌, ◌==◌, zero, suc, max, true, false, List, [], ◌∷◌, ◌++◌, length, take, drop, get_or, Contains, Some, None, IsTrue, refl, sym, ap, ◌∙◌, subst, arith, inl, inr, length-append}
-use Rattle.std.specs.Map.{lookup}
+use Rattle.std.proofs.Common.{◌≡◌, ◌⊎◌, ℕ, ◌+◌, ◌*◌, ◌^◌, ◌<◌, ◌≤◌, ◌==◌, zero, suc, max, true, false, List, [], ◌∷◌, ◌++◌, length, take, drop, get_or, Contains, Some, None, IsTrue, nat_lt, refl, sym, ap, ◌∙◌, subst, arith, inl, inr, length-append}
+use Rattle.std.specs.Map.{lookup, keys_of}
+use Rattle.std.specs.List.{slice_get, position, position_or_len}
 use Rattle.std.specs.List.Sorted.{IsPermutation}
 use Rattle.std.specs.declared.cmp.Reverse.{Reverse}
 use Rattle.std.proofs.lemmas.Bool.{cases_Bool, cases_lt}
@@ -10,13 +11,14 @@ use Rattle.std.proofs.lemmas.List.Sorted.{Contains-permutation}
 use Rattle.std.proofs.Math.Seq.{get_or-append_seam}
 use Rattle.std.proofs.lemmas.List.FromFn.{length-map-range_with_len}
 use Rattle.q_base.specs.Positions.{positions_of}
-use Rattle.indexmap.specs.IndexMap.{insert_entry}
+use Rattle.indexmap.specs.IndexMap.{insert_entry, set_value_at}
 use Rattle.query_normal.specs.declared.key.KeyShape.{KeyShape}
 use Rattle.query_normal.specs.Keys.{same_key}
 use Rattle.query_normal.specs.Pages.{positions}
 use Rattle.expiring_filter.specs.Counts.{times, IsFlat}
 use Rattle.expiring_filter.specs.Due.{due, IsCovered}
-use Rattle.expiring_filter.specs.Held.{count_among, IsCounted, put_until, is_among}
+use Rattle.expiring_filter.specs.Held.{count_among, IsCounted, IsSound, put_until, is_among}
+use Rattle.expiring_filter.proofs.FilterLemmas.{unexpired_put}
 use Rattle.expiring_filter.proofs.HeldLemmas.{whole_written, due_later}
 
 -- what a put gives, where the key is held
@@ -229,3 +231,63 @@ pub counted_put : (log2_bits hashes : ℕ) (held entries : List (KeyShape × ℕ
 counted_put log2_bits hashes held entries key until counters lent after bytes bytes_lent bits places len bytes_len is few c at value long same bytes_value bytes_long bytes_same raised flat =
     subst (λ (xs : List (KeyShape × ℕ)). IsCounted log2_bits hashes xs (take len (after ++ drop (length after) counters)) (take bytes_len (bits ++ drop (length bits) bytes))) (sym is)
     (counted_with log2_bits hashes held key until counters lent after bytes bytes_lent bits places len bytes_len few c at value long same bytes_value bytes_long bytes_same raised flat)
+
+-- the place that a look-up finds
+place_found : (key : KeyShape) (keys : List KeyShape) (place : ℕ) → Some place ≡ position (same_key key) keys → place ≡ position_or_len (same_key key) keys
+place_found key keys place found =
+    elim (cases_Bool (nat_lt (position_or_len (same_key key) keys) (length keys))) [
+      | inl within ↦ (let own : Some place ≡ Some (position_or_len (same_key key) keys) = rw within at found in cc)
+      | inr past ↦ absurd (let none : Some place ≡ None = rw past at found in cc)
+    ]
+
+-- the greater second written there is the put
+set_put : (held : List (KeyShape × ℕ)) (key owner : KeyShape) (place before until : ℕ) → place ≡ position_or_len (same_key key) (keys_of held) → slice_get held place ≡ Some (owner, before) →
+    set_value_at held place (max before until) ≡ put_until held key until
+set_put [] key owner place before until at there = absurd (let e = there in cc)
+set_put (e ∷ held) key owner place before until at there =
+    elim (cases_Bool (same_key key e.0)) [
+      | inl hit ↦ (
+          let first : place ≡ 0 = rw hit at at in
+          let own : Some e ≡ Some (owner, before) = ap (slice_get (e ∷ held)) (sym first) ∙ there in
+          let same : e.1 ≡ before = ap (λ (x : KeyShape × ℕ). x.1) (let h : e ≡ (owner, before) = cc in h) in
+          ap (λ (i : ℕ). set_value_at (e ∷ held) i (max before until)) first
+          ∙ ap (λ (u : ℕ). (e.0, max u until) ∷ held) (sym same)
+          ∙ rw hit refl)
+      | inr other ↦ (
+          let rest = position_or_len (same_key key) (keys_of held) in
+          let behind : place ≡ 1 + rest = rw other at at in
+          let next : place ≡ suc rest = omega (arith, behind) in
+          let own : slice_get held rest ≡ Some (owner, before) = ap (slice_get (e ∷ held)) (sym next) ∙ there in
+          ap (λ (i : ℕ). set_value_at (e ∷ held) i (max before until)) next
+          ∙ ap (λ (xs : List (KeyShape × ℕ)). e ∷ xs) (set_put held key owner rest before until refl own)
+          ∙ rw other refl)
+    ]
+
+-- the same, where a look-up found the place
+pub delay_put : (held : List (KeyShape × ℕ)) (key owner : KeyShape) (place before until second : ℕ) → Some place ≡ position (same_key key) (keys_of held) → slice_get held place ≡ Some (owner, before) → second ≡ max before until →
+    set_value_at held place second ≡ put_until held key until
+delay_put held key owner place before until second found there is =
+    ap (set_value_at held place) is ∙ set_put held key owner place before until (place_found key (keys_of held) place found) there
+
+-- a held key is found
+pub among_found : (held : List (KeyShape × ℕ)) (key : KeyShape) → IsTrue (is_among held key) → (before : ℕ) × (lookup (same_key key) held ≡ Some before)
+among_found [] key among = absurd (let e = among in cc)
+among_found (e ∷ held) key among =
+    elim (cases_Bool (same_key key e.0)) [
+      | inl hit ↦ (e.1, rw hit refl)
+      | inr other ↦ (let rest = among_found held key (rw other at among) in (rest.0, rw other rest.1))
+    ]
+
+-- what is kept where a held key is given the later second
+pub sound_delayed : (log2_bits hashes clock : ℕ) (held after : List (KeyShape × ℕ)) (queue : List (Reverse (ℕ × ℕ))) (counters bytes : List ℕ) (key : KeyShape) (until : ℕ) → IsTrue (is_among held key) → clock < until →
+    after ≡ put_until held key until → IsSound log2_bits hashes clock held queue counters bytes → IsSound log2_bits hashes clock after queue counters bytes
+sound_delayed log2_bits hashes clock held after queue counters bytes key until among late is sound =
+    let there = among_found held key among in
+    let r = put_replaces held key there.0 until there.1 in
+    subst (λ (xs : List (KeyShape × ℕ)). IsSound log2_bits hashes clock xs queue counters bytes) (sym is)
+    (record {
+      counted = counted_risen log2_bits hashes held (put_until held key until) key until counters bytes r sound.counted;
+      ordered = sound.ordered;
+      covered = covered_risen held (put_until held key until) queue key until r sound.covered;
+      unexpired = unexpired_put clock held key until late sound.unexpired;
+    })

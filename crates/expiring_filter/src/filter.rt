@@ -8,9 +8,9 @@ ghost use Rattle.expiring_filter.specs.Held.{put_until, Expires};
 ghost use Rattle.std.specs.List.{list_any, IsDistinct};
 ghost use Rattle.std.specs.BinaryHeap.{heap_items, heap_len, heap_capacity};
 ghost use Rattle.indexmap.specs.IndexMap.{index_map_len, spare};
-ghost use Rattle.indexmap.specs.IndexSet.{index_set_len};
+ghost use Rattle.indexmap.specs.IndexSet.{spare as set_spare, index_set_len};
 
-use crate::held::{Counters, Held, drop_at, expire, put};
+use crate::held::{Counters, Held, delay, drop_at, expire, put};
 use crate::queue::Queue;
 use indexmap::{IndexMap, IndexSet};
 use q_base::{Memory, Moment};
@@ -95,9 +95,10 @@ impl CountingFilter {
         Ok(())
     }
 
-    /// Holds a reserved key until a second, or until the later one where it is held.
+    /// Holds a key until a second, or until the later one where it is held. A key that is not held
+    /// was reserved; what was reserved for the key is used up.
     pub fn add(&mut self, key: &Key, until: u64)
-        requires reserved { IsTrue (is_reserved self.old key.now) }
+        requires reserved { IsTrue (is_reserved self.old key.now) ⊎ IsTrue (is_held self.old key.now) }
         requires few { IsTrue (is_held self.old key.now) ⊎ (length self.old.held < 1000000) }
         requires later { self.old.clock < until }
         ensures held { self.new.held ≡ put_until self.old.held key.now until }
@@ -112,7 +113,7 @@ impl CountingFilter {
                 copy,
                 until,
             ),
-            None => unreachable!(),
+            None => delay(&mut self.held, key, until),
         }
     }
 
@@ -144,7 +145,7 @@ impl CountingFilter {
     pub fn forget_reserved(&mut self)
         ensures { self.new ≡ record self.old { reserved = [] } }
     {
-        self.reserved.clear();
+        take_all(&mut self.reserved);
     }
 
     /// Whether the key is held.
@@ -207,4 +208,12 @@ fn stash(
         Ok(_) => Ok(()),
         Err(_) => unreachable!(),
     }
+}
+
+/// Takes the keys out one by one, so that it costs nothing for the room that they leave.
+fn take_all(left: &mut IndexSet<Key>)
+    ensures keys { left.new.keys ≡ [] }
+    ensures room { set_spare left.old ≤ set_spare left.new }
+{
+    while left.pop().is_some() {}
 }

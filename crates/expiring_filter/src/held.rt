@@ -174,6 +174,22 @@ pub fn held_until(held: &Held, key: &Key) -> Option<u64>
     held.get(key).copied()
 }
 
+/// Gives a held key the later second. It takes no memory.
+pub fn delay(held: &mut Held, key: &Key, until: u64)
+    requires { IsTrue (is_among held.old.entries key.now) }
+    ensures held { held.new.entries ≡ put_until held.old.entries key.now until }
+    ensures len { index_map_len held.new ≡ index_map_len held.old }
+    ensures spare { spare held.new ≡ spare held.old }
+{
+    match held.get_index_of(key) {
+        Some(place) => {
+            let (_, second) = held.pair_mut(place);
+            *second = (*second).max(until);
+        }
+        None => unreachable!(),
+    }
+}
+
 /// Puts a key in, or gives a held one another second. It takes no memory.
 fn insert(held: &mut Held, key: Key, until: u64)
     requires { 0 < spare held.old }
