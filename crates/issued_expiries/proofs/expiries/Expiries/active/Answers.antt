@@ -1,0 +1,12 @@
+use Rattle.std.proofs.Common.{sym, ap, ◌∙◌}
+use Rattle.issued_expiries.specs.Copies.{is_active}
+use Rattle.issued_expiries.specs.Expiries.{Issued}
+use Rattle.issued_expiries.proofs.ViewLemmas.{active_kept}
+use Rattle.issued_expiries.proofs.expiries.Expiries.active.Goals as goal
+
+-- a key is active where it is held
+pub returns : goal.returns
+returns c =
+    c.contains_key.ensures
+    ∙ sym (active_kept c.self.inside.clock c.self.inside.held.entries c.args.key.now c.self.invariant.sound.distinct c.self.invariant.sound.unexpired)
+    ∙ ap (λ (i : Issued). is_active i.held c.args.key.now) c.self.view_is

@@ -1,0 +1,75 @@
+-- What is kept of keys: the copies of each, of which at least one is unexpired.
+use Rattle.std.specs.Prelude.{◌≡◌, ◌⊎◌, ℕ, ◌<◌, ◌≤◌, Bool, true, false, max, if◌then◌else◌, List, [], ◌∷◌, ◌++◌, length, map, filter, slice_index_or, Option, Some, None, IfSome}
+use Rattle.std.specs.List.{list_any, IsDistinct}
+use Rattle.std.specs.Map.{lookup, keys_of}
+use Rattle.std.specs.declared.cmp.Reverse.{Reverse}
+use Rattle.std.specs.BinaryHeap.{IsHeap}
+use Rattle.query_normal.specs.declared.key.KeyShape.{KeyShape}
+use Rattle.query_normal.specs.Keys.{same_key}
+use Rattle.issued_expiries.specs.Copies.{Copy}
+use Rattle.issued_expiries.specs.KeyCopies.{Kept, HasRoom, greatest, is_later, last_until}
+use Rattle.issued_expiries.specs.Due.{queue_cmp, IsCovered}
+
+-- keys, each with its copies
+abbrev pub Entries : Type 0
+Entries = List (KeyShape × Kept)
+
+-- the copies of a key
+abbrev pub kept_of : KeyShape → Entries → Option Kept
+kept_of key entries = lookup (same_key key) entries
+
+-- the unexpired copies of all keys
+abbrev pub held_of : ℕ → Entries → List Copy
+held_of clock [] = []
+held_of clock (e ∷ entries) = map (λ copy. (e.0, copy.0, copy.1)) (filter (is_later clock) e.1.copies) ++ held_of clock entries
+
+-- the greatest until of copies whose commits pass a test, or 0 without one
+abbrev pub greatest_in : (ℕ → Bool) → Option Kept → ℕ
+greatest_in test None = 0
+greatest_in test (Some kept) = greatest test kept.copies
+
+-- each key has an unexpired copy
+abbrev pub AreUnexpired : ℕ → Entries → Type 0
+AreUnexpired clock entries = (key : KeyShape) → IfSome (kept_of key entries) (λ kept. clock < last_until kept)
+
+-- each key of a list has room for a copy, if it is kept
+abbrev pub HaveRoom : List KeyShape → Entries → Type 0
+HaveRoom reserved entries = (key : KeyShape) → list_any (same_key key) reserved ≡ true → IfSome (kept_of key entries) HasRoom
+
+-- no key of a list is kept
+abbrev pub AreGone : List KeyShape → Entries → Type 0
+AreGone idle entries = (key : KeyShape) → list_any (same_key key) idle ≡ true → kept_of key entries ≡ None
+
+-- the queue covers the places of the keys, of which each has an unexpired copy
+pub record IsSound (clock : ℕ) (entries : Entries) (queue : List (Reverse (ℕ × ℕ))) (reserved idle : List KeyShape) : Type 0 where
+  pub distinct : IsDistinct same_key (keys_of entries)
+  pub few : length entries ≤ 1000000
+  pub unexpired : AreUnexpired clock entries
+  pub ordered : IsHeap queue_cmp queue
+  pub covered : IsCovered entries queue
+  pub room : HaveRoom reserved entries
+  pub gone : AreGone idle entries
+
+-- what a moment does to a key: it stays as it was, or its last copy expired and it became idle
+abbrev pub Ages : ℕ → Option Kept → Option Kept → Bool → Bool → Type 0
+Ages moment before after was_idle is_idle =
+    ((after ≡ before) × (is_idle ≡ was_idle))
+    ⊎ ((kept : Kept) × (before ≡ Some kept) × (last_until kept ≤ moment) × (after ≡ None) × (is_idle ≡ true))
+
+-- a moment did so to each key
+abbrev pub AllAge : ℕ → Entries → Entries → List KeyShape → List KeyShape → Type 0
+AllAge moment before after was_idle is_idle =
+    (key : KeyShape) → Ages moment (kept_of key before) (kept_of key after) (list_any (same_key key) was_idle) (list_any (same_key key) is_idle)
+
+-- a key has a copy more, and every other has the same
+pub record Puts (key : KeyShape) (commit until : ℕ) (before after : Entries) : Type 0 where
+  pub copies : (test : ℕ → Bool) → greatest_in test (kept_of key after) ≡ max (greatest_in test (kept_of key before)) (if test commit then until else 0)
+  pub others : (other : KeyShape) → same_key key other ≡ false → kept_of other after ≡ kept_of other before
+
+-- what expired was left out of the copies of a key
+pub record Trims (clock : ℕ) (key : KeyShape) (before after : Entries) : Type 0 where
+  pub keys : keys_of after ≡ keys_of before
+  pub held : held_of clock after ≡ held_of clock before
+  pub lasts : (i : ℕ) (d : KeyShape × Kept) → last_until (slice_index_or after i d).1 ≡ last_until (slice_index_or before i d).1
+  pub last : greatest_in (λ _. true) (kept_of key after) ≡ greatest_in (λ _. true) (kept_of key before)
+  pub others : (other : KeyShape) → same_key key other ≡ false → kept_of other after ≡ kept_of other before

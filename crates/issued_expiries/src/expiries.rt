@@ -1,0 +1,248 @@
+//! The unexpired copies of all keys.
+ghost use Rattle.std.specs.Prelude.{◌≡◌, ◌⊎◌, ℕ, ◌+◌, ◌*◌, ◌<◌, ◌≤◌, max, not, ◌&&◌, ◌||◌, if◌then◌else◌, nat_lt, true, false, [], IsTrue, IfOk, OnOk, OnErr, IfSome, IfNone, All};
+ghost use Rattle.std.specs.List.{list_any};
+ghost use Rattle.std.specs.BinaryHeap.{heap_items, heap_len, heap_capacity};
+ghost use Rattle.indexmap.specs.IndexMap.{index_map_len, spare};
+ghost use Rattle.indexmap.specs.IndexSet.{spare as set_spare, index_set_len};
+ghost use Rattle.query_normal.specs.declared.key.KeyShape.{KeyShape as AKey};
+ghost use Rattle.query_normal.specs.Keys.{same_key};
+ghost use Rattle.issued_expiries.specs.Copies.{SameCopies, active_keys, is_active, latest_of, unexpired, with_copy};
+ghost use Rattle.issued_expiries.specs.Expiries.{none_issued, is_idle, is_reserved};
+
+use crate::held::{Held, expire, make_room, put};
+use crate::queue::Queue;
+use indexmap::{IndexMap, IndexSet};
+use q_base::{Commit, Memory, Moment};
+use query_normal::Key;
+use std::alloc::Global;
+use std::collections::BinaryHeap;
+use std::marker::Model;
+
+/// The copies that were issued of keys and are not expired, and the keys of which none is left.
+#[derive(Drop)]
+pub struct Expiries {
+    alloc: Global,
+    clock: u64,
+    held: Held,
+    queue: Queue,
+    reserved: IndexSet<Key>,
+    idle: IndexSet<Key>,
+}
+
+impl Model for Expiries {
+    ghost use Rattle.std.specs.Prelude.{◌+◌, ◌*◌, ◌≤◌};
+    ghost use Rattle.std.specs.BinaryHeap.{heap_items, heap_len, heap_capacity};
+    ghost use Rattle.indexmap.specs.IndexMap.{index_map_len, spare};
+    ghost use Rattle.indexmap.specs.IndexSet.{spare as set_spare, index_set_len};
+    ghost use Rattle.issued_expiries.specs.Entries.{IsSound, held_of};
+    ghost use Rattle.issued_expiries.specs.Expiries.{Issued};
+
+    ghost Value = { Issued };
+
+    ghost view = { λ e. record {
+      clock = e.clock;
+      held = held_of e.clock e.held.entries;
+      reserved = e.reserved.keys;
+      idle = e.idle.keys;
+    } };
+
+    ghost invariant = { λ e. record {
+      sound : IsSound e.clock e.held.entries (heap_items e.queue) e.reserved.keys e.idle.keys;
+      map_room : index_set_len e.reserved ≤ spare e.held;
+      idle_room : index_map_len e.held + index_set_len e.reserved ≤ set_spare e.idle;
+      queue_room : heap_len e.queue + index_map_len e.held + 2 * index_set_len e.reserved ≤ heap_capacity e.queue;
+    } };
+}
+
+impl Expiries {
+    /// Nothing is issued yet.
+    pub fn new(alloc: Global) -> Result<Expiries, Memory>
+        ensures { IfOk result (λ expiries. expiries ≡ none_issued) }
+    {
+        Ok(Expiries {
+            alloc,
+            clock: 0,
+            held: IndexMap::new(alloc),
+            queue: BinaryHeap::new(alloc),
+            reserved: IndexSet::new(alloc),
+            idle: IndexSet::new(alloc),
+        })
+    }
+
+    /// Makes room for a copy of a key, so that one `issue` of it takes no memory. What was reserved
+    /// before stays so.
+    pub fn reserve(&mut self, key: &Key) -> Result<(), Memory>
+        ensures ok { OnOk result (IsTrue (is_reserved self.new key.now)) }
+        ensures others { (other : AKey) → same_key key.now other ≡ false → is_reserved self.new other ≡ is_reserved self.old other }
+        ensures rest { self.new ≡ record self.old { reserved = self.new.reserved } }
+        ensures err { OnErr result (self.new ≡ self.old) }
+    {
+        if self.reserved.contains(key) {
+            return Ok(());
+        }
+        let copy = key.clone()?;
+        make_room(&mut self.held, self.alloc, key, self.clock)?;
+        stash(
+            &mut self.held,
+            &mut self.queue,
+            &mut self.idle,
+            &mut self.reserved,
+            copy,
+        )
+    }
+
+    /// Holds a copy of a reserved key at a commit until a second, if that is later than the clock. A
+    /// held copy at the commit keeps the later of the two. The key is not reserved any more.
+    pub fn issue(&mut self, key: &Key, commit: Commit, until: u64)
+        requires reserved { IsTrue (is_reserved self.old key.now) }
+        requires few { IsTrue (is_active self.old.held key.now) ⊎ (active_keys self.old.held < 1000000) }
+        ensures held { SameCopies self.new.held (with_copy self.old.clock (key.now, commit, until) self.old.held) }
+        ensures idle { (other : AKey) → is_idle self.new other ≡ (not (same_key key.now other && nat_lt self.old.clock until) && is_idle self.old other) }
+        ensures reserved { (other : AKey) → is_reserved self.new other ≡ (not (same_key key.now other) && is_reserved self.old other) }
+        ensures clock { self.new.clock ≡ self.old.clock }
+    {
+        match self.reserved.swap_take(key) {
+            Some(copy) => {
+                if until <= self.clock {
+                    return;
+                }
+                self.idle.swap_remove(key);
+                put(
+                    &mut self.held,
+                    &mut self.queue,
+                    self.alloc,
+                    copy,
+                    commit,
+                    until,
+                );
+            }
+            None => unreachable!(),
+        }
+    }
+
+    /// Moves the clock forward to a moment. The copies that are not later expire, and each key of
+    /// which none is left becomes idle.
+    pub fn advance(&mut self, moment: Moment)
+        ensures clock { self.new.clock ≡ max self.old.clock moment }
+        ensures held { SameCopies self.new.held (unexpired self.new.clock self.old.held) }
+        ensures idle { (key : AKey) → is_idle self.new key ≡ (is_idle self.old key || is_active self.old.held key && not (is_active self.new.held key)) }
+        ensures reserved { self.new.reserved ≡ self.old.reserved }
+    {
+        let seconds = moment.seconds();
+        if self.clock < seconds {
+            self.clock = seconds;
+            expire(&mut self.held, &mut self.idle, &mut self.queue, seconds);
+        }
+    }
+
+    /// Whether the key has an unexpired copy.
+    pub fn active(&self, key: &Key) -> bool
+        ensures { result ≡ is_active self.now.held key.now }
+    {
+        self.held.contains_key(key)
+    }
+
+    /// How many keys have an unexpired copy.
+    pub fn active_count(&self) -> u32
+        ensures count { result ≡ active_keys self.now.held }
+        ensures few { result ≤ 1000000 }
+        ensures unexpired { All (λ copy. self.now.clock < copy.2) self.now.held }
+    {
+        self.held.len() as u32
+    }
+
+    /// The greatest until of the unexpired copies of a key at or above a commit and below another.
+    /// It takes logarithmic time.
+    pub fn latest(&self, key: &Key, from: Commit, below: Commit) -> Option<u64>
+        ensures { result ≡ latest_of self.now.held key.now from below }
+    {
+        match self.held.get(key) {
+            Some(copies) => later_than(copies.greatest(from, below), self.clock),
+            None => None,
+        }
+    }
+
+    /// Gives an idle key, which is not idle any more.
+    pub fn next_idle(&mut self) -> Option<Key>
+        ensures some { IfSome result (λ key. IsTrue (is_idle self.old key)) }
+        ensures inactive { IfSome result (λ key. is_active self.old.held key ≡ false) }
+        ensures given { IfSome result (λ key. (other : AKey) → is_idle self.new other ≡ (not (same_key key other) && is_idle self.old other)) }
+        ensures none { IfNone result (self.old.idle ≡ []) }
+        ensures rest { self.new ≡ record self.old { idle = self.new.idle } }
+    {
+        take_one(&mut self.idle)
+    }
+
+    /// Gives up the idle keys.
+    pub fn forget_idle(&mut self)
+        ensures { self.new ≡ record self.old { idle = [] } }
+    {
+        take_all(&mut self.idle);
+    }
+
+    /// Gives back what was reserved and not used.
+    pub fn forget_reserved(&mut self)
+        ensures { self.new ≡ record self.old { reserved = [] } }
+    {
+        take_all(&mut self.reserved);
+    }
+}
+
+/// Takes a key out, if there is one.
+fn take_one(keys: &mut IndexSet<Key>) -> Option<Key>
+    ensures some { IfSome result (λ key. IsTrue (list_any (same_key key) keys.old.keys)) }
+    ensures taken { IfSome result (λ key. (other : AKey) → list_any (same_key other) keys.new.keys ≡ (not (same_key key other) && list_any (same_key other) keys.old.keys)) }
+    ensures none { IfNone result (keys.old.keys ≡ []) }
+    ensures unchanged { IfNone result (keys.new.keys ≡ []) }
+    ensures spare { set_spare keys.old ≤ set_spare keys.new }
+{
+    keys.pop()
+}
+
+/// A second, if it is later than another.
+fn later_than(until: u64, clock: u64) -> Option<u64>
+    ensures { result ≡ (if nat_lt clock until then Some until else None) }
+{
+    if clock < until { Some(until) } else { None }
+}
+
+/// Keeps a key of which a copy is to be issued, with room for it wherever it may go.
+fn stash(
+    held: &mut Held,
+    queue: &mut Queue,
+    idle: &mut IndexSet<Key>,
+    reserved: &mut IndexSet<Key>,
+    key: Key,
+) -> Result<(), Memory>
+    requires map_room { index_set_len reserved.old ≤ spare held.old }
+    requires idle_room { index_map_len held.old + index_set_len reserved.old ≤ set_spare idle.old }
+    requires queue_room { heap_len queue.old + index_map_len held.old + 2 * index_set_len reserved.old ≤ heap_capacity queue.old }
+    ensures entries { held.new.entries ≡ held.old.entries }
+    ensures items { heap_items queue.new ≡ heap_items queue.old }
+    ensures idle { idle.new.keys ≡ idle.old.keys }
+    ensures map_room { index_set_len reserved.new ≤ spare held.new }
+    ensures idle_room { index_map_len held.new + index_set_len reserved.new ≤ set_spare idle.new }
+    ensures queue_room { heap_len queue.new + index_map_len held.new + 2 * index_set_len reserved.new ≤ heap_capacity queue.new }
+    ensures ok { OnOk result ((other : AKey) → list_any (same_key other) reserved.new.keys ≡ (same_key key other || list_any (same_key other) reserved.old.keys)) }
+    ensures err { OnErr result (reserved.new.keys ≡ reserved.old.keys) }
+{
+    let more = reserved.len() + 1;
+    let keys = more.checked_add(held.len()).ok_or(Memory)?;
+    let places = more.checked_add(keys).ok_or(Memory)?;
+    held.reserve(more)?;
+    idle.reserve(keys)?;
+    queue.reserve(places)?;
+    reserved.reserve(1)?;
+    match reserved.insert(key) {
+        Ok(_) => Ok(()),
+        Err(_) => unreachable!(),
+    }
+}
+
+/// Takes the keys out one by one, so that it costs nothing for the room that they leave.
+fn take_all(left: &mut IndexSet<Key>)
+    ensures keys { left.new.keys ≡ [] }
+    ensures room { set_spare left.old ≤ set_spare left.new }
+{
+    while left.pop().is_some() {}
+}
