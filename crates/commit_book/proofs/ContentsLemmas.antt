@@ -1,0 +1,35 @@
+-- What an addition answers and leaves.
+use Rattle.std.proofs.Common.{◌≡◌, ℕ, ◌+◌, ◌≤◌, true, false, [], ◌∷◌, ◌++◌, Option, Some, None, IfSome, length, nat_le, ap, ◌∙◌, subst, arith}
+use Rattle.std.specs.Option.{option_map_or}
+use Rattle.std.specs.declared.result.Result.TheVariants.{Ok}
+use Rattle.std.proofs.lemmas.Bool.{le-leb}
+use Rattle.commit_book.specs.declared.change.Change.{Change}
+use Rattle.commit_book.specs.Contents.{Contents, added, is_reserved, with_commit}
+use Rattle.commit_book.specs.Journal.{cost_of, kept}
+use Rattle.commit_book.specs.Same.{same_change}
+use Rattle.commit_book.proofs.GrowLemmas.{kept_more}
+use Rattle.commit_book.proofs.SameLemmas.{same_is, same_itself}
+
+-- what holds of the item that is there
+pub holds_there : {X : Type 0} (P : X → Type 0) (o : Option X) (x : X) → Some x ≡ o → IfSome o P → P x
+holds_there P None x e h = absurd (cc)
+holds_there P (Some y) x e h = let same : y ≡ x = cc in subst P same h
+
+-- a reserved change is the one that was reserved
+pub reserved_is : (book : Contents) (change : Change) → is_reserved book change ≡ true → book.reserved ≡ Some change
+reserved_is book change h = by book.reserved h
+  where
+    by : (o : Option Change) → option_map_or (λ (r : Change). same_change r change) o false ≡ true → o ≡ Some change
+    by None e = absurd (cc)
+    by (Some r) e = ap Some (same_is r change e)
+
+pub is_reserved_from : (book : Contents) (change : Change) → book.reserved ≡ Some change → is_reserved book change ≡ true
+is_reserved_from book change h = ap (λ (o : Option Change). option_map_or (λ (r : Change). same_change r change) o false) h ∙ same_itself change
+
+-- a change that was added had its place
+pub told_added : (old new : Contents) (change : Change) (commit : ℕ) → new ≡ with_commit old change → kept new.journal ≤ new.capacity → commit ≡ length old.journal + 1 → Ok commit ≡ added old change
+told_added old new change commit after fits number =
+    let within : kept (old.journal ++ change ∷ []) ≤ old.capacity = subst (λ (b : Contents). kept b.journal ≤ b.capacity) after fits in
+    let sum = kept_more old.journal change in
+    let low : nat_le (kept old.journal + cost_of change) old.capacity ≡ true = le-leb (kept old.journal + cost_of change) old.capacity (omega (arith, within, sum)) in
+    rw low (ap Ok number)

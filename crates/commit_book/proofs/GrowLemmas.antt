@@ -1,0 +1,90 @@
+-- The index and the sum after one change more.
+use Rattle.std.proofs.Common.{◌≡◌, ◌≢◌, ℕ, zero, suc, ◌+◌, ◌<◌, ◌≤◌, true, false, List, [], ◌∷◌, ◌++◌, Option, Some, length, slice_get, refl, sym, ap, ◌∙◌, subst, arith, inl, inr}
+use Rattle.std.specs.Str.{bytes_eq}
+use Rattle.std.proofs.lemmas.Bool.{cases_Bool}
+use Rattle.std.proofs.lemmas.List.{length_push}
+use Rattle.std.proofs.lemmas.List.Sums.{sum_by-append}
+use Rattle.std.proofs.lemmas.Slice.Eq.{bytes_eq-Decides}
+use Rattle.commit_book.specs.declared.change.Change.{Change}
+use Rattle.commit_book.specs.Journal.{document_after, document_at, cost_of, kept}
+use Rattle.commit_book.specs.Documents.{docs_after, docs}
+use Rattle.commit_book.specs.Index.{commits_after, commits_of}
+
+slice_get_front : {X : Type 0} (xs ys : List X) (k : ℕ) → k < length xs → slice_get (xs ++ ys) k ≡ slice_get xs k
+slice_get_front [] ys k low = absurd (omega arith)
+slice_get_front (x ∷ xs) ys zero low = refl
+slice_get_front (x ∷ xs) ys (suc k) low = slice_get_front xs ys k (omega arith)
+
+slice_get_end : {X : Type 0} (xs : List X) (y : X) → slice_get (xs ++ y ∷ []) (length xs) ≡ Some y
+slice_get_end [] y = refl
+slice_get_end (x ∷ xs) y = slice_get_end xs y
+
+-- the sum grows by the cost of the change
+pub kept_more : (journal : List Change) (change : Change) → kept (journal ++ change ∷ []) ≡ kept journal + cost_of change
+kept_more journal change =
+    let parts = sum_by-append cost_of journal (change ∷ []) in
+    omega (arith, parts)
+
+-- more changes behind do not touch the commits of the first
+pub commits_front : (journal more : List Change) (n : ℕ) (collection id : List ℕ) → n ≤ length journal → commits_of (journal ++ more) n collection id ≡ commits_of journal n collection id
+commits_front journal more zero collection id within = refl
+commits_front journal more (suc n) collection id within =
+    ap (λ (o : Option Change). commits_after collection id (suc n) o (commits_of (journal ++ more) n collection id)) (slice_get_front journal more n (omega arith))
+    ∙ ap (commits_after collection id (suc n) (slice_get journal n)) (commits_front journal more n collection id (omega arith))
+
+-- nor the documents that stood at them
+pub document_front : (journal more : List Change) (n : ℕ) (collection id : List ℕ) → n ≤ length journal → document_at (journal ++ more) n collection id ≡ document_at journal n collection id
+document_front journal more zero collection id within = refl
+document_front journal more (suc n) collection id within =
+    ap (λ (o : Option Change). document_after collection id (suc n) o (document_at (journal ++ more) n collection id)) (slice_get_front journal more n (omega arith))
+    ∙ ap (document_after collection id (suc n) (slice_get journal n)) (document_front journal more n collection id (omega arith))
+
+pub docs_front : (journal more : List Change) (n : ℕ) (collection : List ℕ) → n ≤ length journal → docs (journal ++ more) n collection ≡ docs journal n collection
+docs_front journal more zero collection within = refl
+docs_front journal more (suc n) collection within =
+    ap (λ (o : Option Change). docs_after collection (suc n) o (docs (journal ++ more) n collection)) (slice_get_front journal more n (omega arith))
+    ∙ ap (docs_after collection (suc n) (slice_get journal n)) (docs_front journal more n collection (omega arith))
+
+-- the commits of a record with one change more
+commits_pushed : (journal : List Change) (change : Change) (collection id : List ℕ) →
+    commits_of (journal ++ change ∷ []) (length (journal ++ change ∷ [])) collection id ≡ commits_after collection id (suc (length journal)) (Some change) (commits_of journal (length journal) collection id)
+commits_pushed journal change collection id =
+    let size : length (journal ++ change ∷ []) ≡ suc (length journal) = omega (arith, length_push journal change) in
+    ap (λ (n : ℕ). commits_of (journal ++ change ∷ []) n collection id) size
+    ∙ ap (λ (o : Option Change). commits_after collection id (suc (length journal)) o (commits_of (journal ++ change ∷ []) (length journal) collection id)) (slice_get_end journal change)
+    ∙ ap (commits_after collection id (suc (length journal)) (Some change)) (commits_front journal (change ∷ []) (length journal) collection id (omega arith))
+
+differs : (a b : List ℕ) → bytes_eq a b ≡ false → b ≢ a
+differs a b e same = absurd (let t : bytes_eq a b ≡ true = (bytes_eq-Decides a b).1 (sym same) in cc)
+
+-- a commit more under the record of the change, and none elsewhere
+pub index_more : (journal : List Change) (change : Change) (old new : List ℕ → List ℕ → List ℕ) →
+    ((collection id : List ℕ) → old collection id ≡ commits_of journal (length journal) collection id) →
+    new change.collection change.id ≡ old change.collection change.id ++ (length journal + 1) ∷ [] →
+    ((id : List ℕ) → id ≢ change.id → new change.collection id ≡ old change.collection id) →
+    ((collection id : List ℕ) → collection ≢ change.collection → new collection id ≡ old collection id) →
+    (collection id : List ℕ) → new collection id ≡ commits_of (journal ++ change ∷ []) (length (journal ++ change ∷ [])) collection id
+index_more journal change old new was own ids others collection id =
+    by ∙ ap (commits_after collection id (suc (length journal)) (Some change)) (was collection id) ∙ sym (commits_pushed journal change collection id)
+  where
+    pushed : change.collection ≡ collection → change.id ≡ id → new collection id ≡ old collection id ++ suc (length journal) ∷ []
+    pushed same_collection same_id =
+        let next : length journal + 1 ≡ suc (length journal) = omega arith in
+        subst (λ (c : List ℕ). new c id ≡ old c id ++ suc (length journal) ∷ []) same_collection
+        (subst (λ (i : List ℕ). new change.collection i ≡ old change.collection i ++ suc (length journal) ∷ []) same_id
+        (own ∙ ap (λ (n : ℕ). old change.collection change.id ++ n ∷ []) next))
+
+    by : new collection id ≡ commits_after collection id (suc (length journal)) (Some change) (old collection id)
+    by =
+        elim (cases_Bool (bytes_eq change.id id)) [
+          | inl same_id ↦ elim (cases_Bool (bytes_eq change.collection collection)) [
+            | inl same ↦ rw (same_id, same) (pushed ((bytes_eq-Decides change.collection collection).0 same) ((bytes_eq-Decides change.id id).0 same_id))
+            | inr other ↦ rw (same_id, other) (others collection id (differs change.collection collection other))
+          ]
+          | inr other_id ↦ elim (cases_Bool (bytes_eq change.collection collection)) [
+            | inl same ↦
+                rw other_id
+                (subst (λ (c : List ℕ). new c id ≡ old c id) ((bytes_eq-Decides change.collection collection).0 same) (ids id (differs change.id id other_id)))
+            | inr other ↦ rw other_id (others collection id (differs change.collection collection other))
+          ]
+        ]

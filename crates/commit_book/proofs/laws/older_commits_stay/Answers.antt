@@ -1,0 +1,9 @@
+use Rattle.commit_book.proofs.GrowLemmas.{document_front, docs_front}
+use Rattle.commit_book.proofs.laws.older_commits_stay.Goals as goal
+
+-- the first changes are the same
+pub returns-clause-documents : goal.returns-clause-documents
+returns-clause-documents c = document_front
+
+pub returns-clause-collections : goal.returns-clause-collections
+returns-clause-collections c = docs_front

@@ -1,0 +1,45 @@
+-- A journal is the list of the changes, the newest last. The change at place n, counted from 1, is commit n.
+use Rattle.std.specs.Prelude.{ℕ, zero, suc, ◌+◌, Bool, ◌&&◌, if◌then◌else◌, List, [], Option, Some, None, length, slice_get, sum_by, bytes_eq, option_map}
+use Rattle.std.specs.Option.{option_map_or}
+use Rattle.q_doc.specs.Tree.{Tree}
+use Rattle.q_doc.specs.Printed.{printed}
+use Rattle.commit_book.specs.declared.change.Change.{Change}
+
+-- the change is of this record
+abbrev pub is_of : List ℕ → List ℕ → Change → Bool
+is_of collection id change = bytes_eq change.id id && bytes_eq change.collection collection
+
+-- a document that was put at a commit, or none that was deleted there
+abbrev pub put_at : ℕ → Option Tree → Option (ℕ × Tree)
+put_at commit (Some tree) = Some (commit, tree)
+put_at commit None = None
+
+-- what the change at a commit leaves of a record
+abbrev pub document_after : List ℕ → List ℕ → ℕ → Option Change → Option (ℕ × Tree) → Option (ℕ × Tree)
+document_after collection id commit (Some change) before = if is_of collection id change then put_at commit change.document else before
+document_after collection id commit None before = before
+
+-- the last of the first n changes that is of the record, where it puts a document: its number and its document
+abbrev pub document_at : List Change → ℕ → List ℕ → List ℕ → Option (ℕ × Tree)
+document_at journal zero collection id = None
+document_at journal (suc n) collection id = document_after collection id (suc n) (slice_get journal n) (document_at journal n collection id)
+
+-- the printed text of a document; a deletion has none
+abbrev pub text_of : Option Tree → List ℕ
+text_of document = option_map_or printed document []
+
+-- a document's number with its printed text
+abbrev pub printed_of : Option (ℕ × Tree) → Option (ℕ × List ℕ)
+printed_of found = option_map (λ d. (d.0, printed d.1)) found
+
+-- the printed text of the document of a record after the first n changes, with its number
+abbrev pub text_at : List Change → ℕ → List ℕ → List ℕ → Option (ℕ × List ℕ)
+text_at journal n collection id = printed_of (document_at journal n collection id)
+
+-- what a change takes of the capacity, in bytes
+unfoldable pub cost_of : Change → ℕ
+cost_of change = 64 + length change.collection + length change.id + length (text_of change.document)
+
+-- what the changes take together
+abbrev pub kept : List Change → ℕ
+kept journal = sum_by cost_of journal

@@ -1,0 +1,6 @@
+pub mod CommitRows
+pub mod Contents
+pub mod Documents
+pub mod Index
+pub mod Journal
+pub mod Same

@@ -1,0 +1,253 @@
+//! The book: its rows, and what finds them.
+ghost use Rattle.std.specs.Prelude.{◌≡◌, ◌⊎◌, ◌+◌, ◌≤◌, ◌^◌, Some, Err, IsOk, IsSome, IfOk, OnOk, OnErr, length, slice_get, option_map, ◌<◌, ℕ};
+ghost use Rattle.commit_book.specs.declared.change.Change.{Change as AChange};
+ghost use Rattle.commit_book.specs.declared.refusal.BookRefusal.TheVariants.{Memory as NoMemory};
+ghost use Rattle.commit_book.specs.Contents.{empty_book, judged, added, is_reserved, with_commit};
+ghost use Rattle.commit_book.specs.CommitRows.{commit_row, commit_rows};
+ghost use Rattle.commit_book.specs.Documents.{docs, HasDocuments};
+ghost use Rattle.commit_book.specs.Index.{put_of};
+ghost use Rattle.commit_book.specs.Journal.{document_at, text_at, kept};
+
+use crate::change::{Change, CommitRow, copy_of, is_same};
+use crate::documents::documents_under;
+use crate::found::{copy_of_found, document_of, printed_of, row_at};
+use crate::index::{Collections, commits_in, make_room_in, push_in};
+use crate::refusal::BookRefusal;
+use crate::row::{Row, cost_of, text_of};
+use indexmap::IndexMap;
+use q_base::{Commit, Memory, Name};
+use q_doc::Doc;
+use std::alloc::Global;
+use std::marker::Model;
+
+/// Every change in turn, the first being commit 1, within a capacity in bytes. Contracts see the
+/// changes, the capacity, and the change for which there is room.
+#[derive(Drop)]
+pub struct Book {
+    alloc: Global,
+    capacity: u64,
+    /// The sum of the costs of the rows.
+    bytes: u64,
+    rows: Vec<Row>,
+    /// The commits of each record.
+    collections: Collections,
+    reserved: Option<Row>,
+}
+
+impl Model for Book {
+    ghost use Rattle.std.specs.Coded.{codes};
+    ghost use Rattle.q_doc.specs.Code.{tree_code};
+    ghost use Rattle.commit_book.specs.Contents.{Contents};
+    ghost use Rattle.commit_book.specs.Index.{IsSound};
+
+    ghost Value = { Contents };
+
+    ghost coded = { Prim.hlevel (codes, tree_code) };
+
+    ghost view = { λ b. record {
+      capacity = b.capacity;
+      journal = b.rows.items;
+      reserved = b.reserved;
+    } };
+
+    ghost invariant = { λ b. IsSound b.capacity b.bytes b.rows b.collections b.reserved };
+}
+
+impl Book {
+    /// A book without a commit. It takes no memory.
+    pub fn new(alloc: Global, capacity: u64) -> Result<Book, Memory>
+        requires { capacity ≤ 2 ^ 62 }
+        ensures made { IsOk result }
+        ensures empty { IfOk result (λ book. book ≡ empty_book capacity) }
+    {
+        Ok(Book {
+            alloc,
+            capacity,
+            bytes: 0,
+            rows: Vec::new(alloc),
+            collections: IndexMap::new(alloc),
+            reserved: None,
+        })
+    }
+
+    /// Makes room for a change, so that adding it takes no memory. It takes the place of the change
+    /// that was reserved before.
+    pub fn reserve(&mut self, change: &Change) -> Result<(), BookRefusal>
+        ensures told { (result ≡ Err NoMemory) ⊎ (result ≡ judged self.old change.now) }
+        ensures after { OnOk result (self.new ≡ record self.old { reserved = Some change.now }) }
+        ensures err { OnErr result (self.new ≡ self.old) }
+    {
+        let text = text_of(self.alloc, change)?;
+        let bytes = self.bytes + cost_of(change, &text);
+        if bytes > self.capacity {
+            return Err(BookRefusal::Full { bytes });
+        }
+        let row = Row::of(change, text)?;
+        self.rows.reserve(1)?;
+        make_room_in(&mut self.collections, &change.collection, &change.id)?;
+        self.reserved = Some(row);
+        Ok(())
+    }
+
+    /// Adds the change that was reserved, as the next commit. It takes no memory.
+    pub fn add_reserved(&mut self) -> Commit
+        requires { IsSome self.old.reserved }
+        ensures commit { result ≡ length self.old.journal + 1 }
+        ensures after { (change : AChange) → self.old.reserved ≡ Some change → self.new ≡ with_commit self.old change }
+        ensures fits { kept self.new.journal ≤ self.new.capacity }
+    {
+        match self.reserved.take() {
+            Some(row) => {
+                let commit = self.rows.len() as u64 + 1;
+                let change = row.change();
+                push_in(
+                    &mut self.collections,
+                    &change.collection,
+                    &change.id,
+                    commit,
+                );
+                self.bytes += row.cost();
+                self.rows.push_reserved(row);
+                commit
+            }
+            None => unreachable!(),
+        }
+    }
+
+    /// Adds a change as the next commit. It takes no memory where the change was reserved.
+    pub fn add(&mut self, change: &Change) -> Result<Commit, BookRefusal>
+        ensures told { (result ≡ Err NoMemory) ⊎ (result ≡ added self.old change.now) }
+        ensures after { OnOk result (self.new ≡ with_commit self.old change.now) }
+        ensures reserved { self.old.reserved ≡ Some change.now → IsOk result }
+        ensures err { OnErr result (self.new ≡ self.old) }
+    {
+        if !self.is_reserved(change) {
+            self.reserve(change)?;
+        }
+        Ok(self.add_reserved())
+    }
+
+    /// Whether there is room for this change.
+    fn is_reserved(&self, change: &Change) -> bool
+        ensures { result ≡ is_reserved self.now change.now }
+    {
+        match &self.reserved {
+            Some(row) => is_same(row.change(), change),
+            None => false,
+        }
+    }
+
+    /// The number of commits.
+    pub fn count(&self) -> Commit
+        ensures count { result ≡ length self.now.journal }
+        ensures fits { kept self.now.journal ≤ self.now.capacity }
+    {
+        self.rows.len() as u64
+    }
+
+    /// The document of a record after a commit, and the commit that put it. It takes no memory.
+    pub fn document_at<'a>(
+        &'a self,
+        commit: Commit,
+        collection: &Name,
+        id: &Name,
+    ) -> Option<(Commit, &'a Doc)>
+        requires { commit ≤ length self.now.journal }
+        ensures { option_map (λ d. (d.0, d.1.now)) result ≡ document_at self.now.journal commit collection.now id.now }
+    {
+        match self.row_at(commit, collection, id) {
+            Some((version, row)) => document_of(version, row),
+            None => None,
+        }
+    }
+
+    /// The printed text of the document of a record after a commit, and the commit that put it. It takes
+    /// no memory.
+    pub fn text_at<'a>(
+        &'a self,
+        commit: Commit,
+        collection: &Name,
+        id: &Name,
+    ) -> Option<(Commit, &'a [u8])>
+        requires { commit ≤ length self.now.journal }
+        ensures { option_map (λ t. (t.0, t.1.now)) result ≡ text_at self.now.journal commit collection.now id.now }
+    {
+        match self.row_at(commit, collection, id) {
+            Some((version, row)) => printed_of(version, row),
+            None => None,
+        }
+    }
+
+    /// The last row of a record that is not behind a commit, and its number.
+    fn row_at<'a>(
+        &'a self,
+        commit: Commit,
+        collection: &Name,
+        id: &Name,
+    ) -> Option<(Commit, &'a Row)>
+        requires { commit ≤ length self.now.journal }
+        ensures { put_of (option_map (λ f. (f.0, f.1.now)) result) ≡ document_at self.now.journal commit collection.now id.now }
+    {
+        let commits = commits_in(&self.collections, collection, id);
+        row_at(&self.rows, commits, commit)
+    }
+
+    /// The commits after `from`, up to `to`.
+    pub fn commits(&self, from: Commit, to: Commit) -> Result<Vec<CommitRow>, Memory>
+        requires forward { from ≤ to }
+        requires within { to ≤ length self.now.journal }
+        ensures { IfOk result (λ rows. rows.items ≡ commit_rows self.now.journal from to) }
+    {
+        let mut rows = Vec::with_capacity(self.alloc, (to - from) as usize)?;
+        for place in from as usize..to as usize {
+            rows.push(self.commit_row(place)?)?;
+        }
+        Ok(rows)
+    }
+
+    /// The commit of the row at a place.
+    fn commit_row(&self, place: usize) -> Result<CommitRow, Memory>
+        requires { place < length self.now.journal }
+        ensures { IfOk result (λ row. (change : AChange) → slice_get self.now.journal place ≡ Some change → row ≡ commit_row self.now.journal (place + 1) change) }
+    {
+        let change = self.rows[place].change();
+        let before = self.document_at(place as u64, &change.collection, &change.id);
+        Ok(CommitRow {
+            commit: place as u64 + 1,
+            collection: change.collection.clone()?,
+            id: change.id.clone()?,
+            before: copy_of_found(before)?,
+            after: copy_of(&change.document)?,
+        })
+    }
+
+    /// The documents of a collection after a commit, each with its id and the commit that put it, in
+    /// byte order of the ids.
+    pub fn docs_at(
+        &self,
+        commit: Commit,
+        collection: &Name,
+    ) -> Result<Vec<(Name, Commit, Doc)>, Memory>
+        requires { commit ≤ length self.now.journal }
+        ensures { IfOk result (λ rows. rows.items ≡ docs self.now.journal commit collection.now) }
+    {
+        let mut rows = self.documents_of(commit, collection)?;
+        rows.sort_by(|a, b| a.0.cmp(&b.0))?;
+        Ok(rows)
+    }
+
+    /// The documents of a collection after a commit, in the order in which their ids came.
+    fn documents_of(
+        &self,
+        commit: Commit,
+        collection: &Name,
+    ) -> Result<Vec<(Name, Commit, Doc)>, Memory>
+        requires { commit ≤ length self.now.journal }
+        ensures { IfOk result (λ rows. HasDocuments (document_at self.now.journal commit collection.now) rows.items) }
+    {
+        match self.collections.get(collection) {
+            Some(records) => documents_under(self.alloc, &self.rows, records, commit),
+            None => Ok(Vec::new(self.alloc)),
+        }
+    }
+}

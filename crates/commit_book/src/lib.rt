@@ -1,0 +1,17 @@
+//! The book of commits: every change in turn, found by its number and by its record.
+#![tactic(auto)]
+
+mod book;
+mod change;
+mod documents;
+mod found;
+mod index;
+pub mod laws;
+mod refusal;
+mod row;
+#[cfg(test)]
+mod tests;
+
+pub use book::Book;
+pub use change::{Change, CommitRow};
+pub use refusal::BookRefusal;

@@ -1,0 +1,107 @@
+//! The rows of a book.
+ghost use Rattle.std.specs.Prelude.{◌≡◌, ◌≤◌, ◌^◌, ◌+◌, IfOk, is_some, option_map};
+ghost use Rattle.commit_book.specs.Journal.{text_of, cost_of};
+
+use crate::change::Change;
+use q_base::Memory;
+use q_doc::Doc;
+use std::alloc::{AllocError, Global};
+use std::marker::Model;
+
+/// A change with the printed text of its document, which reads hand out. Contracts see the change.
+#[derive(Drop)]
+pub struct Row {
+    change: Change,
+    text: Vec<u8>,
+}
+
+impl Model for Row {
+    ghost use Rattle.std.specs.Prelude.{◌≡◌};
+    ghost use Rattle.std.specs.Coded.{codes};
+    ghost use Rattle.q_doc.specs.Code.{tree_code};
+    ghost use Rattle.commit_book.specs.Journal.{text_of};
+    ghost use Rattle.commit_book.specs.declared.change.Change.{Change};
+
+    ghost Value = { Change };
+
+    ghost coded = { Prim.hlevel (codes, tree_code) };
+
+    ghost view = { λ r. r.change };
+
+    ghost invariant = { λ r. r.text.items ≡ text_of r.change.document };
+}
+
+impl Row {
+    /// A copy of a change, with the text of its document.
+    pub fn of(change: &Change, text: Vec<u8>) -> Result<Row, AllocError>
+        requires { text.items ≡ text_of change.now.document }
+        ensures { IfOk result (λ row. row ≡ change.now) }
+    {
+        Ok(Row {
+            change: change.clone()?,
+            text,
+        })
+    }
+
+    /// The change.
+    pub fn change(&self) -> &Change
+        ensures { result.now ≡ self.now }
+    {
+        &self.change
+    }
+
+    /// The document that the row puts.
+    pub fn document(&self) -> Option<&Doc>
+        ensures { option_map (λ d. d.now) result ≡ self.now.document }
+    {
+        self.change.document.as_ref()
+    }
+
+    /// The printed text of the document; a deletion has none.
+    pub fn text(&self) -> &[u8]
+        ensures { result.now ≡ text_of self.now.document }
+    {
+        self.text.as_slice()
+    }
+
+    /// What the row takes of the capacity, in bytes.
+    pub fn cost(&self) -> u64
+        ensures { result ≡ cost_of self.now }
+    {
+        cost_of(&self.change, &self.text)
+    }
+
+    /// Whether the row puts a document.
+    pub fn has_document(&self) -> bool
+        ensures { result ≡ is_some self.now.document }
+    {
+        self.change.document.is_some()
+    }
+}
+
+/// The printed text of the document of a change, in no more memory than it has bytes.
+pub fn text_of(alloc: Global, change: &Change) -> Result<Vec<u8>, Memory>
+    ensures { IfOk result (λ text. text.items ≡ text_of change.now.document) }
+{
+    match &change.document {
+        Some(document) => match document.print(alloc) {
+            Ok(text) => {
+                let mut text = text.into_vec();
+                text.shrink_to_fit();
+                Ok(text)
+            }
+            Err(_) => Err(Memory),
+        },
+        None => Ok(Vec::new(alloc)),
+    }
+}
+
+/// What a change with this text takes of the capacity, in bytes.
+pub fn cost_of(change: &Change, text: &[u8]) -> u64
+    requires { text.now ≡ text_of change.now.document }
+    ensures cost { result ≡ cost_of change.now }
+    ensures most { result ≤ 2 ^ 63 + 192 }
+{
+    let names = change.collection.as_slice().len() + change.id.as_slice().len();
+    (64 + names + text.len()) as u64
+}
