@@ -1,0 +1,157 @@
+-- Copies, and the keys that have one.
+use Rattle.std.proofs.Common.{◌-◌, ap₂, not, ◌+◌, length, ◌≡◌, ℕ, zero, suc, ◌<◌, Bool, true, false, cond, ◌&&◌, ◌||◌, List, [], ◌∷◌, map, filter, refl, sym, ap, ◌∙◌, subst, inl, inr, arith}
+use Rattle.std.specs.Prelude.{nat_le, nat_lt, slice_index_or}
+use Rattle.std.specs.List.{list_any, Contains, IsDistinct}
+use Rattle.std.proofs.lemmas.Bool.{cases_lt, le-leb, lt-leb, and_parts, and_from, or_cases, or_left, or_right, ltb-true, lt-ltb}
+use Rattle.std.proofs.lemmas.List.Elements.{Contains-append_right, Contains-append_cases, All-contains, All-filter, All-contains_itself, filter_passes}
+use Rattle.query_normal.specs.declared.key.KeyShape.{KeyShape}
+use Rattle.query_normal.specs.Keys.{same_key}
+use Rattle.query_normal.specs.SameKey.{same_key-Decides}
+use Rattle.hub_model.specs.Copies.{issues, is_live, live, some_copy, keys_of}
+use Rattle.hub_model.specs.State.{Reading, State, until_of}
+use Rattle.hub_model.proofs.KeySets.{among-unique, distinct-unique}
+
+-- ---- tests of the elements of a list
+
+-- an element that passes a test
+pub found_by : {X : Type 0} (p : X → Bool) (xs : List X) → list_any p xs ≡ true → (x : X) × Contains xs x × (p x ≡ true)
+found_by p [] h = cc
+found_by {X} p (x ∷ xs) h = elim (or_cases (p x) (list_any p xs) h) [
+  | inl here ↦ (x, (0, omega arith, refl), here)
+  | inr there ↦ (let f = found_by p xs there in (f.0, Contains-append_right (x ∷ []) xs f.0 f.1, f.2))
+]
+
+-- a list of one element has that one alone
+only_at : {X : Type 0} (y x : X) (k : ℕ) → slice_index_or (y ∷ []) k x ≡ x → k < 1 → y ≡ x
+only_at y x zero e l = e
+only_at y x (suc k) e l = absurd (omega (arith, l))
+
+pub only : {X : Type 0} (y x : X) → Contains (y ∷ []) x → y ≡ x
+only y x h = only_at y x h.0 h.2 (let l = h.1 in omega (arith, l))
+
+-- the test of a list is true where an element passes
+pub any_from : {X : Type 0} (p : X → Bool) (xs : List X) (x : X) → Contains xs x → p x ≡ true → list_any p xs ≡ true
+any_from p [] x h passes = absurd (let k = h.1 in omega (arith, k))
+any_from p (y ∷ ys) x h passes = elim (Contains-append_cases (y ∷ []) ys x h) [
+  | inl here ↦ or_left (p y) (list_any p ys) (subst (λ z. p z ≡ true) (sym (only y x here)) passes)
+  | inr there ↦ or_right (p y) (list_any p ys) (any_from p ys x there passes)
+]
+
+-- what a filter keeps stood there and passes
+pub filter-parts : {X : Type 0} (p : X → Bool) (xs : List X) (x : X) → Contains (filter p xs) x → Contains xs x × (p x ≡ true)
+filter-parts p xs x h = (
+  All-contains (Contains xs) (filter p xs) x (All-filter p (Contains xs) xs (All-contains_itself xs)) h,
+  All-contains (λ y. p y ≡ true) (filter p xs) x (filter_passes p xs) h,
+)
+
+kept_head : {X : Type 0} (b : Bool) (p : X → Bool) (y : X) (ys : List X) → p y ≡ b → b ≡ true → Contains (cond b (y ∷ filter p ys) (filter p ys)) y
+kept_head true p y ys h t = (0, omega arith, refl)
+kept_head false p y ys h t = cc
+
+kept_tail : {X : Type 0} (b : Bool) (p : X → Bool) (y : X) (ys : List X) (x : X) → Contains (filter p ys) x → Contains (cond b (y ∷ filter p ys) (filter p ys)) x
+kept_tail true p y ys x h = Contains-append_right (y ∷ []) (filter p ys) x h
+kept_tail false p y ys x h = h
+
+-- what stands there and passes is kept
+pub filter-from : {X : Type 0} (p : X → Bool) (xs : List X) (x : X) → Contains xs x → p x ≡ true → Contains (filter p xs) x
+filter-from p [] x h passes = h
+filter-from p (y ∷ ys) x h passes = elim (Contains-append_cases (y ∷ []) ys x h) [
+  | inl here ↦ (
+      let e : y ≡ x = only y x here in
+      subst (λ z. Contains (filter p (y ∷ ys)) z) e (kept_head (p y) p y ys refl (ap p e ∙ passes)))
+  | inr there ↦ kept_tail (p y) p y ys x (filter-from p ys x there passes)
+]
+
+-- ---- the copies of a state
+
+-- a copy that may still be kept: it was handed out for a lifetime, which is not over
+pub live-parts : (s : State) (r : Reading) → Contains (live s) r → Contains s.readings r × (0 < r.ttl) × (s.clock < until_of r)
+live-parts s r h =
+    let p = filter-parts (is_live s.clock) (issues s) r h in
+    let q = filter-parts (λ r. nat_lt 0 r.ttl) s.readings r p.0 in
+    (q.0, ltb-true 0 r.ttl q.1, ltb-true s.clock (until_of r) p.1)
+
+pub live-from : (s : State) (r : Reading) → Contains s.readings r → 0 < r.ttl → s.clock < until_of r → Contains (live s) r
+live-from s r there some later = filter-from (is_live s.clock) (issues s) r (filter-from (λ r. nat_lt 0 r.ttl) s.readings r there (lt-ltb 0 r.ttl some)) (lt-ltb s.clock (until_of r) later)
+
+-- a key has a copy that passes the test
+pub copy-parts : (key : KeyShape) (test : Reading → Bool) (copies : List Reading) → some_copy key test copies ≡ true → (r : Reading) × Contains copies r × (r.key ≡ key) × (test r ≡ true)
+copy-parts key test copies h =
+    let f = found_by (λ r. same_key key r.key && test r) copies h in
+    let b = and_parts (same_key key f.0.key) (test f.0) f.2 in
+    (f.0, f.1, sym ((same_key-Decides key f.0.key).0 b.0), b.1)
+
+pub copy-from : (key : KeyShape) (test : Reading → Bool) (copies : List Reading) (r : Reading) → Contains copies r → r.key ≡ key → test r ≡ true → some_copy key test copies ≡ true
+copy-from key test copies r there is_key passes = any_from (λ r. same_key key r.key && test r) copies r there
+    (and_from (same_key key r.key) (test r) ((same_key-Decides key r.key).1 (sym is_key)) passes)
+
+-- the keys of copies are those that have one
+keys-map : (key : KeyShape) (copies : List Reading) → list_any (same_key key) (map (λ r. r.key) copies) ≡ list_any (λ r. same_key key r.key) copies
+keys-map key [] = refl
+keys-map key (r ∷ rs) = ap (λ (b : Bool). same_key key r.key || b) (keys-map key rs)
+
+pub among-keys_of : (key : KeyShape) (copies : List Reading) → list_any (same_key key) (keys_of copies) ≡ list_any (λ r. same_key key r.key) copies
+among-keys_of key copies = among-unique (map (λ r. r.key) copies) key ∙ keys-map key copies
+
+pub distinct-keys_of : (copies : List Reading) → IsDistinct same_key (keys_of copies)
+distinct-keys_of copies = distinct-unique (map (λ r. r.key) copies)
+
+-- ---- for the plain program
+
+-- copies that pass two tests are found by both at once
+pub any_filtered : (p q t : Reading → Bool) (rs : List Reading) → list_any t (filter p (filter q rs)) ≡ list_any (λ r. q r && p r && t r) rs
+any_filtered p q t [] = refl
+any_filtered p q t (r ∷ rs) = by (q r) (p r) refl refl (any_filtered p q t rs)
+  where
+    by : (b c : Bool) → q r ≡ b → p r ≡ c → list_any t (filter p (filter q rs)) ≡ list_any (λ r. q r && p r && t r) rs → list_any t (filter p (cond b (r ∷ filter q rs) (filter q rs))) ≡ ((b && p r && t r) || list_any (λ r. q r && p r && t r) rs)
+    by false c k l h = h
+    by true true k l h = ap (λ (x : Bool). list_any t (cond x (r ∷ filter p (filter q rs)) (filter p (filter q rs)))) l ∙ ap₂ (λ (x y : Bool). (x && t r) || y) (sym l) h
+    by true false k l h = ap (λ (x : Bool). list_any t (cond x (r ∷ filter p (filter q rs)) (filter p (filter q rs)))) l ∙ ap₂ (λ (x y : Bool). (x && t r) || y) (sym l) h
+
+-- the copies among these that are unexpired
+abbrev kept : ℕ → List Reading → List Reading
+kept clock rs = filter (is_live clock) (filter (λ r. nat_lt 0 r.ttl) rs)
+
+-- one copy more counts where it is unexpired and no later one has its key
+pub kept_keys_more : (clock : ℕ) (r : Reading) (rs : List Reading) → length (keys_of (filter (is_live clock) (filter (λ r. nat_lt 0 r.ttl) (r ∷ rs)))) ≡ cond ((nat_lt 0 r.ttl && is_live clock r) && not (list_any (λ x. nat_lt 0 x.ttl && is_live clock x && same_key r.key x.key) rs)) (length (keys_of (filter (is_live clock) (filter (λ r. nat_lt 0 r.ttl) rs))) + 1) (length (keys_of (filter (is_live clock) (filter (λ r. nat_lt 0 r.ttl) rs))))
+kept_keys_more clock r rs = by (nat_lt 0 r.ttl) (is_live clock r) refl refl
+  where
+    there : list_any (same_key r.key) (map (λ x. x.key) (kept clock rs)) ≡ list_any (λ x. nat_lt 0 x.ttl && is_live clock x && same_key r.key x.key) rs
+    there = keys-map r.key (kept clock rs) ∙ any_filtered (is_live clock) (λ r. nat_lt 0 r.ttl) (λ x. same_key r.key x.key) rs
+
+    count : (b : Bool) (keys : List KeyShape) → length (cond b keys (r.key ∷ keys)) ≡ cond (not b) (length keys + 1) (length keys)
+    count true keys = refl
+    count false keys = omega arith
+
+    by : (b c : Bool) → nat_lt 0 r.ttl ≡ b → is_live clock r ≡ c → length (keys_of (filter (is_live clock) (cond b (r ∷ filter (λ r. nat_lt 0 r.ttl) rs) (filter (λ r. nat_lt 0 r.ttl) rs)))) ≡ cond ((b && c) && not (list_any (λ x. nat_lt 0 x.ttl && is_live clock x && same_key r.key x.key) rs)) (length (keys_of (kept clock rs)) + 1) (length (keys_of (kept clock rs)))
+    by false c k l = refl
+    by true false k l = ap (λ (x : Bool). length (keys_of (cond x (r ∷ kept clock rs) (kept clock rs)))) l
+    by true true k l =
+        ap (λ (x : Bool). length (keys_of (cond x (r ∷ kept clock rs) (kept clock rs)))) l
+        ∙ count (list_any (same_key r.key) (map (λ x. x.key) (kept clock rs))) (keys_of (kept clock rs))
+        ∙ ap (λ (x : Bool). cond (not x) (length (keys_of (kept clock rs)) + 1) (length (keys_of (kept clock rs)))) there
+
+abbrev pub kept_count : ℕ → List Reading → ℕ
+kept_count clock rs = length (keys_of (filter (is_live clock) (filter (λ r. nat_lt 0 r.ttl) rs)))
+
+abbrev pub counted : ℕ → Reading → List Reading → Bool
+counted clock r rs = (nat_lt 0 r.ttl && is_live clock r) && not (list_any (λ x. nat_lt 0 x.ttl && is_live clock x && same_key r.key x.key) rs)
+
+count_first : (clock : ℕ) (copies : List Reading) (r : Reading) (rs : List Reading) (b : Bool) → copies ≡ r ∷ rs → b ≡ counted clock r rs → kept_count clock copies ≡ cond b (kept_count clock rs + 1) (kept_count clock rs)
+count_first clock copies r rs b is told = ap (kept_count clock) is ∙ kept_keys_more clock r rs ∙ ap (λ (x : Bool). cond x (kept_count clock rs + 1) (kept_count clock rs)) (sym told)
+
+same_limit : (limit n : ℕ) → 0 < limit → nat_le (limit - 1) n ≡ nat_le limit (n + 1)
+same_limit limit n some = elim (cases_lt n (limit - 1)) [
+  | inl below ↦ lt-leb (limit - 1) n below ∙ sym (lt-leb limit (n + 1) (omega (arith, below, some)))
+  | inr above ↦ le-leb (limit - 1) n above ∙ sym (le-leb limit (n + 1) (omega (arith, above, some)))
+]
+
+pub reaches_counted : (clock limit : ℕ) (copies : List Reading) (r : Reading) (rs : List Reading) (b told : Bool) → copies ≡ r ∷ rs → b ≡ counted clock r rs → b ≡ true → 0 < limit → told ≡ nat_le (limit - 1) (kept_count clock rs) → told ≡ nat_le limit (kept_count clock copies)
+reaches_counted clock limit copies r rs b told is test passes some t =
+    let n : kept_count clock copies ≡ kept_count clock rs + 1 = count_first clock copies r rs b is test ∙ ap (λ (x : Bool). cond x (kept_count clock rs + 1) (kept_count clock rs)) passes in
+    t ∙ same_limit limit (kept_count clock rs) some ∙ ap (nat_le limit) (sym n)
+
+pub reaches_passed : (clock limit : ℕ) (copies : List Reading) (r : Reading) (rs : List Reading) (b told : Bool) → copies ≡ r ∷ rs → b ≡ counted clock r rs → b ≡ false → told ≡ nat_le limit (kept_count clock rs) → told ≡ nat_le limit (kept_count clock copies)
+reaches_passed clock limit copies r rs b told is test fails t =
+    let n : kept_count clock copies ≡ kept_count clock rs = count_first clock copies r rs b is test ∙ ap (λ (x : Bool). cond x (kept_count clock rs + 1) (kept_count clock rs)) fails in
+    t ∙ ap (nat_le limit) (sym n)

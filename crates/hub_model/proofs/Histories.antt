@@ -1,0 +1,143 @@
+-- What one entry more does to a history, and what the fold's clock, journal and front are.
+use Rattle.std.proofs.Common.{◌≡◌, ℕ, ◌≤◌, max, List, [], ◌∷◌, ◌++◌, length, map, fold, Some, None, refl, sym, ap, ◌∙◌, subst, arith, append_assoc, append-nil, length-append}
+use Rattle.std.specs.Prelude.{unwrap_or}
+use Rattle.std.specs.List.{filter_map, last_or}
+use Rattle.std.proofs.lemmas.List.Sums.{fold-append}
+use Rattle.hub_model.specs.declared.entry.Entry.{Entry}
+use Rattle.hub_model.specs.declared.entry.Entry.TheVariants.{Write, Read, Match, Fetch, Tick}
+use Rattle.hub_model.specs.Direct.{moment_of, clock_of, journal_of, to_of, front_of}
+use Rattle.hub_model.specs.Legal.{MayFollow, IsLegalFrom, IsLegal}
+use Rattle.hub_model.specs.Setting.{Setting}
+use Rattle.hub_model.specs.State.{State, start}
+use Rattle.hub_model.specs.Step.{after, state_of}
+
+-- ---- one entry more, and more entries
+
+-- no entry leaves the first state
+pub state_of-none : (g : Setting) → state_of g [] ≡ start
+unfolding state_of
+state_of-none g = refl
+
+-- the state of a history with one entry more
+pub state_of-push : (g : Setting) (history : List Entry) (e : Entry) → state_of g (history ++ e ∷ []) ≡ after g (state_of g history) e
+unfolding state_of
+state_of-push g history e = fold-append (after g) start history (e ∷ [])
+
+-- the state of a history with more entries
+pub state_of-append : (g : Setting) (history more : List Entry) → state_of g (history ++ more) ≡ fold (after g) (state_of g history) more
+unfolding state_of
+state_of-append g history more = fold-append (after g) start history more
+
+-- a history without entries is legal
+pub legal-none : (g : Setting) → IsLegal g []
+unfolding IsLegal
+legal-none g = tt
+
+legal_from-append : (g : Setting) (s : State) (history more : List Entry) → IsLegalFrom g s history → IsLegalFrom g (fold (after g) s history) more → IsLegalFrom g s (history ++ more)
+legal_from-append g s [] more legal rest = rest
+legal_from-append g s (e ∷ es) more legal rest = (legal.0, legal_from-append g (after g s e) es more legal.1 rest)
+
+legal_from-parts : (g : Setting) (s : State) (history more : List Entry) → IsLegalFrom g s (history ++ more) → IsLegalFrom g s history × IsLegalFrom g (fold (after g) s history) more
+legal_from-parts g s [] more legal = (tt, legal)
+legal_from-parts g s (e ∷ es) more legal = (let parts = legal_from-parts g (after g s e) es more legal.1 in ((legal.0, parts.0), parts.1))
+
+-- a legal history stays legal by an entry that may follow
+pub legal-push : (g : Setting) (history : List Entry) (e : Entry) → IsLegal g history → MayFollow (state_of g history) e → IsLegal g (history ++ e ∷ [])
+unfolding IsLegal state_of
+legal-push g history e legal may = legal_from-append g start history (e ∷ []) legal (may, tt)
+
+-- a longer legal history is legal up to there, and goes on legally
+pub legal-parts : (g : Setting) (history more : List Entry) → IsLegal g (history ++ more) → IsLegal g history × IsLegalFrom g (state_of g history) more
+unfolding IsLegal state_of
+legal-parts g history more legal = legal_from-parts g start history more legal
+
+-- ---- the clock
+
+clock-after : (g : Setting) (s : State) (e : Entry) → (after g s e).clock ≡ max s.clock (moment_of e)
+clock-after g s (Write moment change condition) = refl
+clock-after g s (Read moment key tags at) = refl
+clock-after g s (Match moment to) = refl
+clock-after g s (Fetch moment) = refl
+clock-after g s (Tick moment) = refl
+
+clock-from : (g : Setting) (s : State) (history : List Entry) → (fold (after g) s history).clock ≡ fold max s.clock (map moment_of history)
+clock-from g s [] = refl
+clock-from g s (e ∷ es) = clock-from g (after g s e) es ∙ ap (λ (n : ℕ). fold max n (map moment_of es)) (clock-after g s e)
+
+pub clock-greatest : (g : Setting) (history : List Entry) → (state_of g history).clock ≡ clock_of history
+unfolding state_of
+clock-greatest g history = clock-from g start history
+
+-- ---- the journal
+
+journal-after : (g : Setting) (s : State) (e : Entry) (es : List Entry) → (after g s e).journal ++ journal_of es ≡ s.journal ++ journal_of (e ∷ es)
+journal-after g s (Write moment change condition) es = append_assoc s.journal (change ∷ []) (journal_of es)
+journal-after g s (Read moment key tags at) es = refl
+journal-after g s (Match moment to) es = refl
+journal-after g s (Fetch moment) es = refl
+journal-after g s (Tick moment) es = refl
+
+journal-from : (g : Setting) (s : State) (history : List Entry) → (fold (after g) s history).journal ≡ s.journal ++ journal_of history
+journal-from g s [] = sym (append-nil s.journal)
+journal-from g s (e ∷ es) = journal-from g (after g s e) es ∙ journal-after g s e es
+
+pub journal-writes : (g : Setting) (history : List Entry) → (state_of g history).journal ≡ journal_of history
+unfolding state_of
+journal-writes g history = journal-from g start history
+
+-- ---- the front
+
+front-after : (g : Setting) (s : State) (e : Entry) (es : List Entry) → unwrap_or (last_or (Some (after g s e).front) (filter_map to_of es)) 0 ≡ unwrap_or (last_or (Some s.front) (filter_map to_of (e ∷ es))) 0
+front-after g s (Write moment change condition) es = refl
+front-after g s (Read moment key tags at) es = refl
+front-after g s (Match moment to) es = refl
+front-after g s (Fetch moment) es = refl
+front-after g s (Tick moment) es = refl
+
+front-from : (g : Setting) (s : State) (history : List Entry) → (fold (after g) s history).front ≡ unwrap_or (last_or (Some s.front) (filter_map to_of history)) 0
+front-from g s [] = refl
+front-from g s (e ∷ es) = front-from g (after g s e) es ∙ front-after g s e es
+
+-- 0 before a list of numbers is as good as nothing
+last_or-zero : (ns : List ℕ) → unwrap_or (last_or (Some 0) ns) 0 ≡ unwrap_or (last_or None ns) 0
+last_or-zero [] = refl
+last_or-zero (n ∷ ns) = refl
+
+pub front-last : (g : Setting) (history : List Entry) → (state_of g history).front ≡ front_of history
+unfolding state_of
+front-last g history = front-from g start history ∙ last_or-zero (filter_map to_of history)
+
+-- ---- what every legal history keeps
+
+-- the front is not above the number of commits
+within-after : (g : Setting) (s : State) (e : Entry) → s.front ≤ length s.journal → MayFollow s e → (after g s e).front ≤ length (after g s e).journal
+within-after g s (Write moment change condition) h may = let size = length-append s.journal (change ∷ []) in omega (arith, size, h)
+within-after g s (Read moment key tags at) h may = h
+within-after g s (Match moment to) h may = may.1
+within-after g s (Fetch moment) h may = h
+within-after g s (Tick moment) h may = h
+
+within-from : (g : Setting) (s : State) (history : List Entry) → s.front ≤ length s.journal → IsLegalFrom g s history → (fold (after g) s history).front ≤ length (fold (after g) s history).journal
+within-from g s [] h legal = h
+within-from g s (e ∷ es) h legal = within-from g (after g s e) es (within-after g s e h legal.0) legal.1
+
+pub front-within : (g : Setting) (history : List Entry) → IsLegal g history → (state_of g history).front ≤ length (state_of g history).journal
+unfolding IsLegal state_of
+front-within g history legal = within-from g start history (omega arith) legal
+
+front-grows : (g : Setting) (s : State) (e : Entry) → MayFollow s e → s.front ≤ (after g s e).front
+front-grows g s (Write moment change condition) may = omega arith
+front-grows g s (Read moment key tags at) may = omega arith
+front-grows g s (Match moment to) may = let up = may.0 in omega (arith, up)
+front-grows g s (Fetch moment) may = omega arith
+front-grows g s (Tick moment) may = omega arith
+
+front_from-grows : (g : Setting) (s : State) (history : List Entry) → IsLegalFrom g s history → s.front ≤ (fold (after g) s history).front
+front_from-grows g s [] legal = omega arith
+front_from-grows g s (e ∷ es) legal = omega (arith, front-grows g s e legal.0, front_from-grows g (after g s e) es legal.1)
+
+-- the front never falls
+pub front-never_falls : (g : Setting) (history more : List Entry) → IsLegal g (history ++ more) → (state_of g history).front ≤ (state_of g (history ++ more)).front
+front-never_falls g history more legal =
+    let parts = legal-parts g history more legal in
+    subst (λ (s : State). (state_of g history).front ≤ s.front) (sym (state_of-append g history more)) (front_from-grows g (state_of g history) more parts.1)

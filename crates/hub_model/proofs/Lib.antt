@@ -1,0 +1,13 @@
+mod Bits
+mod Changes
+mod Copies
+mod Covered
+mod Handed
+mod Histories
+mod KeySets
+mod Moves
+mod Readings
+mod Recorded
+mod Results
+mod Rows
+mod Untils

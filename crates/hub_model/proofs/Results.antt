@@ -1,0 +1,124 @@
+-- Results of keys in a journal.
+use Rattle.std.proofs.Common.{◌||◌, Option, ◌+◌, ◌-◌, min, ◌∙◌, sym, ◌≡◌, ◌≢◌, ℕ, zero, suc, ◌<◌, ◌≤◌, true, not, ◌&&◌, ◌==◌, List, [], ◌∷◌, ◌++◌, length, refl, ap, ap₂, inl, inr, arith, subst}
+use Rattle.std.specs.Prelude.{slice_get, nat_lt}
+use Rattle.std.specs.Bool.{Decides}
+use Rattle.std.specs.Ordering.{eq_by_cmp}
+use Rattle.std.proofs.lemmas.Bool.{cases_Bool, cases_lt, and_parts, or_cases, or_left, or_right, and_from, lt-ltb, ltb-true, not-true, not_from_false, both_ways}
+use Rattle.std.proofs.lemmas.Bool.Decides.{Decides-eqb}
+use Rattle.std.proofs.lemmas.Option.{slice_get_past}
+use Rattle.q_doc.specs.Tree.{Tree}
+use Rattle.q_doc.specs.Order.{tree_cmp}
+use Rattle.q_doc.specs.OrderLaws.{tree_eq-Decides}
+use Rattle.query_normal.specs.declared.key.KeyShape.{KeyShape}
+use Rattle.query_normal.specs.declared.key.KeyShape.TheVariants.{Record}
+use Rattle.query_normal.specs.SameKey.{both, says}
+use Rattle.commit_book.specs.declared.change.Change.{Change}
+use Rattle.commit_book.specs.Journal.{document_at, document_after}
+use Rattle.hub_model.specs.Journal.{Finding, absent, present, document_finding, result_at, same_finding}
+use Rattle.hub_model.specs.Outdated.{IsOutdated, is_outdated}
+use Rattle.hub_model.proofs.Moves.{IsTold}
+
+-- ---- equality of results
+
+-- the test that two results are equal tells it
+pub same_finding-Decides : (a b : Finding) → Decides (same_finding a b) (a ≡ b)
+same_finding-Decides absent absent = ((λ _. refl), (λ _. refl))
+same_finding-Decides (present v t) (present w u) =
+    says (v == w && eq_by_cmp tree_cmp t u) (both (v == w) (eq_by_cmp tree_cmp t u) (Decides-eqb v w) (tree_eq-Decides t u))
+    (λ e. ap₂ present e.0 e.1) (λ e. (let h : v ≡ w = cc in h, let h : t ≡ u = cc in h))
+same_finding-Decides a b = ((λ h. cc), (λ h. cc))
+
+-- any two results of a key are equal or not
+pub result_at_told : (key : KeyShape) (journal : List Change) → IsTold (result_at key journal)
+result_at_told key journal n m = elim (cases_Bool (same_finding (result_at key journal n) (result_at key journal m))) [
+  | inl same ↦ inl ((same_finding-Decides (result_at key journal n) (result_at key journal m)).0 same)
+  | inr other ↦ inr (λ e. both_ways (same_finding (result_at key journal n) (result_at key journal m)) other ((same_finding-Decides (result_at key journal n) (result_at key journal m)).1 e))
+]
+
+-- ---- a result depends on the first changes alone
+
+slice_get-append : {X : Type 0} (xs ys : List X) (n : ℕ) → n < length xs → slice_get (xs ++ ys) n ≡ slice_get xs n
+slice_get-append [] ys n within = absurd (omega (arith, within))
+slice_get-append (x ∷ xs) ys zero within = refl
+slice_get-append (x ∷ xs) ys (suc n) within = slice_get-append xs ys n (omega (arith, within))
+
+document_at-append : (journal more : List Change) (n : ℕ) (collection id : List ℕ) → n ≤ length journal → document_at (journal ++ more) n collection id ≡ document_at journal n collection id
+document_at-append journal more zero collection id within = refl
+document_at-append journal more (suc n) collection id within =
+    ap₂ (document_after collection id (suc n)) (slice_get-append journal more n (omega (arith, within))) (document_at-append journal more n collection id (omega (arith, within)))
+
+pub result_at-append : (key : KeyShape) (journal more : List Change) (n : ℕ) → n ≤ length journal → result_at key (journal ++ more) n ≡ result_at key journal n
+result_at-append (Record collection id) journal more n within = ap document_finding (document_at-append journal more n collection id within)
+
+-- ---- the test of what is outdated
+
+-- the test that a later commit finds another result
+other_true : (key : KeyShape) (journal : List Change) (n c : ℕ) → not (same_finding (result_at key journal n) (result_at key journal c)) ≡ true → result_at key journal n ≢ result_at key journal c
+other_true key journal n c h e =
+    both_ways (same_finding (result_at key journal n) (result_at key journal c)) (not-true (same_finding (result_at key journal n) (result_at key journal c)) h)
+    ((same_finding-Decides (result_at key journal n) (result_at key journal c)).1 e)
+
+true_other : (key : KeyShape) (journal : List Change) (n c : ℕ) → result_at key journal n ≢ result_at key journal c → not (same_finding (result_at key journal n) (result_at key journal c)) ≡ true
+true_other key journal n c other = elim (cases_Bool (same_finding (result_at key journal n) (result_at key journal c))) [
+  | inl same ↦ absurd (other ((same_finding-Decides (result_at key journal n) (result_at key journal c)).0 same))
+  | inr h ↦ not_from_false (same_finding (result_at key journal n) (result_at key journal c)) h
+]
+
+pub outdated-from_test : (key : KeyShape) (c : ℕ) (journal : List Change) (front : ℕ) → is_outdated key c journal front ≡ true → IsOutdated key c journal front
+outdated-from_test key c journal zero h = cc
+outdated-from_test key c journal (suc n) h =
+    elim (or_cases (nat_lt c (suc n) && not (same_finding (result_at key journal (suc n)) (result_at key journal c))) (is_outdated key c journal n) h) [
+      | inl here ↦ (
+          let parts = and_parts (nat_lt c (suc n)) (not (same_finding (result_at key journal (suc n)) (result_at key journal c))) here in
+          (suc n, ltb-true c (suc n) parts.0, omega arith, other_true key journal (suc n) c parts.1))
+      | inr before ↦ (let d = outdated-from_test key c journal n before in (d.0, d.1, omega (arith, d.2), d.3))
+    ]
+
+pub test-from_outdated : (key : KeyShape) (c : ℕ) (journal : List Change) (front : ℕ) → IsOutdated key c journal front → is_outdated key c journal front ≡ true
+test-from_outdated key c journal zero d = let after = d.1 in let upto = d.2 in absurd (omega (arith, after, upto))
+test-from_outdated key c journal (suc n) d = elim (cases_lt d.0 (suc n)) [
+  | inl before ↦ or_right (nat_lt c (suc n) && not (same_finding (result_at key journal (suc n)) (result_at key journal c))) (is_outdated key c journal n)
+      (test-from_outdated key c journal n (d.0, d.1, omega (arith, before), d.3))
+  | inr not_before ↦ (
+      let upto = d.2 in
+      let here : d.0 ≡ suc n = omega (arith, upto, not_before) in
+      or_left (nat_lt c (suc n) && not (same_finding (result_at key journal (suc n)) (result_at key journal c))) (is_outdated key c journal n)
+      (and_from (nat_lt c (suc n)) (not (same_finding (result_at key journal (suc n)) (result_at key journal c)))
+      (lt-ltb c (suc n) (subst (λ m. c < m) here d.1))
+      (true_other key journal (suc n) c (subst (λ m. result_at key journal m ≢ result_at key journal c) here d.3))))
+]
+
+-- what is outdated stays so for a greater front and a longer journal
+pub outdated-later : (key : KeyShape) (c : ℕ) (journal more : List Change) (front later : ℕ) → front ≤ length journal → front ≤ later → IsOutdated key c journal front → IsOutdated key c (journal ++ more) later
+outdated-later key c journal more front later within grew d =
+    let after = d.1 in
+    let upto = d.2 in
+    let here : result_at key (journal ++ more) d.0 ≡ result_at key journal d.0 = result_at-append key journal more d.0 (omega (arith, upto, within)) in
+    let copied : result_at key (journal ++ more) c ≡ result_at key journal c = result_at-append key journal more c (omega (arith, after, upto, within)) in
+    (d.0, after, omega (arith, upto, grew), λ e. d.3 (sym here ∙ e ∙ copied))
+
+-- ---- for the plain program
+
+-- a commit past the last finds what the last finds
+past_last : (journal : List Change) (n k : ℕ) (collection id : List ℕ) → length journal ≤ n → document_at journal (k + n) collection id ≡ document_at journal n collection id
+past_last journal n k collection id past = by k
+  where
+    none_there : (m : ℕ) → length journal ≤ m → (before : Option (ℕ × Tree)) → document_after collection id (suc m) (slice_get journal m) before ≡ before
+    none_there m h before = ap (λ (change : Option Change). document_after collection id (suc m) change before) (slice_get_past journal m h)
+
+    by : (k : ℕ) → document_at journal (k + n) collection id ≡ document_at journal n collection id
+    by zero = ap (λ m. document_at journal m collection id) (omega arith)
+    by (suc k) = ap (λ m. document_at journal m collection id) (let next : suc k + n ≡ suc (k + n) = omega arith in next) ∙ none_there (k + n) (omega (arith, past)) (document_at journal (k + n) collection id) ∙ by k
+
+pub document_at_min : (journal : List Change) (n : ℕ) (collection id : List ℕ) → document_at journal n collection id ≡ document_at journal (min n (length journal)) collection id
+document_at_min journal n collection id = elim (cases_lt n (length journal)) [
+  | inl within ↦ ap (λ m. document_at journal m collection id) (let same : n ≡ min n (length journal) = omega (arith, within) in same)
+  | inr past ↦ (
+      let whole : n ≡ (n - length journal) + length journal = omega (arith, past) in
+      ap (λ m. document_at journal m collection id) whole ∙ past_last journal (length journal) (n - length journal) collection id (omega arith)
+      ∙ ap (λ m. document_at journal m collection id) (let same : length journal ≡ min n (length journal) = omega (arith, past) in same))
+]
+
+-- one commit more to look at
+pub is_outdated_more : (key : KeyShape) (c : ℕ) (journal : List Change) (n : ℕ) → is_outdated key c journal (n + 1) ≡ (nat_lt c (n + 1) && not (same_finding (result_at key journal (n + 1)) (result_at key journal c)) || is_outdated key c journal n)
+is_outdated_more key c journal n = subst (λ m. is_outdated key c journal m ≡ (nat_lt c m && not (same_finding (result_at key journal m) (result_at key journal c)) || is_outdated key c journal n)) (let next : suc n ≡ n + 1 = omega arith in next) refl

@@ -1,0 +1,141 @@
+-- Worked histories, computed from the definitions alone.
+use Rattle.std.proofs.Common.{◌≡◌, ℕ, ◌++◌, List, [], ◌∷◌, Some, None, true, false, pos, codes, refl, ap, arith}
+use Rattle.q_doc.specs.Printed.{printed}
+use Rattle.q_doc.specs.Tree.{Tree, number, object, no_members, member}
+use Rattle.query_normal.specs.declared.key.KeyShape.{KeyShape}
+use Rattle.query_normal.specs.declared.key.KeyShape.TheVariants.{Record}
+use Rattle.query_normal.specs.Pages.{Page}
+use Rattle.commit_book.specs.declared.change.Change.{Change}
+use Rattle.hub_model.specs.declared.entry.Condition.TheVariants.{Always}
+use Rattle.hub_model.specs.declared.entry.Entry.{Entry}
+use Rattle.hub_model.specs.declared.entry.Entry.TheVariants.{Write, Read, Match, Fetch}
+use Rattle.hub_model.specs.declared.entry.Found.TheVariants.{Missing, At}
+use Rattle.hub_model.specs.declared.entry.Outcome.TheVariants.{Whole}
+use Rattle.hub_model.specs.declared.entry.Tags.TheVariants.{Unasked}
+use Rattle.hub_model.specs.declared.entry.Written.TheVariants.{Done}
+use Rattle.hub_model.specs.Setting.{Setting, default_setting}
+use Rattle.hub_model.specs.Record.{record_of, bits_of}
+use Rattle.hub_model.specs.Step.{state_of}
+use Rattle.hub_model.specs.State.{start, at_moment}
+use Rattle.hub_model.specs.Copies.{active_keys}
+use Rattle.hub_model.specs.Legal.{IsLegal}
+use Rattle.hub_model.specs.Reply.{reply, wrote, read, matched, fetched}
+use Rattle.hub_model.specs.Journal.{absent, present, result_at}
+use Rattle.hub_model.specs.Lifetime.{ttl_of}
+use Rattle.hub_model.specs.Outdated.{is_outdated}
+
+-- every lifetime is 60 seconds
+abbrev sixty : Setting
+sixty = record default_setting { ttl_low = 60; ttl_high = 60 }
+
+abbrev p1 : KeyShape
+p1 = Record (codes "shop") (codes "p1")
+
+-- `{"a":n}`
+abbrev a_is : ℕ → Tree
+a_is n = object (member (codes "a") (number (pos n)) no_members)
+
+-- puts `{"a":n}` as p1 of the collection shop
+abbrev put_p1 : ℕ → Change
+put_p1 n = record { collection = codes "shop"; id = codes "p1"; document = Some (a_is n) }
+
+-- ---- a copy of commit 1 until 160, and then commit 2, which is matched
+
+abbrev copied : List Entry
+copied = Write 100 (put_p1 1) Always ∷ Read 100 p1 Unasked 1 ∷ Write 110 (put_p1 2) Always ∷ []
+
+abbrev covered : List Entry
+covered = copied ++ Match 110 2 ∷ []
+
+covered_replies : (reply sixty [] (Write 100 (put_p1 1) Always) ≡ wrote (Done 1 Missing 100))
+    × (reply sixty (Write 100 (put_p1 1) Always ∷ []) (Read 100 p1 Unasked 1) ≡ read (record { commit = 1; clock = 100; ttl = 60; result = Whole (printed (a_is 1)) (Some 1) }))
+    × (reply sixty (Write 100 (put_p1 1) Always ∷ Read 100 p1 Unasked 1 ∷ []) (Write 110 (put_p1 2) Always) ≡ wrote (Done 2 (At 1) 110))
+    × (reply sixty copied (Match 110 2) ≡ matched (record { front = 2; clock = 110 }))
+unfolding state_of reply
+covered_replies = (refl, refl, refl, refl)
+
+-- the history is legal
+covered_legal : IsLegal sixty covered
+unfolding IsLegal
+covered_legal = (tt, ((omega arith, omega arith), (tt, ((omega arith, omega arith), tt))))
+
+-- a page at 159 with the bits of these keys
+abbrev page : ℕ → ℕ → List KeyShape → Page
+page front commits keys = record {
+  log2_bits = 17;
+  hashes = 6;
+  front = front;
+  commits = commits;
+  moment = 159;
+  bits = bits_of keys 17 6;
+}
+
+-- at 159 the key is in the record, and the page has its bits alone, the front, the number of commits and the clock
+covered_at_159 : reply sixty covered (Fetch 159) ≡ fetched (page 2 2 (p1 ∷ []))
+unfolding state_of reply
+covered_at_159 = ap (λ (keys : List KeyShape). fetched (page 2 2 keys)) (let recorded : record_of (at_moment (state_of sixty covered) 159) ≡ p1 ∷ [] = refl in recorded)
+
+-- at 160 it is not, since 160 is not above 160
+covered_at_160 : record_of (state_of sixty (covered ++ Fetch 160 ∷ [])) ≡ []
+unfolding state_of
+covered_at_160 = refl
+
+-- ---- without the match, or with a match up to commit 1, the page has no bit
+
+uncovered_at_159 : reply sixty copied (Fetch 159) ≡ fetched (page 0 2 [])
+unfolding state_of reply
+uncovered_at_159 = ap (λ (keys : List KeyShape). fetched (page 0 2 keys)) (let recorded : record_of (at_moment (state_of sixty copied) 159) ≡ [] = refl in recorded)
+
+half_covered_at_159 : reply sixty (copied ++ Match 110 1 ∷ []) (Fetch 159) ≡ fetched (page 1 2 [])
+unfolding state_of reply
+half_covered_at_159 = ap (λ (keys : List KeyShape). fetched (page 1 2 keys)) (let recorded : record_of (at_moment (state_of sixty (copied ++ Match 110 1 ∷ [])) 159) ≡ [] = refl in recorded)
+
+-- ---- a further copy, of commit 2 until 180, is not outdated: it neither takes the key out early nor keeps it in
+
+abbrev read_again : List Entry
+read_again = covered ++ Read 120 p1 Unasked 2 ∷ []
+
+read_again_at_159 : record_of (state_of sixty (read_again ++ Fetch 159 ∷ [])) ≡ p1 ∷ []
+unfolding state_of
+read_again_at_159 = refl
+
+read_again_at_160 : (record_of (state_of sixty (read_again ++ Fetch 160 ∷ [])) ≡ [])
+    × (active_keys (state_of sixty (read_again ++ Fetch 160 ∷ [])) ≡ p1 ∷ [])
+unfolding state_of
+read_again_at_160 = (refl, refl)
+
+-- ---- a record has its own last change, and an undone change counts
+
+abbrev put_elsewhere : ℕ → Change
+put_elsewhere n = record { collection = codes "other"; id = codes "p1"; document = Some (a_is n) }
+
+abbrev put_p2 : ℕ → Change
+put_p2 n = record { collection = codes "shop"; id = codes "p2"; document = Some (a_is n) }
+
+abbrev delete_p1 : Change
+delete_p1 = record { collection = codes "shop"; id = codes "p1"; document = None }
+
+abbrev undone : List Change
+undone = put_p1 1 ∷ put_elsewhere 5 ∷ put_p2 6 ∷ delete_p1 ∷ []
+
+found_at : (result_at p1 undone 0 ≡ absent) × (result_at p1 undone 1 ≡ present 1 (a_is 1)) × (result_at p1 undone 2 ≡ present 1 (a_is 1)) × (result_at p1 undone 3 ≡ present 1 (a_is 1)) × (result_at p1 undone 4 ≡ absent)
+found_at = (refl, refl, refl, refl, refl)
+
+-- a copy of nothing is outdated though again there is nothing
+outdated_at : (is_outdated p1 0 undone 4 ≡ true) × (is_outdated p1 0 undone 0 ≡ false) × (is_outdated p1 1 undone 3 ≡ false) × (is_outdated p1 1 undone 4 ≡ true) × (is_outdated p1 4 undone 4 ≡ false)
+outdated_at = (refl, refl, refl, refl, refl)
+
+-- ---- with one key at most, another key's reply may not be kept; with none, no reply may
+
+abbrev few_active : ℕ → Setting
+few_active n = record sixty { active = n }
+
+abbrev p2 : KeyShape
+p2 = Record (codes "shop") (codes "p2")
+
+one_active : (ttl_of (few_active 1) (at_moment (state_of (few_active 1) (Read 100 p1 Unasked 0 ∷ [])) 159) p2 0 ≡ 0)
+    × (ttl_of (few_active 1) (at_moment (state_of (few_active 1) (Read 100 p1 Unasked 0 ∷ [])) 159) p1 0 ≡ 60)
+    × (ttl_of (few_active 1) (at_moment (state_of (few_active 1) (Read 100 p1 Unasked 0 ∷ [])) 160) p2 0 ≡ 60)
+    × (ttl_of (few_active 0) start p1 0 ≡ 0)
+unfolding state_of
+one_active = (refl, refl, refl, refl)

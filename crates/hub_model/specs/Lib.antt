@@ -1,0 +1,13 @@
+pub mod Copies
+pub mod Desk
+pub mod Direct
+pub mod Journal
+pub mod Legal
+pub mod Lifetime
+pub mod Outdated
+pub mod Record
+pub mod Reply
+pub mod Setting
+pub mod State
+pub mod Step
+pub mod Until

@@ -1,0 +1,69 @@
+-- What the hub answers to an entry after a history.
+use Rattle.std.specs.Prelude.{ℕ, ◌+◌, List, length, Some}
+use Rattle.q_doc.specs.Printed.{printed}
+use Rattle.query_normal.specs.Pages.{Page}
+use Rattle.query_normal.specs.declared.key.KeyShape.{KeyShape}
+use Rattle.hub_model.specs.declared.entry.Answer.{Answer}
+use Rattle.commit_book.specs.declared.change.Change.{Change}
+use Rattle.hub_model.specs.declared.entry.Condition.{Condition}
+use Rattle.hub_model.specs.declared.entry.Entry.{Entry}
+use Rattle.hub_model.specs.declared.entry.Entry.TheVariants.{Write, Read, Match, Fetch, Tick}
+use Rattle.hub_model.specs.declared.entry.Matched.{Matched}
+use Rattle.hub_model.specs.declared.entry.Outcome.{Outcome}
+use Rattle.hub_model.specs.declared.entry.Outcome.TheVariants.{Whole, Absent}
+use Rattle.hub_model.specs.declared.entry.Stats.{Stats}
+use Rattle.hub_model.specs.declared.entry.Tags.{Tags}
+use Rattle.hub_model.specs.declared.entry.Written.{Written}
+use Rattle.hub_model.specs.declared.entry.Written.TheVariants.{Done}
+use Rattle.hub_model.specs.Journal.{Finding, absent, present, result_at}
+use Rattle.hub_model.specs.Lifetime.{ttl_of}
+use Rattle.hub_model.specs.Record.{page_of}
+use Rattle.hub_model.specs.Setting.{Setting}
+use Rattle.hub_model.specs.State.{State, at_moment}
+use Rattle.hub_model.specs.Step.{found_now, has_matched, state_of}
+
+-- What a caller of the hub is told.
+pub data Replied : Type 0 where
+  wrote : Written → Replied
+  read : Answer → Replied
+  matched : Matched → Replied
+  fetched : Page → Replied
+  counted : Stats → Replied
+
+-- the reply to a write, in a state whose clock is that of the write
+abbrev pub written : Setting → Change → Condition → State → Written
+written g change condition s = Done (length s.journal + 1) (found_now s change) s.clock
+
+-- what a read tells of a finding
+abbrev pub outcome_of : Finding → Outcome
+outcome_of absent = Absent
+outcome_of (present version tree) = Whole (printed tree) (Some version)
+
+-- the reply to a read at a commit, in a state whose clock is that of the read
+abbrev pub answered : Setting → KeyShape → Tags → ℕ → State → Answer
+answered g key tags at s = record {
+  commit = at;
+  clock = s.clock;
+  ttl = ttl_of g s key at;
+  result = outcome_of (result_at key s.journal at);
+}
+
+-- the front and the clock of a state
+abbrev pub matched_in : State → Matched
+matched_in s = record { front = s.front; clock = s.clock }
+
+-- the numbers of a state
+abbrev pub stats_of : State → Stats
+stats_of s = record { front = s.front; commits = length s.journal; clock = s.clock }
+
+-- the reply to an entry after a state
+abbrev pub reply_in : Setting → State → Entry → Replied
+reply_in g s (Write moment change condition) = wrote (written g change condition (at_moment s moment))
+reply_in g s (Read moment key tags at) = read (answered g key tags at (at_moment s moment))
+reply_in g s (Match moment to) = matched (matched_in (has_matched g to (at_moment s moment)))
+reply_in g s (Fetch moment) = fetched (page_of g (at_moment s moment))
+reply_in g s (Tick moment) = counted (stats_of (at_moment s moment))
+
+-- the reply to an entry after a history
+unfoldable pub reply : Setting → List Entry → Entry → Replied
+reply g history e = reply_in g (state_of g history) e

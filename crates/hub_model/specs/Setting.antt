@@ -1,0 +1,40 @@
+-- The configuration of a hub, and its limits.
+use Rattle.std.specs.Prelude.{ℕ, ◌≤◌}
+
+-- the numbers of a configuration
+pub record Setting : Type 0 where
+  -- the logarithm of the number of the page's bits
+  pub log2_bits : ℕ
+  -- so many positions has a key
+  pub hashes : ℕ
+  -- the least and the greatest lifetime in seconds
+  pub ttl_low : ℕ
+  pub ttl_high : ℕ
+  -- so many keys may be active at once
+  pub active : ℕ
+  -- the greatest number of kept bytes
+  pub capacity : ℕ
+
+-- each number is within its limits
+pub record IsWithinLimits (g : Setting) : Type 0 where
+  pub bits_low : 10 ≤ g.log2_bits
+  pub bits_high : g.log2_bits ≤ 22
+  pub hashes_low : 1 ≤ g.hashes
+  pub hashes_high : g.hashes ≤ 16
+  pub ttl_some : 1 ≤ g.ttl_low
+  pub ttl_order : g.ttl_low ≤ g.ttl_high
+  pub ttl_most : g.ttl_high ≤ 31536000
+  pub active_most : g.active ≤ 1000000
+  pub capacity_low : 65792 ≤ g.capacity
+  pub capacity_high : g.capacity ≤ 134217728
+
+-- the configuration where none is asked for
+abbrev pub default_setting : Setting
+default_setting = record {
+  log2_bits = 17;
+  hashes = 6;
+  ttl_low = 1;
+  ttl_high = 3600;
+  active = 10000;
+  capacity = 134217728;
+}

@@ -1,0 +1,47 @@
+-- A history is a list of entries, the newest last; its state is what the entries leave, one after another.
+use Rattle.std.specs.Prelude.{ℕ, List, [], ◌∷◌, ◌++◌, length, fold, Option, Some, None}
+use Rattle.q_doc.specs.Tree.{Tree}
+use Rattle.query_normal.specs.declared.key.KeyShape.{KeyShape}
+use Rattle.commit_book.specs.declared.change.Change.{Change}
+use Rattle.hub_model.specs.declared.entry.Condition.{Condition}
+use Rattle.hub_model.specs.declared.entry.Entry.{Entry}
+use Rattle.hub_model.specs.declared.entry.Entry.TheVariants.{Write, Read, Match, Fetch, Tick}
+use Rattle.hub_model.specs.declared.entry.Found.{Found}
+use Rattle.hub_model.specs.declared.entry.Found.TheVariants.{Missing, At}
+use Rattle.commit_book.specs.Journal.{document_at}
+use Rattle.hub_model.specs.Lifetime.{ttl_of}
+use Rattle.hub_model.specs.Setting.{Setting}
+use Rattle.hub_model.specs.State.{State, start, at_moment}
+
+-- what a write finds of a document
+abbrev pub found_of : Option (ℕ × Tree) → Found
+found_of None = Missing
+found_of (Some found) = At found.0
+
+-- what the last commit has of the record that a change is of
+abbrev pub found_now : State → Change → Found
+found_now s change = found_of (document_at s.journal (length s.journal) change.collection change.id)
+
+-- an accepted change is the next commit
+abbrev pub wrote : Setting → Change → Condition → State → State
+wrote g change condition s = record s { journal = s.journal ++ change ∷ [] }
+
+-- a read hands out a copy, for a lifetime that may be none
+abbrev pub has_read : Setting → KeyShape → ℕ → State → State
+has_read g key at s = record s { readings = s.readings ++ record { key = key; at = at; clock = s.clock; ttl = ttl_of g s key at } ∷ [] }
+
+-- a match moves the front
+abbrev pub has_matched : Setting → ℕ → State → State
+has_matched g to s = record s { front = to }
+
+-- what an entry makes of a state
+abbrev pub after : Setting → State → Entry → State
+after g s (Write moment change condition) = wrote g change condition (at_moment s moment)
+after g s (Read moment key tags at) = has_read g key at (at_moment s moment)
+after g s (Match moment to) = has_matched g to (at_moment s moment)
+after g s (Fetch moment) = at_moment s moment
+after g s (Tick moment) = at_moment s moment
+
+-- what a history has come to under a configuration
+unfoldable pub state_of : Setting → List Entry → State
+state_of g history = fold (after g) start history

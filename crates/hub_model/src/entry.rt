@@ -1,0 +1,109 @@
+//! The entries of a history, and the replies to them.
+use commit_book::Change;
+use q_base::{Commit, Moment, Text};
+use query_normal::Key;
+
+/// When a write is accepted.
+#[derive(Clone, Copy, Debug, PartialEq, Eq)]
+pub enum Condition {
+    /// Whatever is found.
+    Always,
+}
+
+/// Which results the caller of a read knows already, by their commits.
+#[derive(Clone, Copy, Debug, PartialEq, Eq)]
+pub enum Tags {
+    /// None.
+    Unasked,
+}
+
+/// One event of the store. A history is a list of entries, the newest last.
+#[derive(Drop)]
+pub enum Entry {
+    Write {
+        moment: Moment,
+        change: Change,
+        condition: Condition,
+    },
+    /// The result of a key at a commit was read.
+    Read {
+        moment: Moment,
+        key: Key,
+        tags: Tags,
+        at: Commit,
+    },
+    /// The commits up to one were matched against the results that were handed out.
+    Match {
+        moment: Moment,
+        to: Commit,
+    },
+    /// The page of the outdated keys was handed out.
+    Fetch {
+        moment: Moment,
+    },
+    /// Time passed.
+    Tick {
+        moment: Moment,
+    },
+}
+
+/// What stands under a record's key before a write.
+#[derive(Clone, Copy, Debug, PartialEq, Eq)]
+pub enum Found {
+    Missing,
+    /// A document that this commit put.
+    At(Commit),
+}
+
+/// The reply to a write.
+#[derive(Clone, Copy, Debug)]
+pub enum Written {
+    /// It was accepted as this commit.
+    Done {
+        commit: Commit,
+        before: Found,
+        /// The clock after the write.
+        clock: Moment,
+    },
+}
+
+/// The result that a read tells.
+#[derive(Debug, Drop)]
+pub enum Outcome {
+    /// The result's text, and the version of a record's document.
+    Whole { text: Text, version: Option<Commit> },
+    /// There is no document.
+    Absent,
+}
+
+/// The reply to a read.
+#[derive(Debug, Drop)]
+pub struct Answer {
+    /// The commit whose result is told.
+    pub commit: Commit,
+    /// The clock after the read.
+    pub clock: Moment,
+    /// For how many seconds the reply may be kept.
+    pub ttl: u32,
+    pub result: Outcome,
+}
+
+/// The reply to a match.
+#[derive(Clone, Copy, Debug, PartialEq, Eq)]
+pub struct Matched {
+    /// The last commit that was matched.
+    pub front: Commit,
+    /// The clock after the match.
+    pub clock: Moment,
+}
+
+/// The reply to a tick.
+#[derive(Clone, Copy, Debug, PartialEq, Eq)]
+pub struct Stats {
+    /// The last commit that was matched.
+    pub front: Commit,
+    /// The number of commits.
+    pub commits: Commit,
+    /// The clock after the tick.
+    pub clock: Moment,
+}

@@ -1,0 +1,198 @@
+//! What follows of histories from the definitions alone. Each function states one law, and does
+//! nothing.
+ghost use Rattle.std.specs.Prelude.{◌≡◌, ◌↔◌, ◌+◌, ◌<◌, ◌≤◌, ℕ, Bool, true, suc, max, List, [], ◌∷◌, ◌++◌, length, Option, Some, IsTrue, Contains, slice_get, is_some, nat_lt, ◌&&◌, ◌||◌, if◌then◌else◌};
+ghost use Rattle.std.specs.Bool.{Decides};
+ghost use Rattle.std.specs.List.{list_any, IsDistinct};
+ghost use Rattle.std.specs.List.Sorted.{IsPermutation};
+ghost use Rattle.query_normal.specs.declared.key.KeyShape.{KeyShape};
+ghost use Rattle.query_normal.specs.Keys.{same_key};
+ghost use Rattle.query_normal.specs.Pages.{is_set, page_holds, positions};
+ghost use Rattle.commit_book.specs.declared.change.Change.{Change as AChange};
+ghost use Rattle.hub_model.specs.declared.entry.Condition.{Condition as ACondition};
+ghost use Rattle.hub_model.specs.declared.entry.Entry.{Entry as AnEntry};
+ghost use Rattle.hub_model.specs.declared.entry.Entry.TheVariants.{Write, Read, Tick};
+ghost use Rattle.hub_model.specs.declared.entry.Tags.{Tags as SomeTags};
+ghost use Rattle.hub_model.specs.Copies.{IsActive, live, active_keys, is_active};
+ghost use Rattle.hub_model.specs.Direct.{clock_of, journal_of, front_of, IsRead};
+ghost use Rattle.commit_book.specs.Journal.{is_of, document_at};
+ghost use Rattle.hub_model.specs.Journal.{Finding, result_at, same_finding};
+ghost use Rattle.hub_model.specs.Legal.{MayFollow, IsLegal};
+ghost use Rattle.hub_model.specs.Lifetime.{ttl_of};
+ghost use Rattle.hub_model.specs.Outdated.{IsOutdated, IsChangedAfter, is_outdated, is_changed};
+ghost use Rattle.hub_model.specs.Record.{IsRecorded, is_recorded, record_of, outdated_copies, bits_of, page_of};
+ghost use Rattle.hub_model.specs.Setting.{Setting};
+ghost use Rattle.hub_model.specs.State.{Reading, State, start, at_moment};
+ghost use Rattle.hub_model.specs.Step.{after, has_read, state_of};
+ghost use Rattle.hub_model.specs.Until.{until_among, latest_until, until_of_outdated};
+
+// What the tests of the definitions tell.
+
+/// The test that two results are equal tells it.
+pub fn results_are_told()
+    ensures { (a b : Finding) → Decides (same_finding a b) (a ≡ b) }
+{}
+
+/// The test of what is outdated is true exactly where it is.
+pub fn outdated_is_tested()
+    ensures { (key : KeyShape) (commit : ℕ) (journal : List AChange) (front : ℕ) → IsTrue (is_outdated key commit journal front) ↔ IsOutdated key commit journal front }
+{}
+
+/// A key is among the active keys, each of which stands there once, exactly where it is active.
+pub fn active_keys_are_told()
+    ensures tested { (s : State) (key : KeyShape) → IsTrue (is_active s key) ↔ IsActive s key }
+    ensures listed { (s : State) (key : KeyShape) → Contains (active_keys s) key ↔ IsActive s key }
+    ensures once { (s : State) → IsDistinct same_key (active_keys s) }
+{}
+
+/// A key is in the record, where each stands once, exactly where an unexpired copy of it is outdated.
+pub fn recorded_keys_are_told()
+    ensures tested { (s : State) (key : KeyShape) → IsTrue (is_recorded s key) ↔ IsRecorded s key }
+    ensures listed { (s : State) (key : KeyShape) → Contains (record_of s) key ↔ IsRecorded s key }
+    ensures once { (s : State) → IsDistinct same_key (record_of s) }
+{}
+
+/// A bit of the page is set exactly where it is at a position of a key in the record.
+pub fn bits_are_of_recorded_keys()
+    ensures { (g : Setting) (s : State) (j : ℕ) → IsTrue (is_set (page_of g s) j) ↔ ((key : KeyShape) × IsRecorded s key × Contains (positions key g.log2_bits g.hashes) j) }
+{}
+
+/// The page holds each key in the record.
+pub fn page_holds_recorded_keys()
+    ensures { (g : Setting) (s : State) (key : KeyShape) → IsRecorded s key → IsTrue (page_holds (page_of g s) key) }
+{}
+
+// What a history comes to, said of its entries.
+
+/// The clock is the greatest moment.
+pub fn clock_is_greatest()
+    ensures { (g : Setting) (history : List AnEntry) → (state_of g history).clock ≡ clock_of history }
+{}
+
+/// The journal is the changes of the writes.
+pub fn journal_is_of_writes()
+    ensures { (g : Setting) (history : List AnEntry) → (state_of g history).journal ≡ journal_of history }
+{}
+
+/// The front is that of the last match.
+pub fn front_is_last()
+    ensures { (g : Setting) (history : List AnEntry) → (state_of g history).front ≡ front_of history }
+{}
+
+/// The readings are the reads, each with the clock after it and its lifetime.
+pub fn readings_are_reads()
+    ensures { (g : Setting) (history : List AnEntry) (key : KeyShape) (at clock ttl : ℕ) → IsRead g history key at clock ttl ↔ Contains (state_of g history).readings (record { key = key; at = at; clock = clock; ttl = ttl }) }
+{}
+
+// What outdated means.
+
+/// A copy is outdated exactly where some commit after it changed the result.
+pub fn outdated_by_steps()
+    ensures { (key : KeyShape) (commit : ℕ) (journal : List AChange) (front : ℕ) → IsOutdated key commit journal front ↔ IsChangedAfter key commit journal front }
+{}
+
+/// A result depends on the first changes alone.
+pub fn result_of_prefix()
+    ensures { (key : KeyShape) (journal more : List AChange) (n : ℕ) → n ≤ length journal → result_at key (journal ++ more) n ≡ result_at key journal n }
+{}
+
+/// What is outdated stays so.
+pub fn outdated_stays()
+    ensures { (key : KeyShape) (commit : ℕ) (journal more : List AChange) (front later : ℕ) → front ≤ length journal → front ≤ later → IsOutdated key commit journal front → IsOutdated key commit (journal ++ more) later }
+{}
+
+/// A commit changes what a record's key finds exactly where its change is of the record, unless it
+/// deletes what is not there.
+pub fn record_changes_by_its_own_commits()
+    ensures { (collection id : List ℕ) (journal : List AChange) (n : ℕ) (change : AChange) → slice_get journal n ≡ Some change → is_changed (KeyShape.Record collection id) journal (suc n) ≡ (is_of collection id change && (is_some change.document || is_some (document_at journal n collection id))) }
+{}
+
+// What holds of legal histories.
+
+/// A history without entries is legal.
+pub fn no_entry_is_legal()
+    ensures state { (g : Setting) → state_of g [] ≡ start }
+    ensures legal { (g : Setting) → IsLegal g [] }
+{}
+
+/// A history is legal with one entry more exactly where it is legal and the entry may follow.
+pub fn one_entry_more()
+    ensures state { (g : Setting) (history : List AnEntry) (e : AnEntry) → state_of g (history ++ e ∷ []) ≡ after g (state_of g history) e }
+    ensures legal { (g : Setting) (history : List AnEntry) (e : AnEntry) → IsLegal g (history ++ e ∷ []) ↔ (IsLegal g history × MayFollow (state_of g history) e) }
+{}
+
+/// The front is not above the number of commits.
+pub fn front_is_within()
+    ensures { (g : Setting) (history : List AnEntry) → IsLegal g history → (state_of g history).front ≤ length (state_of g history).journal }
+{}
+
+/// The front never falls.
+pub fn front_never_falls()
+    ensures { (g : Setting) (history more : List AnEntry) → IsLegal g (history ++ more) → (state_of g history).front ≤ (state_of g (history ++ more)).front }
+{}
+
+/// A read adds nothing to the outdated copies.
+pub fn read_outdates_nothing()
+    ensures { (g : Setting) (history : List AnEntry) (moment : ℕ) (key : KeyShape) (tags : SomeTags) (at : ℕ) → IsLegal g (history ++ Read moment key tags at ∷ []) → outdated_copies (state_of g (history ++ Read moment key tags at ∷ [])) ≡ outdated_copies (state_of g history) }
+{}
+
+/// A write changes the record by its clock alone, as a tick at its moment does.
+pub fn write_records_nothing()
+    ensures { (g : Setting) (history : List AnEntry) (moment : ℕ) (change : AChange) (condition : ACondition) → IsLegal g history → record_of (state_of g (history ++ Write moment change condition ∷ [])) ≡ record_of (state_of g (history ++ Tick moment ∷ [])) }
+{}
+
+// By what a store may keep the record, without the definitions' lists.
+
+/// The keys of the record, or the active keys, each once and in any order, are a permutation of them.
+pub fn keys_in_any_order()
+    ensures recorded { (s : State) (keys : List KeyShape) → IsDistinct same_key keys → ((key : KeyShape) → list_any (same_key key) keys ≡ is_recorded s key) → IsPermutation keys (record_of s) }
+    ensures active { (s : State) (keys : List KeyShape) → IsDistinct same_key keys → ((key : KeyShape) → list_any (same_key key) keys ≡ is_active s key) → IsPermutation keys (active_keys s) }
+{}
+
+/// The bits of keys do not depend on their order, and neither does their number.
+pub fn bits_in_any_order()
+    ensures bits { (keys others : List KeyShape) (log2_bits hashes : ℕ) → IsPermutation keys others → bits_of keys log2_bits hashes ≡ bits_of others log2_bits hashes }
+    ensures number { (keys others : List KeyShape) → IsPermutation keys others → length keys ≡ length others }
+{}
+
+/// A key is active exactly as long as the greatest until of its unexpired copies is above the clock.
+pub fn active_until()
+    ensures { (s : State) (key : KeyShape) → is_active s key ≡ nat_lt s.clock (until_among key (λ r. true) (live s)) }
+{}
+
+/// A key is in the record exactly as long as its greatest until of an unexpired outdated copy is above
+/// the clock.
+pub fn recorded_until()
+    ensures { (s : State) (key : KeyShape) → is_recorded s key ≡ nat_lt s.clock (until_of_outdated s key) }
+{}
+
+/// The greatest until of any copies of a key stays while it is above the clock, and then there is none.
+pub fn untils_pass()
+    ensures { (s : State) (moment : ℕ) (key : KeyShape) (test : Reading → Bool) → until_among key test (live (at_moment s moment)) ≡ (if nat_lt (max s.clock moment) (until_among key test (live s)) then until_among key test (live s) else 0) }
+{}
+
+/// A read that gives a lifetime hands out one copy, behind those there were.
+pub fn reads_hand_out()
+    ensures { (g : Setting) (s : State) (key : KeyShape) (at : ℕ) → live (has_read g key at s) ≡ live s ++ (if nat_lt 0 (ttl_of g s key at) then record { key = key; at = at; clock = s.clock; ttl = ttl_of g s key at } ∷ [] else []) }
+{}
+
+/// It raises the greatest until of the copies that pass a test exactly where its own copy passes.
+pub fn reads_raise()
+    ensures { (g : Setting) (s : State) (key : KeyShape) (at : ℕ) (other : KeyShape) (test : Reading → Bool) → until_among other test (live (has_read g key at s)) ≡ max (until_among other test (live s)) (if nat_lt 0 (ttl_of g s key at) && (same_key other key && test (record { key = key; at = at; clock = s.clock; ttl = ttl_of g s key at })) then s.clock + ttl_of g s key at else 0) }
+{}
+
+/// A read at the front or above it leaves how long each key stays in the record.
+pub fn reads_record_nothing()
+    ensures { (g : Setting) (s : State) (key : KeyShape) (at : ℕ) (other : KeyShape) → s.front ≤ at → until_of_outdated (has_read g key at s) other ≡ until_of_outdated s other }
+{}
+
+/// A longer journal leaves how long each key stays in the record.
+pub fn commits_record_nothing()
+    ensures { (s : State) (more : List AChange) (key : KeyShape) → s.front ≤ length s.journal → until_of_outdated (record s { journal = s.journal ++ more }) key ≡ until_of_outdated s key }
+{}
+
+/// One commit more that is matched: where it changes the result, the key's copies of commits before it
+/// are outdated from there on, and else no further copy is.
+pub fn matches_record_commit_by_commit()
+    ensures raised { (s : State) (key : KeyShape) (n : ℕ) → until_of_outdated (record s { front = suc n }) key ≡ max (until_of_outdated (record s { front = n }) key) (if is_changed key s.journal (suc n) then latest_until s key 0 (suc n) else 0) }
+    ensures changed { (s : State) (key : KeyShape) (n : ℕ) → IsTrue (is_changed key s.journal (suc n)) → until_of_outdated (record s { front = suc n }) key ≡ latest_until s key 0 (suc n) }
+{}
