@@ -1,0 +1,11 @@
+pub mod JournalLemmas
+pub mod RowLemmas
+pub mod RoomLemmas
+pub mod GreatestLemmas
+pub mod CopyLemmas
+pub mod MarkLemmas
+pub mod HandedLemmas
+pub mod SoundLemmas
+pub mod StateLemmas
+pub mod MatchLemmas
+pub mod HubLemmas

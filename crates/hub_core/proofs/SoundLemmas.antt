@@ -1,0 +1,160 @@
+-- The copies and the marked keys stay those of one clock.
+use Rattle.std.proofs.Common.{◌≡◌, ℕ, zero, suc, ◌+◌, ◌<◌, ◌≤◌, ◌==◌, Bool, true, false, not, ◌&&◌, ◌||◌, ◌⊎◌, cond, max, nat_lt, nat_le, List, [], ◌∷◌, length, map, All, IsTrue, Option, Some, None, unwrap_or, if◌then◌else◌, refl, sym, ap, ap₂, ◌∙◌, subst, arith, inl, inr}
+use Rattle.std.specs.List.{list_any, IsDistinct}
+use Rattle.std.proofs.lemmas.Bool.{cases_Bool, cases_lt, lt-ltb, le-ltb, ltb-true, leb-true, leb-false}
+use Rattle.query_normal.specs.Keys.{same_key}
+use Rattle.query_normal.specs.SameKey.{same_key-Decides, same_key_equiv}
+use Rattle.query_normal.specs.declared.key.KeyShape.{KeyShape}
+use Rattle.issued_expiries.specs.Copies.{Copy, unexpired, latest_where, latest_of, is_active, active_keys, SameCopies, with_copy}
+use Rattle.issued_expiries.specs.Expiries.{Issued}
+use Rattle.expiring_filter.specs.Filter.{Filter}
+use Rattle.expiring_filter.specs.Held.{Expires, put_until, is_among}
+use Rattle.expiring_filter.proofs.FilterLemmas.{unexpired_put}
+use Rattle.hub_model.specs.Setting.{Setting}
+use Rattle.hub_core.specs.Standing.{until_in}
+use Rattle.hub_core.specs.Handed.{IsSound, AreMarked, while_later, last_until}
+use Rattle.hub_core.proofs.MarkLemmas.{until-expired, once-expired, until-put, once-put, held-later, any-map}
+use Rattle.hub_core.proofs.HandedLemmas.{count-less, count-marked, count-with, backed-later, backed-more, late-later, late-more, active-later, same-with, below-last, active-last}
+
+-- when the clock moves
+pub sound-later : (g : Setting) (clock moment : ℕ) (issued new_issued : Issued) (filter new_filter : Filter) → IsSound g clock issued filter → new_issued.clock ≡ moment → new_filter.clock ≡ moment →
+    new_filter.log2_bits ≡ filter.log2_bits → new_filter.hashes ≡ filter.hashes → SameCopies new_issued.held (unexpired moment issued.held) → Expires moment filter.held new_filter.held → IsSound g moment new_issued new_filter
+sound-later g clock moment issued new_issued filter new_filter sound issued_clock filter_clock bits hashes same expires =
+    let less = count-less new_issued.held issued.held (active-later moment issued.held new_issued.held same) in
+    record {
+      limits = sound.limits;
+      log2_bits = bits ∙ sound.log2_bits;
+      hashes = hashes ∙ sound.hashes;
+      issued_clock = issued_clock;
+      filter_clock = filter_clock;
+      few = (let few = sound.few in omega (arith, less, few));
+      late = late-later moment issued.held new_issued.held same;
+      once = once-expired moment filter.held new_filter.held expires sound.once;
+      later = expires.later;
+      backed = λ key. backed-later moment issued.held new_issued.held filter.held new_filter.held key same (until-expired moment filter.held new_filter.held expires key) (sound.backed key);
+    }
+
+-- with one copy more
+pub sound-more : (g : Setting) (clock : ℕ) (issued new_issued : Issued) (filter : Filter) (copy : Copy) → IsSound g clock issued filter → clock < copy.2 → new_issued.clock ≡ issued.clock →
+    SameCopies new_issued.held (with_copy issued.clock copy issued.held) → (is_active issued.held copy.0 ≡ true) ⊎ (active_keys issued.held < g.active) → IsSound g clock new_issued filter
+sound-more g clock issued new_issued filter copy sound late clocks with room =
+    let own = sound.issued_clock in
+    let same : SameCopies new_issued.held (copy ∷ issued.held) = same-with issued.clock copy issued.held new_issued.held (omega (arith, own, late)) with in
+    record {
+      limits = sound.limits;
+      log2_bits = sound.log2_bits;
+      hashes = sound.hashes;
+      issued_clock = clocks ∙ own;
+      filter_clock = sound.filter_clock;
+      few = count-with g.active copy issued.held new_issued.held same sound.few room;
+      late = late-more clock copy issued.held new_issued.held late same sound.late;
+      once = sound.once;
+      later = sound.later;
+      backed = λ key. (let before = sound.backed key in let after = backed-more copy issued.held new_issued.held key same in omega (arith, before, after));
+    }
+
+-- the marked keys are active
+marked-active : (g : Setting) (clock : ℕ) (issued : Issued) (filter : Filter) → IsSound g clock issued filter → (key : KeyShape) → list_any (λ e. same_key key e.0) filter.held ≡ true → is_active issued.held key ≡ true
+marked-active g clock issued filter sound key there =
+    let later : clock < until_in filter.held key = ltb-true clock (until_in filter.held key) (sym (held-later clock filter.held key sound.later) ∙ there) in
+    let backed = sound.backed key in
+    active-last issued.held key (omega (arith, later, backed))
+
+-- there is room for the mark of an active key
+pub mark-few : (g : Setting) (clock : ℕ) (issued : Issued) (filter : Filter) (key : KeyShape) → IsSound g clock issued filter → is_active issued.held key ≡ true → IsTrue (is_among filter.held key) ⊎ (length filter.held < 1000000)
+mark-few g clock issued filter key sound active =
+    elim (cases_Bool (is_among filter.held key)) [
+      | inl there ↦ inl there
+      | inr absent ↦ (
+          let fewer = count-marked issued.held filter.held key sound.once absent active (marked-active g clock issued filter sound) in
+          let few = sound.few in
+          let most = sound.limits.active_most in
+          inr (omega (arith, fewer, few, most)))
+    ]
+
+-- with one mark more
+pub sound-marked : (g : Setting) (clock : ℕ) (issued : Issued) (filter new_filter : Filter) (key : KeyShape) (until : ℕ) → IsSound g clock issued filter → clock < until → until ≤ last_until issued.held key →
+    new_filter.clock ≡ filter.clock → new_filter.log2_bits ≡ filter.log2_bits → new_filter.hashes ≡ filter.hashes → new_filter.held ≡ put_until filter.held key until → IsSound g clock issued new_filter
+sound-marked g clock issued filter new_filter key until sound late low clocks bits hashes held = record {
+  limits = sound.limits;
+  log2_bits = bits ∙ sound.log2_bits;
+  hashes = hashes ∙ sound.hashes;
+  issued_clock = sound.issued_clock;
+  filter_clock = clocks ∙ sound.filter_clock;
+  few = sound.few;
+  late = sound.late;
+  once = subst (λ (xs : List (KeyShape × ℕ)). IsDistinct same_key (map (λ e. e.0) xs)) (sym held) (once-put filter.held key until sound.once);
+  later = subst (λ (xs : List (KeyShape × ℕ)). All (λ e. clock < e.1) xs) (sym held) (unexpired_put clock filter.held key until late sound.later);
+  backed = λ other. (
+      let is = ap (λ (xs : List (KeyShape × ℕ)). until_in xs other) held ∙ until-put filter.held key until other in
+      let before = sound.backed other in
+      elim (cases_Bool (same_key other key)) [
+        | inl own ↦ (
+            let same : other ≡ key = (same_key-Decides other key).0 own in
+            let most : until ≤ last_until issued.held other = subst (λ (k : KeyShape). until ≤ last_until issued.held k) (sym same) low in
+            let now : until_in new_filter.held other ≡ max (until_in filter.held other) until = is ∙ ap (λ (b : Bool). max (until_in filter.held other) (if b then until else 0)) own in
+            omega (arith, most, before, now))
+        | inr apart ↦ (
+            let now : until_in new_filter.held other ≡ max (until_in filter.held other) 0 = is ∙ ap (λ (b : Bool). max (until_in filter.held other) (if b then until else 0)) apart in
+            omega (arith, before, now))
+      ]);
+}
+
+-- a key that could be marked still can be
+pub still-room : (filter new_filter : Filter) (key : KeyShape) (until : ℕ) (other : KeyShape) → new_filter.held ≡ put_until filter.held key until →
+    list_any (same_key other) new_filter.reserved ≡ (not (same_key key other) && list_any (same_key other) filter.reserved) →
+    IsTrue (list_any (same_key other) filter.reserved) ⊎ IsTrue (is_among filter.held other) → IsTrue (list_any (same_key other) new_filter.reserved) ⊎ IsTrue (is_among new_filter.held other)
+still-room filter new_filter key until other held reserved was =
+    elim (cases_Bool (same_key key other)) [
+      | inl own ↦ (
+          let same : key ≡ other = (same_key-Decides key other).0 own in
+          inr (ap (λ xs. is_among xs other) held ∙ subst (λ (k : KeyShape). is_among (put_until filter.held key until) k ≡ true) same (put-among filter.held)))
+      | inr apart ↦ elim was [
+        | inl there ↦ inl (reserved ∙ ap (λ (b : Bool). not b && list_any (same_key other) filter.reserved) apart ∙ there)
+        | inr among ↦ inr (ap (λ xs. is_among xs other) held ∙ kept-among filter.held among)
+      ]
+    ]
+  where
+    put-among : (xs : List (KeyShape × ℕ)) → is_among (put_until xs key until) key ≡ true
+    put-among [] = ap (λ (b : Bool). b || false) ((same_key-Decides key key).1 refl)
+    put-among (x ∷ xs) =
+        elim (cases_Bool (same_key key x.0)) [
+          | inl hit ↦ rw hit (ap (λ (b : Bool). b || is_among xs key) hit)
+          | inr miss ↦ rw miss (ap (λ (b : Bool). b || is_among (put_until xs key until) key) miss ∙ put-among xs)
+        ]
+
+    kept-among : (xs : List (KeyShape × ℕ)) → is_among xs other ≡ true → is_among (put_until xs key until) other ≡ true
+    kept-among [] there = absurd (let e = there in cc)
+    kept-among (x ∷ xs) there =
+        elim (cases_Bool (same_key key x.0)) [
+          | inl hit ↦ rw hit there
+          | inr miss ↦ rw miss (either (same_key other x.0) (is_among xs other) (is_among (put_until xs key until) other) there (kept-among xs))
+        ]
+      where
+        either : (a b c : Bool) → (a || b) ≡ true → (b ≡ true → c ≡ true) → (a || c) ≡ true
+        either true b c h k = refl
+        either false b c h k = k h
+
+-- the marked keys are those whose second is later than the clock, each once
+pub are-marked : (g : Setting) (clock : ℕ) (issued : Issued) (filter : Filter) → IsSound g clock issued filter →
+    AreMarked (record { setting = g; clock = clock; copies = issued.held; outdated = filter.held; ready = issued.reserved; markable = filter.reserved })
+are-marked g clock issued filter sound = record {
+  once = sound.once;
+  marked = λ key. any-map (λ (e : KeyShape × ℕ). e.0) (same_key key) filter.held ∙ held-later clock filter.held key sound.later;
+}
+
+-- a key with a copy of an earlier commit is active
+pub copy-active : (g : Setting) (clock : ℕ) (issued : Issued) (filter : Filter) (key : KeyShape) (commit until : ℕ) → IsSound g clock issued filter → Some until ≡ latest_of issued.held key 0 commit → is_active issued.held key ≡ true
+copy-active g clock issued filter key commit until sound is =
+    let late = sound.late key _ until (sym is) in
+    let most = below-last issued.held key commit until (sym is) in
+    active-last issued.held key (omega (arith, late, most))
+
+-- where a copy may be kept at all, its key was active or one more may be
+pub lifetime-room : (a : Bool) (limit count high : ℕ) → 0 < (if not a && nat_le limit count then 0 else high) → (a ≡ true) ⊎ (count < limit)
+lifetime-room true limit count high some = inl refl
+lifetime-room false limit count high some =
+    elim (cases_Bool (nat_le limit count)) [
+      | inl full ↦ absurd (let none : 0 < 0 = rw full at some in omega (arith, none))
+      | inr room ↦ inr (leb-false limit count room)
+    ]

@@ -1,0 +1,43 @@
+-- the key has a copy of an earlier commit
+use Rattle.std.proofs.Common.{◌≡◌, ◌<◌, ◌≤◌, ◌⊎◌, ℕ, List, Bool, true, false, max, not, ◌&&◌, IsTrue, Some, None, Option, unwrap_or, if◌then◌else◌, ap, sym, ◌∙◌, subst, arith, inl, inr, refl}
+use Rattle.std.specs.List.{list_any}
+use Rattle.std.proofs.lemmas.Bool.{cases_Bool}
+use Rattle.query_normal.specs.Keys.{same_key}
+use Rattle.query_normal.specs.declared.key.KeyShape.{KeyShape}
+use Rattle.issued_expiries.specs.Copies.{is_active, latest_of}
+use Rattle.expiring_filter.specs.Filter.{Filter, is_reserved, is_held}
+use Rattle.expiring_filter.specs.Held.{put_until}
+use Rattle.hub_core.specs.Standing.{until_in}
+use Rattle.hub_core.specs.Handed.{Handed, CanMark, last_until, until_below}
+use Rattle.hub_core.proofs.HandedLemmas.{below-last}
+use Rattle.hub_core.proofs.MarkLemmas.{until-put}
+use Rattle.hub_core.proofs.SoundLemmas.{mark-few, sound-marked, still-room, copy-active}
+use Rattle.hub_core.proofs.copies.Copies.mark.Goals as goal
+
+pub add-requires-clause-reserved : goal.add-requires-clause-reserved
+add-requires-clause-reserved c = subst (λ (h : Handed). CanMark h c.args.key.now) (sym c.self.view_is) c.requires (copy-active _ _ c.self.inside.issued c.self.inside.outdated c.args.key.now c.args.below c.in-Some.until c.self.invariant c.in-Some.ensures)
+
+pub add-requires-clause-few : goal.add-requires-clause-few
+add-requires-clause-few c = mark-few _ _ c.self.inside.issued c.self.inside.outdated c.args.key.now c.self.invariant (copy-active _ _ c.self.inside.issued c.self.inside.outdated c.args.key.now c.args.below c.in-Some.until c.self.invariant c.in-Some.ensures)
+
+pub invariant_of-self : goal.invariant_of-self
+invariant_of-self c =
+    sound-marked _ _ c.self.inside.issued c.self.inside.outdated c.add.new.self c.args.key.now c.in-Some.until c.self.invariant
+    (c.self.invariant.late c.args.key.now _ c.in-Some.until (sym c.in-Some.ensures))
+    (below-last c.self.inside.issued.held c.args.key.now c.args.below c.in-Some.until (sym c.in-Some.ensures))
+    (ap (λ (f : Filter). f.clock) c.add.ensures.rest) (ap (λ (f : Filter). f.log2_bits) c.add.ensures.rest) (ap (λ (f : Filter). f.hashes) c.add.ensures.rest) c.add.ensures.held
+
+pub returns-in-Some-clause-outdated : goal.returns-in-Some-clause-outdated
+returns-in-Some-clause-outdated c = λ other.
+    let below : until_below c.args.self.now.copies c.args.key.now c.args.below ≡ c.in-Some.until =
+    ap (λ (h : Handed). until_below h.copies c.args.key.now c.args.below) (sym c.self.view_is) ∙ ap (λ (o : Option ℕ). unwrap_or o 0) (sym c.in-Some.ensures) in
+    ap (λ xs. until_in xs other) c.add.ensures.held
+    ∙ until-put c.self.inside.outdated.held c.args.key.now c.in-Some.until other
+    ∙ ap (λ (h : Handed). max (until_in h.outdated other) (if same_key other c.args.key.now then c.in-Some.until else 0)) c.self.view_is
+    ∙ ap (λ (n : ℕ). max (until_in c.args.self.now.outdated other) (if same_key other c.args.key.now then n else 0)) (sym below)
+
+pub returns-in-Some-clause-room : goal.returns-in-Some-clause-room
+returns-in-Some-clause-room c = λ other can active.
+    let was : IsTrue (list_any (same_key other) c.self.inside.outdated.reserved) ⊎ IsTrue (list_any (λ e. same_key other e.0) c.self.inside.outdated.held) =
+    subst (λ (h : Handed). CanMark h other) (sym c.self.view_is) can active in
+    still-room c.self.inside.outdated c.add.new.self c.args.key.now c.in-Some.until other c.add.ensures.held (c.add.ensures.reserved other) was

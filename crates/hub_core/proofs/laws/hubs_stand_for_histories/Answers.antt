@@ -1,0 +1,24 @@
+-- the state of a longer history is that after its last entry
+use Rattle.std.proofs.Common.{◌≡◌, ◌++◌, ◌∷◌, [], List, sym, ap, ◌∙◌, subst}
+use Rattle.hub_model.specs.Legal.{IsLegal}
+use Rattle.hub_model.specs.Setting.{Setting}
+use Rattle.hub_model.specs.State.{State, start}
+use Rattle.hub_model.specs.Step.{after, state_of}
+use Rattle.hub_core.specs.Standing.{HubValue, IsAt, Stands}
+use Rattle.hub_core.proofs.laws.hubs_stand_for_histories.Goals as goal
+
+pub returns-clause-begins : goal.returns-clause-begins
+returns-clause-begins c = λ h at. record {
+  state = subst (λ (s : State). IsAt h s) (sym (c.no_entry_is_legal.ensures.state h.setting)) at;
+  legal = c.no_entry_is_legal.ensures.legal h.setting;
+}
+
+pub returns-clause-goes_on : goal.returns-clause-goes_on
+returns-clause-goes_on c = λ h new history e stands may setting step.
+    let longer = history ++ e ∷ [] in
+    let more : after h.setting (state_of h.setting history) e ≡ state_of new.setting longer =
+    sym (c.one_entry_more.ensures.state h.setting history e) ∙ ap (λ (g : Setting). state_of g longer) (sym setting) in
+    record {
+      state = subst (λ (s : State). IsAt new s) more (step (state_of h.setting history) stands.state);
+      legal = subst (λ (g : Setting). IsLegal g longer) (sym setting) ((c.one_entry_more.ensures.legal h.setting history e).1 (stands.legal, may));
+    }

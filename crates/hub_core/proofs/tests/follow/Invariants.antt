@@ -1,0 +1,6 @@
+-- the room was made for the hub
+use Rattle.hub_core.specs.Room.{IsRoomFor}
+use Rattle.hub_core.proofs.tests.follow.Given as goal
+
+abbrev pub invariant-loop-step : goal.invariant-loop-step
+invariant-loop-step l = IsRoomFor l.hub.setting l.room

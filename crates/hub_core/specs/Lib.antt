@@ -1,0 +1,13 @@
+pub mod Config
+pub mod Handed
+pub mod Room
+pub mod Rows
+pub mod Standing
+pub use Rattle.flat_snapshot.specs.PageText
+pub use Rattle.hub_model.specs.Legal
+pub use Rattle.hub_model.specs.Record
+pub use Rattle.hub_model.specs.Reply
+pub use Rattle.hub_model.specs.Setting
+pub use Rattle.hub_model.specs.State
+pub use Rattle.hub_model.specs.Step
+pub use Rattle.query_normal.specs.Pages

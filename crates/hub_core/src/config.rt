@@ -1,0 +1,178 @@
+//! The configuration of a hub.
+ghost use Rattle.std.specs.Prelude.{◌≡◌};
+ghost use Rattle.hub_core.specs.Config.{configured};
+ghost use Rattle.hub_model.specs.Setting.{IsWithinLimits};
+
+use std::error::Error;
+use std::fmt;
+use std::marker::Model;
+
+/// The limits and defaults of one hub. Contracts see them as a `Setting`.
+#[derive(Clone, Debug, Drop)]
+pub struct Config {
+    log2_bits: u8,
+    hashes: u8,
+    ttl_low: u32,
+    ttl_high: u32,
+    active: u32,
+    capacity: u64,
+}
+
+impl Model for Config {
+    ghost use Rattle.hub_model.specs.Setting.{Setting, IsWithinLimits};
+
+    ghost Value = { Setting };
+
+    ghost view = { λ c. record {
+      log2_bits = c.log2_bits;
+      hashes = c.hashes;
+      ttl_low = c.ttl_low;
+      ttl_high = c.ttl_high;
+      active = c.active;
+      capacity = c.capacity;
+    } };
+
+    ghost invariant = { λ c. IsWithinLimits (record {
+      log2_bits = c.log2_bits;
+      hashes = c.hashes;
+      ttl_low = c.ttl_low;
+      ttl_high = c.ttl_high;
+      active = c.active;
+      capacity = c.capacity;
+    }) };
+}
+
+/// Why numbers are no configuration. The first that holds, in this order, is the answer.
+#[derive(Clone, Copy, Debug, PartialEq, Eq)]
+pub enum ConfigRefusal {
+    /// The logarithm of the number of the filter's bits is not 10 to 22.
+    BadBits { found: u8 },
+    /// The number of hashes is not 1 to 16.
+    BadHashes { found: u8 },
+    /// The least lifetime is 0 or above the greatest, or the greatest is above 31,536,000 seconds.
+    BadTtl { low: u32, high: u32 },
+    /// The number of active keys is above 1,000,000.
+    BadActive { found: u32 },
+    /// The capacity is not 65,792 to 134,217,728 bytes.
+    BadCapacity { found: u64 },
+}
+
+impl fmt::Display for ConfigRefusal {
+    fn fmt<W: fmt::Write>(&self, f: &mut fmt::Formatter<W>) -> fmt::Result {
+        match self {
+            ConfigRefusal::BadBits { found } => {
+                write!(f, "the filter has 2^10 to 2^22 bits, not 2^{found}")
+            }
+            ConfigRefusal::BadHashes { found } => {
+                write!(f, "the filter has 1 to 16 hashes, not {found}")
+            }
+            ConfigRefusal::BadTtl { low, high } => write!(
+                f,
+                "lifetimes are 1 to 31536000 seconds, the least first, not {low} and {high}"
+            ),
+            ConfigRefusal::BadActive { found } => {
+                write!(f, "at most 1000000 keys are active, not {found}")
+            }
+            ConfigRefusal::BadCapacity { found } => {
+                write!(f, "the capacity is 65792 to 134217728 bytes, not {found}")
+            }
+        }
+    }
+}
+
+impl Error for ConfigRefusal {}
+
+impl Config {
+    /// The configuration of these numbers, where each is within its limits.
+    pub fn new(
+        log2_bits: u8,
+        hashes: u8,
+        ttl_low: u32,
+        ttl_high: u32,
+        active: u32,
+        capacity: u64,
+    ) -> Result<Config, ConfigRefusal>
+        ensures { result ≡ configured (record {
+          log2_bits = log2_bits;
+          hashes = hashes;
+          ttl_low = ttl_low;
+          ttl_high = ttl_high;
+          active = active;
+          capacity = capacity;
+        }) }
+    {
+        if log2_bits < 10 || log2_bits > 22 {
+            return Err(ConfigRefusal::BadBits { found: log2_bits });
+        }
+        if hashes < 1 || hashes > 16 {
+            return Err(ConfigRefusal::BadHashes { found: hashes });
+        }
+        if ttl_low < 1 || ttl_low > ttl_high || ttl_high > 31_536_000 {
+            return Err(ConfigRefusal::BadTtl {
+                low: ttl_low,
+                high: ttl_high,
+            });
+        }
+        if active > 1_000_000 {
+            return Err(ConfigRefusal::BadActive { found: active });
+        }
+        if capacity < 65_792 || capacity > 134_217_728 {
+            return Err(ConfigRefusal::BadCapacity { found: capacity });
+        }
+        Ok(Config {
+            log2_bits,
+            hashes,
+            ttl_low,
+            ttl_high,
+            active,
+            capacity,
+        })
+    }
+
+    /// The logarithm of the number of the page's bits.
+    pub fn log2_bits(&self) -> u8
+        ensures same { result ≡ self.now.log2_bits }
+        ensures within { IsWithinLimits self.now }
+    {
+        self.log2_bits
+    }
+
+    /// So many positions has a key.
+    pub fn hashes(&self) -> u8
+        ensures { result ≡ self.now.hashes }
+    {
+        self.hashes
+    }
+
+    /// The greatest lifetime, in seconds.
+    pub fn ttl_high(&self) -> u32
+        ensures { result ≡ self.now.ttl_high }
+    {
+        self.ttl_high
+    }
+
+    /// So many keys may be active at once.
+    pub fn active(&self) -> u32
+        ensures { result ≡ self.now.active }
+    {
+        self.active
+    }
+}
+
+impl Default for Config {
+    ghost use Rattle.std.specs.Prelude.{◌≡◌};
+    ghost use Rattle.hub_model.specs.Setting.{default_setting};
+
+    ghost is_default = { λ c. c ≡ default_setting };
+
+    fn default() -> Config {
+        Config {
+            log2_bits: 17,
+            hashes: 6,
+            ttl_low: 1,
+            ttl_high: 3_600,
+            active: 10_000,
+            capacity: 134_217_728,
+        }
+    }
+}

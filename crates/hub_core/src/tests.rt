@@ -1,0 +1,185 @@
+//! What no clause says: the words of refusals, that calls succeed where there is memory, and worked
+//! histories, whose answers come from outside.
+ghost use Rattle.std.specs.Prelude.{◌≡◌};
+ghost use Rattle.hub_core.specs.Room.{IsRoomFor};
+
+use crate::{Config, ConfigRefusal, Hub, PageRoom};
+use flat_snapshot::{set_bit, write_head};
+use hub_model::{Change, Condition, Found, Outcome, Tags, Written};
+use q_base::{Moment, Name};
+use q_doc::Doc;
+use query_normal::Key;
+use std::alloc::Global;
+use std::test::Fail;
+
+/// One call over the record p1 of the collection shop, with the answer that it must give.
+#[derive(Clone, Copy)]
+enum Step {
+    /// The moment, the document, the commit, and what is found.
+    Put(u64, &'static [u8], u64, Found),
+    /// The moment, the commit, the lifetime, and the document.
+    Read(u64, u64, u32, &'static [u8]),
+    /// The moment, and the last commit.
+    Match(u64, u64),
+    /// The moment, the front, the number of commits, and the positions of the page's bits.
+    Fetch(u64, u64, u64, &'static [u32]),
+}
+
+/// The positions of `r/shop/p1` among 2^17 bits for 6 hashes.
+const P1: &[u32] = &[6848, 19872, 42872, 78896, 101896, 114920];
+
+#[test]
+fn worked_histories_are_answered(rt: HostRuntime) -> Result<(), Fail> {
+    let alloc = rt.alloc();
+    let first = Step::Put(100, br#"{"a":1}"#, 1, Found::Missing);
+    let read = Step::Read(100, 1, 60, br#"{"a":1}"#);
+    let second = Step::Put(110, br#"{"a":2}"#, 2, Found::At(1));
+    let covered = Step::Match(110, 2);
+    let there = Step::Fetch(159, 2, 2, P1);
+    let gone = Step::Fetch(160, 2, 2, &[]);
+    // The copy of commit 1 is outdated until 160.
+    assert!(rt; follow(alloc, 60, &[first, read, second, covered, there, gone])?);
+    // Without the match of commit 2 nothing is.
+    let before = Step::Fetch(159, 0, 2, &[]);
+    assert!(rt; follow(alloc, 60, &[first, read, second, before])?);
+    let short = Step::Match(110, 1);
+    let between = Step::Fetch(159, 1, 2, &[]);
+    assert!(rt; follow(alloc, 60, &[first, read, second, short, between])?);
+    // A later copy neither takes the key out nor keeps it in.
+    let later = Step::Read(120, 2, 60, br#"{"a":2}"#);
+    assert!(rt;
+        follow(
+            alloc,
+            60,
+            &[first, read, second, covered, later, there, gone]
+        )?
+    );
+    let read = Step::Read(100, 1, 3_600, br#"{"a":1}"#);
+    let second = Step::Put(100, br#"{"a":2}"#, 2, Found::At(1));
+    let covered = Step::Match(100, 2);
+    let there = Step::Fetch(100, 2, 2, P1);
+    assert!(rt; follow(alloc, 3_600, &[first, read, second, covered, there])?);
+    Ok(())
+}
+
+/// Makes the calls over a new hub whose lifetimes are all the same; whether all answers are right.
+fn follow(alloc: Global, ttl: u32, steps: &[Step]) -> Result<bool, Fail> {
+    let config = Config::new(17, 6, 1, ttl, 10_000, 134_217_728)?;
+    let mut room = PageRoom::new(alloc, &config)?;
+    let mut hub = Hub::new(alloc, config)?;
+    for step in steps {
+        if !is_right(alloc, &mut hub, &mut room, *step)? {
+            return Ok(false);
+        }
+    }
+    Ok(true)
+}
+
+/// Makes one call; whether its answer is right.
+fn is_right(alloc: Global, hub: &mut Hub, room: &mut PageRoom, step: Step) -> Result<bool, Fail>
+    requires { IsRoomFor hub.old.setting room.old }
+    ensures { IsRoomFor hub.new.setting room.new }
+{
+    match step {
+        Step::Put(moment, text, commit, found) => {
+            let change = change_to(alloc, text)?;
+            let Written::Done {
+                commit: told,
+                before,
+                clock: _,
+            } = hub.write(Moment::of(moment), &change, &Condition::Always)?;
+            Ok(told == commit && before == found)
+        }
+        Step::Read(moment, commit, ttl, text) => {
+            let answer = hub.read(Moment::of(moment), &key(alloc)?, &Tags::Unasked)?;
+            Ok(answer.commit == commit && answer.ttl == ttl && is_text(&answer.result, text))
+        }
+        Step::Match(moment, to) => {
+            if to <= hub.front() || hub.commits() < to {
+                return Ok(false);
+            }
+            Ok(hub.match_to(Moment::of(moment), to)?.front == to)
+        }
+        Step::Fetch(moment, front, commits, bits) => {
+            hub.fetch(Moment::of(moment), room);
+            let held = hub.holds(&key(alloc)?) && hub.record_count() == 1;
+            let page = page_of(alloc, moment, front, commits, bits)?;
+            Ok(
+                held != bits.is_empty()
+                    && room.moment() == Moment::of(moment)
+                    && room.bytes() == page.as_slice(),
+            )
+        }
+    }
+}
+
+/// The key of the record.
+fn key(alloc: Global) -> Result<Key, Fail> {
+    let collection = Name::read(alloc, b"shop")?;
+    Ok(Key::record(alloc, collection, Name::read(alloc, b"p1")?)?)
+}
+
+/// Puts a document.
+fn change_to(alloc: Global, text: &[u8]) -> Result<Change, Fail> {
+    Ok(Change {
+        collection: Name::read(alloc, b"shop")?,
+        id: Name::read(alloc, b"p1")?,
+        document: Some(Doc::read(alloc, text)?),
+    })
+}
+
+/// Whether the outcome is a document of this text.
+fn is_text(outcome: &Outcome, text: &[u8]) -> bool {
+    match outcome {
+        Outcome::Whole { text: told, .. } => told.as_slice() == text,
+        Outcome::Absent => false,
+    }
+}
+
+/// The bytes of the page with these numbers, and bits at these positions alone.
+fn page_of(
+    alloc: Global,
+    moment: u64,
+    front: u64,
+    commits: u64,
+    bits: &[u32],
+) -> Result<Vec<u8>, Fail> {
+    let mut page = vec![in alloc; 0u8; 16_414]?;
+    write_head(&mut page, 17, 6, front, commits, Moment::of(moment));
+    for position in bits {
+        if *position < 131_072 {
+            set_bit(&mut page, *position);
+        }
+    }
+    Ok(page)
+}
+
+#[test]
+fn refusals_are_said_in_words(rt: HostRuntime) -> Result<(), Fail> {
+    let cases = [
+        (
+            ConfigRefusal::BadBits { found: 9 },
+            "the filter has 2^10 to 2^22 bits, not 2^9",
+        ),
+        (
+            ConfigRefusal::BadHashes { found: 17 },
+            "the filter has 1 to 16 hashes, not 17",
+        ),
+        (
+            ConfigRefusal::BadTtl { low: 2, high: 1 },
+            "lifetimes are 1 to 31536000 seconds, the least first, not 2 and 1",
+        ),
+        (
+            ConfigRefusal::BadActive { found: 1_000_001 },
+            "at most 1000000 keys are active, not 1000001",
+        ),
+        (
+            ConfigRefusal::BadCapacity { found: 65_791 },
+            "the capacity is 65792 to 134217728 bytes, not 65791",
+        ),
+    ];
+    for (refusal, want) in cases {
+        assert_eq!(rt; refusal.to_string(rt.alloc())?.as_str(), want);
+    }
+    Ok(())
+}
