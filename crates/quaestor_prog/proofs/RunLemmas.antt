@@ -7,8 +7,8 @@ use Rattle.q_outside.specs.declared.clocks.FixedClock.{FixedClock}
 use Rattle.q_outside.specs.declared.served.Why.{Why}
 use Rattle.quaestor_prog.specs.Words.{IsPipe}
 use Rattle.quaestor_server.specs.Connection.{Side, Conversation}
-use Rattle.quaestor_server.specs.Setting.{Setting, default_setting}
-use Rattle.quaestor_server.specs.declared.entry.Entry.{Entry}
+use Rattle.hub_model.specs.Setting.{Setting, default_setting}
+use Rattle.hub_model.specs.declared.entry.Entry.{Entry}
 use Rattle.quaestor_prog.specs.Run.{Shown, side, AreAt, AreTimed, IsRun}
 use Rattle.quaestor_prog.specs.Status.{status_of}
 use Rattle.quaestor_prog.specs.declared.status.Status.{Status}

@@ -5,8 +5,8 @@ use Rattle.q_base.specs.declared.moment.TheConstants.{GREATEST_SECONDS}
 use Rattle.q_outside.specs.Told.{Gives, GivesPart, Ticks}
 use Rattle.q_outside.specs.declared.served.Why.{Why}
 use Rattle.quaestor_server.specs.Connection.{Side, Conversation}
-use Rattle.quaestor_server.specs.Setting.{default_setting}
-use Rattle.quaestor_server.specs.declared.entry.Entry.{Entry}
+use Rattle.hub_model.specs.Setting.{default_setting}
+use Rattle.hub_model.specs.declared.entry.Entry.{Entry}
 use Rattle.quaestor_prog.specs.Status.{status_of}
 use Rattle.quaestor_prog.specs.declared.status.Status.{Status}
 use Rattle.quaestor_prog.specs.declared.status.Status.TheVariants.{Words, WriteFault, Memory}

@@ -77,7 +77,10 @@ fn pipe<S: Source, K: Sink, C: Clock>(
         Ok(room) => room,
         Err(_) => return Status::Memory,
     };
-    let mut desk = Owned::new(alloc, config);
+    let mut desk = match Owned::new(alloc, config) {
+        Ok(desk) => desk,
+        Err(_) => return Status::Memory,
+    };
     let served = serve_connection(alloc, &mut desk, source, sink, clock, &mut room);
     Status::of(served.why)
 }

@@ -22,7 +22,32 @@ const STORED: &[u8] =
 
 /// The reply to the second, at the moment 100.
 const FOUND: &[u8] =
-    b"HTTP/1.1 200 OK\r\nDate: Thu, 01 Jan 1970 00:01:40 GMT\r\nContent-Type: application/json\r\nContent-Length: 7\r\nETag: \"1\"\r\nCache-Control: no-store\r\nQuaestor-Commit: 1\r\nQuaestor-Version: 1\r\nQuaestor-Until: 100\r\n\r\n{\"a\":1}";
+    b"HTTP/1.1 200 OK\r\nDate: Thu, 01 Jan 1970 00:01:40 GMT\r\nContent-Type: application/json\r\nContent-Length: 7\r\nETag: \"1\"\r\nCache-Control: max-age=3600\r\nQuaestor-Commit: 1\r\nQuaestor-Version: 1\r\nQuaestor-Until: 3700\r\n\r\n{\"a\":1}";
+
+/// Another document is put in its place.
+const PUT_AGAIN: &[u8] =
+    b"PUT /v1/d/shop/p1 HTTP/1.1\r\nHost: a\r\nContent-Length: 7\r\n\r\n{\"a\":2}";
+
+/// All commits are matched.
+const MATCH: &[u8] = b"POST /v1/match HTTP/1.1\r\nHost: a\r\n\r\n";
+
+/// The page of the outdated keys is fetched.
+const FILTER: &[u8] = b"GET /v1/filter HTTP/1.1\r\nHost: a\r\n\r\n";
+
+/// The reply to the second put, at the moment 100.
+const STORED_AGAIN: &[u8] =
+    b"HTTP/1.1 200 OK\r\nDate: Thu, 01 Jan 1970 00:01:40 GMT\r\nContent-Type: application/json\r\nContent-Length: 12\r\nCache-Control: no-store\r\nQuaestor-Commit: 2\r\n\r\n{\"commit\":2}";
+
+/// The reply to the match of two commits, at the moment 100.
+const MATCHED: &[u8] =
+    b"HTTP/1.1 200 OK\r\nDate: Thu, 01 Jan 1970 00:01:40 GMT\r\nContent-Type: application/json\r\nContent-Length: 11\r\nCache-Control: no-store\r\n\r\n{\"front\":2}";
+
+/// The head of the reply to a fetch, at the moment 100.
+const PAGE_HEAD: &[u8] =
+    b"HTTP/1.1 200 OK\r\nDate: Thu, 01 Jan 1970 00:01:40 GMT\r\nContent-Type: application/octet-stream\r\nContent-Length: 16414\r\nCache-Control: no-store\r\n\r\n";
+
+/// The six positions of `r/shop/p1` among 2^17 bits.
+const PLACES: [usize; 6] = [101_896, 6_848, 42_872, 78_896, 114_920, 19_872];
 
 /// A request for no resource that there is.
 const ELSEWHERE: &[u8] = b"GET /v2 HTTP/1.1\r\nHost: a\r\n\r\n";
@@ -36,7 +61,7 @@ const GIVEN: u64 = 253_402_300_799;
 
 /// Both replies, at the greatest moment.
 const LAST: &[u8] =
-    b"HTTP/1.1 201 Created\r\nDate: Fri, 31 Dec 9999 23:59:59 GMT\r\nContent-Type: application/json\r\nContent-Length: 12\r\nCache-Control: no-store\r\nQuaestor-Commit: 1\r\n\r\n{\"commit\":1}HTTP/1.1 200 OK\r\nDate: Fri, 31 Dec 9999 23:59:59 GMT\r\nContent-Type: application/json\r\nContent-Length: 7\r\nETag: \"1\"\r\nCache-Control: no-store\r\nQuaestor-Commit: 1\r\nQuaestor-Version: 1\r\nQuaestor-Until: 253402300799\r\n\r\n{\"a\":1}";
+    b"HTTP/1.1 201 Created\r\nDate: Fri, 31 Dec 9999 23:59:59 GMT\r\nContent-Type: application/json\r\nContent-Length: 12\r\nCache-Control: no-store\r\nQuaestor-Commit: 1\r\n\r\n{\"commit\":1}HTTP/1.1 200 OK\r\nDate: Fri, 31 Dec 9999 23:59:59 GMT\r\nContent-Type: application/json\r\nContent-Length: 7\r\nETag: \"1\"\r\nCache-Control: max-age=3600\r\nQuaestor-Commit: 1\r\nQuaestor-Version: 1\r\nQuaestor-Until: 253402304399\r\n\r\n{\"a\":1}";
 
 /// What is written for words that no command takes.
 const USAGE: &[u8] = b"usage: quaestor pipe, serve, read or world\n";
@@ -159,6 +184,31 @@ fn joined(alloc: Global, first: &[u8], second: &[u8]) -> Result<Vec<u8>, Memory>
     let mut both = Vec::from_slice(alloc, first)?;
     both.extend_from_slice(second)?;
     Ok(both)
+}
+
+/// Texts one behind another.
+fn all_of(alloc: Global, texts: &[&[u8]]) -> Result<Vec<u8>, Memory> {
+    let mut all = Vec::new(alloc);
+    for text in texts {
+        all.extend_from_slice(text)?;
+    }
+    Ok(all)
+}
+
+/// The reply to a fetch at the moment 100, with these bits.
+fn page_of(alloc: Global, front: u8, commits: u8, places: &[usize]) -> Result<Vec<u8>, Memory> {
+    let mut reply = joined(alloc, PAGE_HEAD, b"QSF1\x06\x11")?;
+    for number in [front, commits, 100] {
+        reply.extend_from_slice(&[0, 0, 0, 0, 0, 0, 0, number])?;
+    }
+    let mut bits = vec![in alloc; 0u8; 16_384]?;
+    for place in places {
+        if let Some(byte) = bits.get_mut(*place / 8) {
+            *byte |= 1u8 << (*place % 8);
+        }
+    }
+    reply.extend_from_slice(&bits)?;
+    Ok(reply)
 }
 
 /// A text so many times.
@@ -354,13 +404,50 @@ fn ten_thousand_requests_are_the_limit(rt: HostRuntime) -> Result<(), Fail> {
 }
 
 #[test]
+fn a_page_has_the_keys_of_outdated_copies(rt: HostRuntime) -> Result<(), Fail> {
+    // What is asked before the page, the replies, and the page's front, number of commits and bits.
+    let rows: [(&[&[u8]], &[&[u8]], u8, u8, &[usize]); 4] = [
+        (&[], &[], 0, 0, &[]),
+        (
+            &[PUT, GET, PUT_AGAIN],
+            &[STORED, FOUND, STORED_AGAIN],
+            0,
+            2,
+            &[],
+        ),
+        (
+            &[PUT, GET, PUT_AGAIN, MATCH],
+            &[STORED, FOUND, STORED_AGAIN, MATCHED],
+            2,
+            2,
+            &PLACES,
+        ),
+        (
+            &[PUT, GET, PUT_AGAIN, MATCH, MATCH],
+            &[STORED, FOUND, STORED_AGAIN, MATCHED, MATCHED],
+            2,
+            2,
+            &PLACES,
+        ),
+    ];
+    for (at, (asks, replies, front, commits, places)) in rows.into_iter().enumerate() {
+        let input = joined(rt.alloc(), &all_of(rt.alloc(), asks)?, FILTER)?;
+        let page = page_of(rt.alloc(), front, commits, places)?;
+        let written = joined(rt.alloc(), &all_of(rt.alloc(), replies)?, &page)?;
+        let outcome = pipe_over(rt.alloc(), &input, calls_of(WHOLE), AMPLE, calls_of(7))?;
+        assert_run(&rt, &outcome, Status::Done, &written, at);
+    }
+    Ok(())
+}
+
+#[test]
 fn requests_have_their_replies(rt: HostRuntime) -> Result<(), Fail> {
     let rows: [(&[u8], Status, &[u8]); 6] = [
         (ELSEWHERE, Status::Done, NO_ROUTE),
         (
             b"GET /v1/d/shop/nobody HTTP/1.1\r\nHost: a\r\n\r\n",
             Status::Done,
-            b"HTTP/1.1 404 Not Found\r\nDate: Thu, 01 Jan 1970 00:01:40 GMT\r\nContent-Type: application/json\r\nContent-Length: 18\r\nCache-Control: no-store\r\nQuaestor-Commit: 0\r\nQuaestor-Until: 100\r\n\r\n{\"error\":\"absent\"}",
+            b"HTTP/1.1 404 Not Found\r\nDate: Thu, 01 Jan 1970 00:01:40 GMT\r\nContent-Type: application/json\r\nContent-Length: 18\r\nCache-Control: max-age=3600\r\nQuaestor-Commit: 0\r\nQuaestor-Until: 3700\r\n\r\n{\"error\":\"absent\"}",
         ),
         (
             b"PUT /v1/d/shop/p1 HTTP/1.1\r\nHost: a\r\nContent-Length: 3\r\n\r\n[1]",

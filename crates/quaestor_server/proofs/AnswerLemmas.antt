@@ -1,18 +1,25 @@
 -- A desk is made ready, and then answers.
-use Rattle.std.proofs.Common.{◌≡◌, ℕ, List, Result, Ok, refl, subst}
+use Rattle.std.proofs.Common.{◌≡◌, ℕ, List, ◌++◌, length, nat_lt, Result, Ok, refl, sym, subst, inl, inr}
+use Rattle.std.proofs.lemmas.Bool.{cases_Bool}
 use Rattle.q_base.specs.declared.memory.Memory.{Memory as NoMemory}
 use Rattle.quaestor_server.specs.declared.ask.Ask.{Ask}
-use Rattle.quaestor_server.specs.declared.entry.Entry.{Entry}
+use Rattle.quaestor_server.specs.declared.ask.Ask.TheVariants.{MatchAll}
+use Rattle.hub_model.specs.declared.entry.Matched.{Matched}
+use Rattle.hub_model.specs.State.{State}
+use Rattle.hub_model.specs.Step.{state_of}
+use Rattle.quaestor_server.specs.Ask.{IsFresh}
+use Rattle.quaestor_server.specs.Desk.{matching, MatchesAll}
+use Rattle.hub_model.specs.declared.entry.Entry.{Entry}
 use Rattle.quaestor_server.specs.declared.told.Told.{Told}
-use Rattle.quaestor_server.specs.declared.told.Told.TheVariants.{Memory}
+use Rattle.quaestor_server.specs.declared.told.Told.TheVariants.{Match, Memory}
 use Rattle.quaestor_server.specs.Answer.{IsMade, serves, fails, IsAnswer, served, failed}
-use Rattle.quaestor_server.specs.Desk.{Learns}
-use Rattle.quaestor_server.specs.Setting.{Setting}
+use Rattle.hub_model.specs.Desk.{Learns}
+use Rattle.hub_model.specs.Setting.{Setting}
 use Rattle.quaestor_server.proofs.PrefixLemmas.{learns-makes, learns-learns, fresh_before, prefix_self}
 
 -- an ask that a ready desk answered is answered
-pub answered-ready : (g : Setting) (old mid new : List Entry) (mine mine_mid mine_new : List (ℕ × Entry)) (moment : ℕ) (ask : Ask) (asked : Result Ask NoMemory) (told : Told) → asked ≡ Ok ask → Learns g old mid mine mine_mid → IsMade g mid new mine_mid mine_new moment ask told → IsAnswer g old new mine mine_new moment asked told
-answered-ready g old mid new mine mine_mid mine_new moment ask asked told asked_is l (serves s) =
+pub answered-ready : (g : Setting) (old mid new : List Entry) (mine mine_mid mine_new : List (ℕ × Entry)) (moment : ℕ) (ask : Ask) (asked : Result Ask NoMemory) (told : Told) (page : List ℕ) → asked ≡ Ok ask → Learns g old mid mine mine_mid → IsMade g mid new mine_mid mine_new moment ask told page → IsAnswer g old new mine mine_new moment asked told page
+answered-ready g old mid new mine mine_mid mine_new moment ask asked told page asked_is l (serves s) =
     served ask asked_is (record {
       entry = s.entry;
       replied = s.replied;
@@ -21,15 +28,34 @@ answered-ready g old mid new mine mine_mid mine_new moment ask asked told asked_
       fresh = fresh_before g old mid s.entry l.grew s.fresh;
       told_is = s.told_is;
     })
-answered-ready g old mid new mine mine_mid mine_new moment ask asked told asked_is l (fails f) =
+answered-ready g old mid new mine mine_mid mine_new moment ask asked told page asked_is l (fails f) =
     failed (record { learns = learns-learns g old mid new mine mine_mid mine_new l f.learns; told_is = f.told_is })
 
 -- a desk that is made ready keeps its configuration, and then answers
-pub answered-then : (g g' : Setting) (old mid new : List Entry) (mine mine_mid mine_new : List (ℕ × Entry)) (moment : ℕ) (ask : Ask) (asked : Result Ask NoMemory) (told : Told) → asked ≡ Ok ask → g' ≡ g → Learns g old mid mine mine_mid → IsMade g' mid new mine_mid mine_new moment ask told → IsAnswer g old new mine mine_new moment asked told
-answered-then g g' old mid new mine mine_mid mine_new moment ask asked told asked_is same l m =
-    answered-ready g old mid new mine mine_mid mine_new moment ask asked told asked_is l (subst (λ (x : Setting). IsMade x mid new mine_mid mine_new moment ask told) same m)
+pub answered-then : (g g' : Setting) (old mid new : List Entry) (mine mine_mid mine_new : List (ℕ × Entry)) (moment : ℕ) (ask : Ask) (asked : Result Ask NoMemory) (told : Told) (page : List ℕ) → asked ≡ Ok ask → g' ≡ g → Learns g old mid mine mine_mid → IsMade g' mid new mine_mid mine_new moment ask told page → IsAnswer g old new mine mine_new moment asked told page
+answered-then g g' old mid new mine mine_mid mine_new moment ask asked told page asked_is same l m =
+    answered-ready g old mid new mine mine_mid mine_new moment ask asked told page asked_is l (subst (λ (x : Setting). IsMade x mid new mine_mid mine_new moment ask told page) same m)
 
 -- a desk that was not asked fails
-pub answered-none : (g : Setting) (seen : List Entry) (mine : List (ℕ × Entry)) (moment : ℕ) (asked : Result Ask NoMemory) (told : Told) → told ≡ Memory → IsAnswer g seen seen mine mine moment asked told
-answered-none g seen mine moment asked told told_is =
+pub answered-none : (g : Setting) (seen : List Entry) (mine : List (ℕ × Entry)) (moment : ℕ) (asked : Result Ask NoMemory) (told : Told) (page : List ℕ) → told ≡ Memory → IsAnswer g seen seen mine mine moment asked told page
+answered-none g seen mine moment asked told page told_is =
     failed (record { learns = record { grew = prefix_self seen; legal = λ h. h; mine = refl }; told_is = told_is })
+
+-- a match of all commits reads nothing
+fresh_matching : (g : Setting) (old : List Entry) (s : State) (moment : ℕ) (e : Entry) → e ≡ matching s moment → IsFresh g old e
+fresh_matching g old s moment e is = subst (λ (x : Entry). IsFresh g old x) (sym is) (elim (cases_Bool (nat_lt s.front (length s.journal))) [
+  | inl behind ↦ rw behind tt
+  | inr there ↦ rw there tt
+])
+
+-- a desk that matched all commits served that ask
+pub made-match : (g : Setting) (old new : List Entry) (mine mine_new : List (ℕ × Entry)) (moment : ℕ) (ask : Ask) (match : Matched) (page : List ℕ) → ask ≡ MatchAll → MatchesAll g old new mine mine_new moment match → IsMade g old new mine mine_new moment ask (Match match) page
+made-match g old new mine mine_new moment ask match page ask_is m =
+    subst (λ (a : Ask). IsMade g old new mine mine_new moment a (Match match) page) (sym ask_is) (serves (record {
+      entry = m.entry;
+      replied = m.replied;
+      made = m.made;
+      is_of = m.entry_is;
+      fresh = fresh_matching g old (state_of g (m.made.before ++ m.made.helps)) moment m.entry m.entry_is;
+      told_is = (match, m.told_is, refl);
+    }))

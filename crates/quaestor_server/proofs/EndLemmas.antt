@@ -9,10 +9,10 @@ use Rattle.http_message.specs.Text.{is_blank}
 use Rattle.q_outside.specs.Told.{Takes, IsEnded}
 use Rattle.q_outside.specs.declared.served.Why.{Why}
 use Rattle.q_outside.specs.declared.served.Why.TheVariants.{InputEnd, Truncated, BadFraming, CloseAsked, RequestLimit, ReadFault, WriteFault}
-use Rattle.quaestor_server.specs.declared.entry.Entry.{Entry}
+use Rattle.hub_model.specs.declared.entry.Entry.{Entry}
 use Rattle.quaestor_server.specs.Connection.{Exchange, Talk, pieces, none_closes, request_limit, Side, Progress, Ends}
 use Rattle.quaestor_server.specs.EndLaw.{IsWhole, IsTold, last_place, end_of}
-use Rattle.quaestor_server.specs.Setting.{Setting}
+use Rattle.hub_model.specs.Setting.{Setting}
 
 -- the items of exchanges
 abbrev pieces_of : List Exchange → List Piece

@@ -10,12 +10,12 @@ use Rattle.http_message.specs.Text.{is_blank}
 use Rattle.q_outside.specs.Told.{Takes, IsEnded, Gives, Ticks}
 use Rattle.q_outside.specs.declared.served.Why.TheVariants as why
 use Rattle.q_outside.proofs.Chain.{Takes-nothing, Takes-append, Gives-nothing, Gives-append, Ticks-append}
-use Rattle.quaestor_server.specs.declared.entry.Entry.{Entry}
+use Rattle.hub_model.specs.declared.entry.Entry.{Entry}
 use Rattle.quaestor_server.specs.Connection.{Exchange, IsExchange, Talk, pieces, texts, owns, moments, none_closes, request_limit, Side, Progress, IsStopped, Conversation}
-use Rattle.quaestor_server.specs.Desk.{IsPrefix}
-use Rattle.quaestor_server.specs.Legal.{IsLegal}
+use Rattle.hub_model.specs.Desk.{IsPrefix}
+use Rattle.hub_model.specs.Legal.{IsLegal}
 use Rattle.quaestor_server.specs.Round.{Adds, IsWent, IsBreak, IsHalt}
-use Rattle.quaestor_server.specs.Setting.{Setting}
+use Rattle.hub_model.specs.Setting.{Setting}
 use Rattle.quaestor_server.proofs.PrefixLemmas.{prefix_self, prefix_trans}
 
 -- one item more

@@ -10,19 +10,21 @@ use Rattle.q_base.specs.declared.memory.Memory.{Memory as NoMemory}
 use Rattle.q_outside.specs.Told.{Takes, Gives, GivesPart, Counts}
 use Rattle.q_outside.proofs.Chain.{Takes-nothing, Takes-append}
 use Rattle.quaestor_server.specs.declared.ask.Ask.{Ask}
-use Rattle.quaestor_server.specs.declared.entry.Entry.{Entry}
+use Rattle.hub_model.specs.declared.entry.Entry.{Entry}
 use Rattle.quaestor_server.specs.declared.step.Step.{Step}
 use Rattle.quaestor_server.specs.declared.step.Step.TheVariants.{Went, Broke, Ended, Cut, Failed}
 use Rattle.quaestor_server.specs.declared.told.Told.{Told}
+use Rattle.quaestor_server.specs.declared.told.Told.TheVariants.{Memory}
 use Rattle.quaestor_server.specs.Answer.{IsAnswer, served, failed}
 use Rattle.quaestor_server.specs.Ask.{ask_of, IsEntryOf, IsToldOf}
 use Rattle.quaestor_server.specs.Connection.{Exchange, IsExchange, Side}
 use Rattle.quaestor_server.specs.Given.{GivesReply}
-use Rattle.quaestor_server.specs.Legal.{IsLegal}
-use Rattle.quaestor_server.specs.Reply.{Replied}
+use Rattle.hub_model.specs.Legal.{IsLegal}
+use Rattle.hub_model.specs.Reply.{Replied}
 use Rattle.quaestor_server.specs.ReplyText.{IsReplyText}
 use Rattle.quaestor_server.specs.Round.{Adds, IsWent, IsBreak, IsHalt, IsRound, AsksFor}
-use Rattle.quaestor_server.specs.Setting.{Setting}
+use Rattle.hub_model.specs.Setting.{Setting}
+use Rattle.hub_model.specs.Step.{state_of}
 
 -- what a turn makes of an item: an exchange of its own
 record Turned (g : Setting) (seen seen' : List Entry) (mine mine' : List (ℕ × Entry)) (moment : ℕ) (piece : List ℕ) (item : Item) (text : List ℕ) : Type 0 where
@@ -41,13 +43,17 @@ record Turned (g : Setting) (seen seen' : List Entry) (mine mine' : List (ℕ ×
 same_ask : (asked : Result Ask NoMemory) (ask : Ask) (item : Item) → asked ≡ Ok ask → AsksFor asked item → ask ≡ ask_of item
 same_ask asked ask item e h = subst (λ (r : Result Ask NoMemory). AsksFor r item) e h
 
+-- the text of want of memory has no page
+no_page : (close : Bool) (page text : List ℕ) → IsReplyText Memory page close text → IsReplyText Memory [] close text
+no_page close page text is = record { date = is.date; dated = is.dated; text_is = is.text_is }
+
 -- an answered item is an exchange
-turned : (g : Setting) (seen seen' : List Entry) (mine mine' : List (ℕ × Entry)) (moment : ℕ) (piece : List ℕ) (item : Item) (asked : Result Ask NoMemory) (told : Told) (text : List ℕ) → IsItem piece item → AsksFor asked item → IsReplyText told (closes item) text → IsAnswer g seen seen' mine mine' moment asked told → Turned g seen seen' mine mine' moment piece item text
-turned g seen seen' mine mine' moment piece item asked told text is_item asks is_text (served ask asked_is s) =
+turned : (g : Setting) (seen seen' : List Entry) (mine mine' : List (ℕ × Entry)) (moment : ℕ) (piece : List ℕ) (item : Item) (asked : Result Ask NoMemory) (told : Told) (page : List ℕ) (text : List ℕ) → IsItem piece item → AsksFor asked item → IsReplyText told page (closes item) text → IsAnswer g seen seen' mine mine' moment asked told page → Turned g seen seen' mine mine' moment piece item text
+turned g seen seen' mine mine' moment piece item asked told page text is_item asks is_text (served ask asked_is s) =
     let same : ask ≡ ask_of item = same_ask asked ask item asked_is asks in
     let own = enumerate_from (length s.made.before) (s.made.helps ++ s.entry ∷ []) in
     let x : Exchange = record { piece = piece; item = item; moment = moment; known = seen; after = seen'; own = own; text = text } in
-    let told_by : IsToldOf (ask_of item) s.replied told = subst (λ (a : Ask). IsToldOf a s.replied told) same s.told_is in
+    let told_by : IsToldOf (ask_of item) s.replied told page = subst (λ (a : Ask). IsToldOf a s.replied told page) same s.told_is in
     record {
       x = x;
       exchange = record {
@@ -57,13 +63,14 @@ turned g seen seen' mine mine' moment piece item asked told text is_item asks is
           helps = s.made.helps;
           entry = s.entry;
           told = told;
+          page = page;
           later = s.made.grew;
           helped = s.made.helped;
           after_is = s.made.seen;
           own_is = refl;
-          is_of = subst (λ (a : Ask). IsEntryOf a moment s.entry) same s.is_of;
+          is_of = subst (λ (a : Ask). IsEntryOf a moment (state_of g (s.made.before ++ s.made.helps)) s.entry) same s.is_of;
           fresh = s.fresh;
-          told_is = subst (λ (r : Replied). IsToldOf (ask_of item) r told) s.made.told_is told_by;
+          told_is = subst (λ (r : Replied). IsToldOf (ask_of item) r told page) s.made.told_is told_by;
           text_is = is_text;
         });
       };
@@ -76,7 +83,7 @@ turned g seen seen' mine mine' moment piece item asked told text is_item asks is
       mine_is = s.made.mine;
       legal = λ _. s.made.legal;
     }
-turned g seen seen' mine mine' moment piece item asked told text is_item asks is_text (failed f) =
+turned g seen seen' mine mine' moment piece item asked told page text is_item asks is_text (failed f) =
     let x : Exchange = record { piece = piece; item = item; moment = moment; known = seen; after = seen'; own = []; text = text } in
     record {
       x = x;
@@ -85,7 +92,7 @@ turned g seen seen' mine mine' moment piece item asked told text is_item asks is
         came_of = inr (record {
           later = f.learns.grew;
           own_is = refl;
-          text_is = subst (λ (t : Told). IsReplyText t (closes item) text) f.told_is is_text;
+          text_is = no_page (closes item) page text (subst (λ (t : Told). IsReplyText t page (closes item) text) f.told_is is_text);
         });
       };
       piece_is = refl;
@@ -97,6 +104,10 @@ turned g seen seen' mine mine' moment piece item asked told text is_item asks is
       mine_is = f.learns.mine ∙ sym (append-nil mine);
       legal = f.learns.legal;
     }
+
+-- the bytes that were given of the page are those that it has
+pub given_bytes : {T E : Type 0} (before after : Option (List ℕ)) (told : Told) (close : Bool) (result : Result T E) {bytes page : List ℕ} → bytes ≡ page → GivesReply before after told bytes close result → GivesReply before after told page close result
+given_bytes before after told close result same given = subst (λ (l : List ℕ). GivesReply before after told l close result) same given
 
 -- the exchange of a turn is added, and the bytes behind it are left
 added : (g : Setting) (seen seen' : List Entry) (mine mine' : List (ℕ × Entry)) (left : Option (List ℕ)) (faults : ℕ) (out out' : Option (List ℕ)) (fo fo' : ℕ) (tells : List ℕ → Type 0) (moment : ℕ) (held held' : List ℕ) (size : ℕ) (item : Item) (text : List ℕ) → IsLegal g seen → held' ≡ drop size held → fo ≤ fo' → tells (moment ∷ []) → (t : Turned g seen seen' mine mine' moment (take size held) item text)
@@ -120,11 +131,11 @@ added g seen seen' mine mine' left faults out out' fo fo' tells moment held held
     }
 
 -- a turn whose text was given
-pub went : {T E : Type 0} (g : Setting) (seen seen' : List Entry) (mine mine' : List (ℕ × Entry)) (left : Option (List ℕ)) (faults : ℕ) (out out' : Option (List ℕ)) (fo fo' : ℕ) (tells : List ℕ → Type 0) (moment : ℕ) (held held' : List ℕ) (size : ℕ) (close : Bool) (item : Item) (asked : Result Ask NoMemory) (told : Told) (x : T) → IsLegal g seen → held' ≡ drop size held → IsItem (take size held) item → size ≤ length held → size ≤ room_size → closes item ≡ close → AsksFor asked item → tells (moment ∷ []) → IsAnswer g seen seen' mine mine' moment asked told → GivesReply {T = T} {E = E} out out' told close (Ok x) → Counts {T = T} {E = E} fo fo' (Ok x)
+pub went : {T E : Type 0} (g : Setting) (seen seen' : List Entry) (mine mine' : List (ℕ × Entry)) (left : Option (List ℕ)) (faults : ℕ) (out out' : Option (List ℕ)) (fo fo' : ℕ) (tells : List ℕ → Type 0) (moment : ℕ) (held held' : List ℕ) (size : ℕ) (close : Bool) (item : Item) (asked : Result Ask NoMemory) (told : Told) (page : List ℕ) (x : T) → IsLegal g seen → held' ≡ drop size held → IsItem (take size held) item → size ≤ length held → size ≤ room_size → closes item ≡ close → AsksFor asked item → tells (moment ∷ []) → IsAnswer g seen seen' mine mine' moment asked told page → GivesReply {T = T} {E = E} out out' told page close (Ok x) → Counts {T = T} {E = E} fo fo' (Ok x)
     → IsWent g (record { seen = seen; mine = mine; left = left; held = out; faults_in = faults; faults_out = fo }) (record { seen = seen'; mine = mine'; left = left; held = out'; faults_in = faults; faults_out = fo' }) tells held held' size close
-went g seen seen' mine mine' left faults out out' fo fo' tells moment held held' size close item asked told x legal rest is_item within limit closing asks ticks answer given count =
-    let is_text : IsReplyText told (closes item) given.text = subst (λ (b : Bool). IsReplyText told b given.text) (sym closing) given.is in
-    let t : Turned g seen seen' mine mine' moment (take size held) item given.text = turned g seen seen' mine mine' moment (take size held) item asked told given.text is_item asks is_text answer in
+went g seen seen' mine mine' left faults out out' fo fo' tells moment held held' size close item asked told page x legal rest is_item within limit closing asks ticks answer given count =
+    let is_text : IsReplyText told page (closes item) given.text = subst (λ (b : Bool). IsReplyText told page b given.text) (sym closing) given.is in
+    let t : Turned g seen seen' mine mine' moment (take size held) item given.text = turned g seen seen' mine mine' moment (take size held) item asked told page given.text is_item asks is_text answer in
     record {
       exchange = t.x;
       adds = added g seen seen' mine mine' left faults out out' fo fo' tells moment held held' size item given.text legal rest count.later ticks t;
@@ -135,11 +146,11 @@ went g seen seen' mine mine' left faults out out' fo fo' tells moment held held'
     }
 
 -- a turn at which the sink failed
-pub broke : {T E : Type 0} (g : Setting) (seen seen' : List Entry) (mine mine' : List (ℕ × Entry)) (left : Option (List ℕ)) (faults : ℕ) (out out' : Option (List ℕ)) (fo fo' : ℕ) (tells : List ℕ → Type 0) (moment : ℕ) (held held' : List ℕ) (size : ℕ) (close : Bool) (item : Item) (asked : Result Ask NoMemory) (told : Told) (e : E) → IsLegal g seen → held' ≡ drop size held → IsItem (take size held) item → size ≤ length held → size ≤ room_size → closes item ≡ close → AsksFor asked item → tells (moment ∷ []) → IsAnswer g seen seen' mine mine' moment asked told → GivesReply {T = T} {E = E} out out' told close (Err e) → Counts {T = T} {E = E} fo fo' (Err e)
+pub broke : {T E : Type 0} (g : Setting) (seen seen' : List Entry) (mine mine' : List (ℕ × Entry)) (left : Option (List ℕ)) (faults : ℕ) (out out' : Option (List ℕ)) (fo fo' : ℕ) (tells : List ℕ → Type 0) (moment : ℕ) (held held' : List ℕ) (size : ℕ) (close : Bool) (item : Item) (asked : Result Ask NoMemory) (told : Told) (page : List ℕ) (e : E) → IsLegal g seen → held' ≡ drop size held → IsItem (take size held) item → size ≤ length held → size ≤ room_size → closes item ≡ close → AsksFor asked item → tells (moment ∷ []) → IsAnswer g seen seen' mine mine' moment asked told page → GivesReply {T = T} {E = E} out out' told page close (Err e) → Counts {T = T} {E = E} fo fo' (Err e)
     → IsBreak g (record { seen = seen; mine = mine; left = left; held = out; faults_in = faults; faults_out = fo }) (record { seen = seen'; mine = mine'; left = left; held = out'; faults_in = faults; faults_out = fo' }) tells held held'
-broke g seen seen' mine mine' left faults out out' fo fo' tells moment held held' size close item asked told e legal rest is_item within limit closing asks ticks answer given count =
-    let is_text : IsReplyText told (closes item) given.text = subst (λ (b : Bool). IsReplyText told b given.text) (sym closing) given.is in
-    let t : Turned g seen seen' mine mine' moment (take size held) item given.text = turned g seen seen' mine mine' moment (take size held) item asked told given.text is_item asks is_text answer in
+broke g seen seen' mine mine' left faults out out' fo fo' tells moment held held' size close item asked told page e legal rest is_item within limit closing asks ticks answer given count =
+    let is_text : IsReplyText told page (closes item) given.text = subst (λ (b : Bool). IsReplyText told page b given.text) (sym closing) given.is in
+    let t : Turned g seen seen' mine mine' moment (take size held) item given.text = turned g seen seen' mine mine' moment (take size held) item asked told page given.text is_item asks is_text answer in
     let part : GivesPart out out' t.x.text = subst (λ (s : List ℕ). GivesPart out out' s) (sym t.text_is) given.err in
     record {
       exchange = t.x;

@@ -6,15 +6,16 @@ use Rattle.http_message.specs.Text.{is_blank}
 use Rattle.q_outside.specs.Told.{Takes, IsEnded, Gives}
 use Rattle.q_outside.specs.declared.served.Why.{Why}
 use Rattle.q_outside.specs.declared.served.Why.TheVariants.{InputEnd, Truncated, BadFraming, CloseAsked, RequestLimit, ReadFault, WriteFault}
-use Rattle.quaestor_server.specs.declared.entry.Entry.{Entry}
+use Rattle.hub_model.specs.declared.entry.Entry.{Entry}
 use Rattle.quaestor_server.specs.declared.told.Told.{Told}
 use Rattle.quaestor_server.specs.declared.told.Told.TheVariants.{Memory}
 use Rattle.quaestor_server.specs.Ask.{ask_of, IsEntryOf, IsToldOf, IsFresh}
-use Rattle.quaestor_server.specs.Desk.{IsPrefix, IsHelped}
-use Rattle.quaestor_server.specs.Legal.{IsLegal}
-use Rattle.quaestor_server.specs.Reply.{reply}
+use Rattle.hub_model.specs.Desk.{IsPrefix, IsHelped}
+use Rattle.hub_model.specs.Legal.{IsLegal}
+use Rattle.hub_model.specs.Reply.{reply}
 use Rattle.quaestor_server.specs.ReplyText.{IsReplyText}
-use Rattle.quaestor_server.specs.Setting.{Setting}
+use Rattle.hub_model.specs.Setting.{Setting}
+use Rattle.hub_model.specs.Step.{state_of}
 
 -- so many requests are answered on one connection
 abbrev pub request_limit : ℕ
@@ -44,20 +45,22 @@ pub record IsServed (g : Setting) (x : Exchange) : Type 0 where
   pub helps : List Entry
   pub entry : Entry
   pub told : Told
+  -- the bytes of the page, where it is told one
+  pub page : List ℕ
   pub later : IsPrefix x.known before
   pub helped : IsHelped g before helps entry
   pub after_is : x.after ≡ (before ++ helps) ++ entry ∷ []
   pub own_is : x.own ≡ enumerate_from (length before) (helps ++ entry ∷ [])
-  pub is_of : IsEntryOf (ask_of x.item) x.moment entry
+  pub is_of : IsEntryOf (ask_of x.item) x.moment (state_of g (before ++ helps)) entry
   pub fresh : IsFresh g x.known entry
-  pub told_is : IsToldOf (ask_of x.item) (reply g (before ++ helps) entry) told
-  pub text_is : IsReplyText told (closes x.item) x.text
+  pub told_is : IsToldOf (ask_of x.item) (reply g (before ++ helps) entry) told page
+  pub text_is : IsReplyText told page (closes x.item) x.text
 
 -- For want of memory the item has no entry, and its text says so.
 pub record IsUnserved (x : Exchange) : Type 0 where
   pub later : IsPrefix x.known x.after
   pub own_is : x.own ≡ []
-  pub text_is : IsReplyText Memory (closes x.item) x.text
+  pub text_is : IsReplyText Memory [] (closes x.item) x.text
 
 -- what is true of each item of a connection
 pub record IsExchange (g : Setting) (x : Exchange) : Type 0 where

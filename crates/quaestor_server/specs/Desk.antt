@@ -1,36 +1,48 @@
--- What a call of a desk does to the history that the desk knows.
-use Rattle.std.specs.Prelude.{◌≡◌, ℕ, List, [], ◌∷◌, ◌++◌, length}
-use Rattle.std.specs.List.{enumerate_from}
-use Rattle.quaestor_server.specs.declared.entry.Entry.{Entry}
-use Rattle.quaestor_server.specs.Legal.{IsLegal}
-use Rattle.quaestor_server.specs.Reply.{Replied, reply}
-use Rattle.quaestor_server.specs.Setting.{Setting}
+-- What the calls of a desk do that match all commits or fetch a page; and what contracts see of a desk that owns its hub.
+use Rattle.std.specs.Prelude.{◌≡◌, ℕ, ◌∷◌, [], ◌++◌, nat_lt, if◌then◌else◌, List, length, Some}
+use Rattle.hub_core.specs.Room.{Fetched}
+use Rattle.hub_model.specs.declared.entry.Entry.{Entry}
+use Rattle.hub_model.specs.declared.entry.Entry.TheVariants.{Match, Fetch, Tick}
+use Rattle.hub_model.specs.declared.entry.Matched.{Matched}
+use Rattle.hub_model.specs.Desk.{Makes}
+use Rattle.hub_model.specs.Reply.{Replied, wrote, read, matched, fetched, counted}
+use Rattle.hub_model.specs.Setting.{Setting}
+use Rattle.hub_model.specs.State.{State}
+use Rattle.hub_model.specs.Step.{after, state_of}
+use Rattle.hub_model.specs.Legal.{MayFollow, IsLegal}
+use Rattle.query_normal.specs.Pages.{Page}
 
--- the first list is a beginning of the second
-abbrev pub IsPrefix : {X : Type 0} → List X → List X → Type 0
-IsPrefix {X} xs ys = (rest : List X) × (xs ++ rest ≡ ys)
+-- the entry that matches all commits of a state: a match up to the last one, or a tick where the front is there already
+abbrev pub matching : State → ℕ → Entry
+matching s moment = if nat_lt s.front (length s.journal) then Match moment (length s.journal) else Tick moment
 
--- the entries that stand ahead of this one in the same call: there are none
-abbrev pub IsHelped : Setting → List Entry → List Entry → Entry → Type 0
-IsHelped g before helps e = helps ≡ []
+-- the front and the clock that the reply to such an entry tells
+abbrev pub IsFrontOf : Replied → Matched → Type 0
+IsFrontOf (wrote written) told = ⊥
+IsFrontOf (read answer) told = ⊥
+IsFrontOf (matched match) told = told ≡ match
+IsFrontOf (fetched page) told = ⊥
+IsFrontOf (counted stats) told = told ≡ record { front = stats.front; clock = stats.clock }
 
--- The desk has made an entry, after all that it knew, and was told the reply at its place.
-pub record Makes (g : Setting) (old new : List Entry) (mine_old mine_new : List (ℕ × Entry)) (e : Entry) (told : Replied) : Type 0 where
-  -- what stands before this call's entries; others may have made some of it since
-  pub before : List Entry
-  pub helps : List Entry
-  pub grew : IsPrefix old before
-  pub helped : IsHelped g before helps e
-  pub seen : new ≡ (before ++ helps) ++ e ∷ []
-  pub legal : IsLegal g new
-  pub mine : mine_new ≡ mine_old ++ enumerate_from (length before) (helps ++ e ∷ [])
-  pub told_is : told ≡ reply g (before ++ helps) e
+-- The desk has made the entry that matches all commits at its place, and was told the front and the clock.
+pub record MatchesAll (g : Setting) (old new : List Entry) (mine_old mine_new : List (ℕ × Entry)) (moment : ℕ) (told : Matched) : Type 0 where
+  pub entry : Entry
+  pub replied : Replied
+  pub made : Makes g old new mine_old mine_new entry replied
+  pub entry_is : entry ≡ matching (state_of g (made.before ++ made.helps)) moment
+  pub told_is : IsFrontOf replied told
 
--- The desk has made no entry, though it may know more.
-pub record Learns (g : Setting) (old new : List Entry) (mine_old mine_new : List (ℕ × Entry)) : Type 0 where
-  pub grew : IsPrefix old new
-  pub legal : IsLegal g old → IsLegal g new
-  pub mine : mine_new ≡ mine_old
+-- The desk has made the entry that fetches a page, and the room holds the page that was told.
+pub record Fetches (g : Setting) (old new : List Entry) (mine_old mine_new : List (ℕ × Entry)) (moment : ℕ) (room : Fetched) : Type 0 where
+  pub page : Page
+  pub held : room.page ≡ Some page
+  pub made : Makes g old new mine_old mine_new (Fetch moment) (fetched page)
+
+-- The history is longer by an entry: its state is that after the entry, and it is legal where the entry may follow.
+pub record IsNoted (old new : List Entry) (e : Entry) : Type 0 where
+  pub stored : new ≡ old ++ e ∷ []
+  pub state : (g : Setting) → state_of g new ≡ after g (state_of g old) e
+  pub legal : (g : Setting) → IsLegal g old → MayFollow (state_of g old) e → IsLegal g new
 
 -- What contracts see of a desk that owns its hub.
 pub record Kept : Type 0 where

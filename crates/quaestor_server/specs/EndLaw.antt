@@ -5,7 +5,7 @@ use Rattle.http_message.specs.Text.{is_blank}
 use Rattle.q_outside.specs.declared.served.Why.{Why}
 use Rattle.q_outside.specs.declared.served.Why.TheVariants.{InputEnd, Truncated, BadFraming, RequestLimit}
 use Rattle.quaestor_server.specs.Connection.{Side, Conversation, request_limit}
-use Rattle.quaestor_server.specs.Setting.{Setting}
+use Rattle.hub_model.specs.Setting.{Setting}
 
 -- A connection over a source that told these bytes, at which neither source nor sink failed.
 pub record IsWhole (g : Setting) (bytes : List ℕ) (requests : ℕ) (why : Why) : Type 0 where

@@ -10,9 +10,9 @@ use Rattle.q_base.specs.declared.memory.Memory.{Memory as NoMemory}
 use Rattle.quaestor_server.specs.declared.ask.Ask.{Ask}
 use Rattle.quaestor_server.specs.Ask.{ask_of}
 use Rattle.quaestor_server.specs.Connection.{Exchange, IsExchange, Side}
-use Rattle.quaestor_server.specs.Desk.{IsPrefix}
-use Rattle.quaestor_server.specs.Legal.{IsLegal}
-use Rattle.quaestor_server.specs.Setting.{Setting}
+use Rattle.hub_model.specs.Desk.{IsPrefix}
+use Rattle.hub_model.specs.Legal.{IsLegal}
+use Rattle.hub_model.specs.Setting.{Setting}
 
 -- One item was taken and its entry made; of the bytes that are held these are left.
 pub record Adds (g : Setting) (a b : Side) (tells : List ℕ → Type 0) (held held' : List ℕ) (x : Exchange) : Type 0 where

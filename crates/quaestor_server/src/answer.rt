@@ -1,22 +1,32 @@
 //! How a desk answers one ask.
 ghost use Rattle.std.specs.Prelude.{◌≡◌};
-ghost use Rattle.quaestor_server.specs.Answer.{IsAnswer, IsMade};
+ghost use Rattle.hub_core.specs.Room.{IsRoomFor};
+ghost use Rattle.quaestor_server.specs.Answer.{IsAnswer, IsMade, fetched_bytes};
 
 use crate::ask::Ask;
 use crate::desk::Desk;
-use crate::entry::{Condition, Tags};
 use crate::told::Told;
+use hub_core::PageRoom;
+use hub_model::{Condition, Tags};
 use q_base::{Memory, Moment};
 
-/// Makes the entry of an ask, where there is memory, and answers what it is told.
-pub(crate) fn answer<D: Desk>(desk: &mut D, moment: Moment, asked: Result<Ask, Memory>) -> Told
-    ensures answer { IsAnswer (D.setting desk.old) (D.seen desk.old) (D.seen desk.new) (D.mine desk.old) (D.mine desk.new) moment asked result }
+/// Makes the entry of an ask, where there is memory, and answers what it is told. A page is fetched
+/// into the room.
+pub(crate) fn answer<D: Desk>(
+    desk: &mut D,
+    pages: &mut PageRoom,
+    moment: Moment,
+    asked: Result<Ask, Memory>,
+) -> Told
+    requires room { IsRoomFor (D.setting desk.old) pages.old }
+    ensures answer { IsAnswer (D.setting desk.old) (D.seen desk.old) (D.seen desk.new) (D.mine desk.old) (D.mine desk.new) moment asked result (fetched_bytes pages.new) }
+    ensures room { IsRoomFor (D.setting desk.old) pages.new }
     ensures anchor { D.anchor desk.new ≡ D.anchor desk.old }
     ensures setting { D.setting desk.new ≡ D.setting desk.old }
 {
     match asked {
         Ok(ask) => match desk.ready() {
-            Ok(()) => make(desk, moment, ask),
+            Ok(()) => make(desk, pages, moment, ask),
             Err(_) => Told::Memory,
         },
         Err(_) => Told::Memory,
@@ -24,9 +34,11 @@ pub(crate) fn answer<D: Desk>(desk: &mut D, moment: Moment, asked: Result<Ask, M
 }
 
 /// Makes the entry of an ask at a desk that is ready.
-fn make<D: Desk>(desk: &mut D, moment: Moment, ask: Ask) -> Told
-    requires { D.is_ready desk.old }
-    ensures answer { IsMade (D.setting desk.old) (D.seen desk.old) (D.seen desk.new) (D.mine desk.old) (D.mine desk.new) moment ask result }
+fn make<D: Desk>(desk: &mut D, pages: &mut PageRoom, moment: Moment, ask: Ask) -> Told
+    requires ready { D.is_ready desk.old }
+    requires room { IsRoomFor (D.setting desk.old) pages.old }
+    ensures answer { IsMade (D.setting desk.old) (D.seen desk.old) (D.seen desk.new) (D.mine desk.old) (D.mine desk.new) moment ask result (fetched_bytes pages.new) }
+    ensures room { IsRoomFor (D.setting desk.old) pages.new }
     ensures anchor { D.anchor desk.new ≡ D.anchor desk.old }
     ensures setting { D.setting desk.new ≡ D.setting desk.old }
 {
@@ -39,6 +51,14 @@ fn make<D: Desk>(desk: &mut D, moment: Moment, ask: Ask) -> Told
             Ok(answer) => Told::Read(answer),
             Err(_) => Told::Memory,
         },
+        Ask::MatchAll => match desk.match_all(moment) {
+            Ok(matched) => Told::Match(matched),
+            Err(_) => Told::Memory,
+        },
+        Ask::Fetch => {
+            desk.fetch(moment, pages);
+            Told::Page(pages.moment())
+        }
         Ask::Refuse(reason) => Told::Refusal(reason, desk.tick(moment).clock),
     }
 }

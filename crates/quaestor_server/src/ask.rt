@@ -1,13 +1,14 @@
 //! What the items of a connection ask of the store.
-ghost use Rattle.std.specs.Prelude.{◌≡◌, IfOk};
+ghost use Rattle.std.specs.Prelude.{◌≡◌, true, IfOk};
+ghost use Rattle.http_message.specs.Built.{fits, record_of};
 ghost use Rattle.http_message.specs.Parts.{IsRequestHeld, request_in};
 ghost use Rattle.q_base.specs.Name.{IsName};
 ghost use Rattle.quaestor_server.specs.Ask.{ask_of, record_ask, put_of};
 ghost use Rattle.q_doc.specs.Judged.{judged};
 
-use crate::entry::Change;
 use crate::told::Refused;
 use http_message::{Method, Parts, TargetParts};
+use hub_model::Change;
 use q_base::{Memory, Name};
 use q_doc::{Doc, DocRefusal};
 use query_normal::Key;
@@ -20,6 +21,10 @@ pub enum Ask {
     Put(Change),
     /// To read the result of a key.
     Get(Key),
+    /// To match all commits against the results that were handed out.
+    MatchAll,
+    /// To fetch the page of the outdated keys.
+    Fetch,
     /// Nothing but an entry of its own: it is refused.
     Refuse(Refused),
 }
@@ -38,6 +43,8 @@ pub(crate) fn ask_in(alloc: Global, held: &[u8], parts: Parts) -> Result<Ask, Me
             id.of(held),
             body,
         ),
+        TargetParts::Match => Ok(Ask::MatchAll),
+        TargetParts::Filter => Ok(Ask::Fetch),
         TargetParts::Elsewhere => Ok(Ask::Refuse(Refused::NoRoute)),
     }
 }
@@ -52,6 +59,7 @@ fn record_ask(
 ) -> Result<Ask, Memory>
     requires collection { IsName collection.now }
     requires id { IsName id.now }
+    requires fit { fits method (record_of collection.now id.now) ≡ true }
     ensures { IfOk result (λ ask. ask ≡ record_ask method collection.now id.now body.now) }
 {
     match method {
@@ -61,6 +69,7 @@ fn record_ask(
             name_of(alloc, id)?,
         )?)),
         Method::Put => put_ask(alloc, collection, id, body),
+        Method::Post => unreachable!(),
     }
 }
 

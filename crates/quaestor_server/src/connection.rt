@@ -3,24 +3,25 @@
 //! A turn takes the next item of the source's bytes, asks the clock, makes the item's entry and gives
 //! the sink its text. What a turn does is one exchange more; the connection's clause tells the list of
 //! them, the bytes that were taken besides, and what is true at the end that is answered.
-ghost use Rattle.std.specs.Prelude.{◌≡◌, ℕ, ◌≤◌, List, Option, length};
+ghost use Rattle.std.specs.Prelude.{◌≡◌, ℕ, ◌≤◌, List, Option, length, IfOk};
+ghost use Rattle.hub_core.specs.Room.{IsRoomFor};
 ghost use Rattle.http_message.specs.Item.{Item as AnItem, closes};
 ghost use Rattle.http_message.specs.Parts.{IsItemAt};
 ghost use Rattle.q_outside.specs.Told.{Ticks};
 ghost use Rattle.quaestor_server.specs.Ask.{ask_of};
 ghost use Rattle.quaestor_server.specs.Connection.{Conversation};
-ghost use Rattle.quaestor_server.specs.Legal.{IsLegal};
+ghost use Rattle.hub_model.specs.Legal.{IsLegal};
 ghost use Rattle.quaestor_server.specs.Round.{IsRound, AsksFor};
 
 use crate::answer::answer;
 use crate::ask::{Ask, ask_in};
-use crate::config::Config;
 use crate::desk::Desk;
 use crate::give::give_reply;
 use crate::reply::ReplyRoom;
 use crate::step::Step;
 use crate::told::Refused;
 use http_message::{RequestRoom, Taken, next_request};
+use hub_core::{Config, PageRoom};
 use q_base::Memory;
 use q_outside::{Clock, Served, Sink, Source, Why};
 use std::alloc::Global;
@@ -33,14 +34,19 @@ pub const REQUEST_LIMIT: u64 = 10_000;
 pub struct Room {
     requests: RequestRoom,
     reply: ReplyRoom,
+    /// The room for the pages that are fetched.
+    pub pages: PageRoom,
 }
 
 impl Room {
     /// The buffers of a connection to a hub of this configuration.
-    pub fn new(alloc: Global, _config: &Config) -> Result<Room, Memory> {
+    pub fn new(alloc: Global, config: &Config) -> Result<Room, Memory>
+        ensures { IfOk result (λ room. IsRoomFor config.now room.pages) }
+    {
         Ok(Room {
             requests: RequestRoom::new(alloc)?,
             reply: ReplyRoom::new(alloc)?,
+            pages: PageRoom::new(alloc, config)?,
         })
     }
 }
@@ -57,19 +63,21 @@ fn turn<D: Desk, K: Sink, C: Clock>(
 ) -> Step
     requires within { size ≤ length room.old.requests }
     requires legal { IsLegal (D.setting desk.old) (D.seen desk.old) }
+    requires room { IsRoomFor (D.setting desk.old) room.old.pages }
     ensures step { (left : Option (List ℕ)) (faults : ℕ) (item : AnItem)
         → IsItemAt room.old.requests size item → closes item ≡ close → AsksFor asked item
         → IsRound (D.setting desk.old)
         (record { seen = D.seen desk.old; mine = D.mine desk.old; left = left; held = K.held sink.old; faults_in = faults; faults_out = K.faults sink.old })
         (record { seen = D.seen desk.new; mine = D.mine desk.new; left = left; held = K.held sink.new; faults_in = faults; faults_out = K.faults sink.new })
         (λ ms. Ticks C.tells clock.old ms clock.new) room.old.requests room.new.requests result }
+    ensures room { IsRoomFor (D.setting desk.old) room.new.pages }
     ensures anchor { D.anchor desk.new ≡ D.anchor desk.old }
     ensures setting { D.setting desk.new ≡ D.setting desk.old }
 {
     let moment = clock.now();
-    let told = answer(desk, moment, asked);
+    let told = answer(desk, &mut room.pages, moment, asked);
     room.requests.skip(size);
-    match give_reply(sink, &mut room.reply, &told, close) {
+    match give_reply(sink, &mut room.reply, &told, room.pages.bytes(), close) {
         Ok(()) => Step::Went { size, close },
         Err(_) => Step::Broke,
     }
@@ -85,10 +93,12 @@ fn round<D: Desk, S: Source, K: Sink, C: Clock>(
     room: &mut Room,
 ) -> Step
     requires legal { IsLegal (D.setting desk.old) (D.seen desk.old) }
+    requires room { IsRoomFor (D.setting desk.old) room.old.pages }
     ensures step { IsRound (D.setting desk.old)
         (record { seen = D.seen desk.old; mine = D.mine desk.old; left = S.left source.old; held = K.held sink.old; faults_in = S.faults source.old; faults_out = K.faults sink.old })
         (record { seen = D.seen desk.new; mine = D.mine desk.new; left = S.left source.new; held = K.held sink.new; faults_in = S.faults source.new; faults_out = K.faults sink.new })
         (λ ms. Ticks C.tells clock.old ms clock.new) room.old.requests room.new.requests result }
+    ensures room { IsRoomFor (D.setting desk.old) room.new.pages }
     ensures anchor { D.anchor desk.new ≡ D.anchor desk.old }
     ensures setting { D.setting desk.new ≡ D.setting desk.old }
 {
@@ -135,11 +145,13 @@ pub fn serve_connection<D: Desk, S: Source, K: Sink, C: Clock>(
     clock: &mut C,
     room: &mut Room,
 ) -> Served
-    requires { IsLegal (D.setting desk.old) (D.seen desk.old) }
+    requires legal { IsLegal (D.setting desk.old) (D.seen desk.old) }
+    requires room { IsRoomFor (D.setting desk.old) room.old.pages }
     ensures conversation { Conversation (D.setting desk.old)
         (record { seen = D.seen desk.old; mine = D.mine desk.old; left = S.left source.old; held = K.held sink.old; faults_in = S.faults source.old; faults_out = K.faults sink.old })
         (record { seen = D.seen desk.new; mine = D.mine desk.new; left = S.left source.new; held = K.held sink.new; faults_in = S.faults source.new; faults_out = K.faults sink.new })
         (λ ms. Ticks C.tells clock.old ms clock.new) result.requests result.why }
+    ensures room { IsRoomFor (D.setting desk.old) room.new.pages }
     ensures anchor { D.anchor desk.new ≡ D.anchor desk.old }
     ensures setting { D.setting desk.new ≡ D.setting desk.old }
 {

@@ -1,14 +1,16 @@
 //! The store as a connection sees it: calls that make entries of one history.
-ghost use Rattle.std.specs.Prelude.{◌≡◌, ℕ, ◌+◌, ◌<◌, ◌≤◌, List, [], length, IfOk, OnOk, OnErr};
-ghost use Rattle.std.specs.List.{enumerate_from};
-ghost use Rattle.quaestor_server.specs.declared.entry.Entry.{Entry as AnEntry};
-ghost use Rattle.quaestor_server.specs.declared.entry.Entry.TheVariants.{Write, Read, Tick};
-ghost use Rattle.quaestor_server.specs.Desk.{Makes, Learns};
-ghost use Rattle.quaestor_server.specs.Reply.{wrote, read, counted};
-ghost use Rattle.quaestor_server.specs.Setting.{Setting};
-ghost use Rattle.quaestor_server.specs.State.{state_of};
+ghost use Rattle.std.specs.Prelude.{◌≡◌, ℕ, ◌≤◌, List, length, IfOk, OnOk, OnErr};
+ghost use Rattle.hub_core.specs.Room.{IsRoomFor};
+ghost use Rattle.hub_model.specs.declared.entry.Entry.{Entry as AnEntry};
+ghost use Rattle.hub_model.specs.declared.entry.Entry.TheVariants.{Write, Read, Tick};
+ghost use Rattle.hub_model.specs.Desk.{Makes, Learns};
+ghost use Rattle.hub_model.specs.Reply.{wrote, read, counted};
+ghost use Rattle.hub_model.specs.Setting.{Setting};
+ghost use Rattle.hub_model.specs.Step.{state_of};
+ghost use Rattle.quaestor_server.specs.Desk.{MatchesAll, Fetches};
 
-use crate::entry::{Answer, Change, Condition, Stats, Tags, Written};
+use hub_core::PageRoom;
+use hub_model::{Answer, Change, Condition, Matched, Stats, Tags, Written};
 use q_base::{Memory, Moment};
 use query_normal::Key;
 
@@ -59,6 +61,24 @@ pub trait Desk {
         ensures made { IfOk result (λ a. Makes (setting self.old) (seen self.old) (seen self.new) (mine self.old) (mine self.new) (Read moment key tags a.commit) (read a)) }
         ensures fresh { IfOk result (λ a. length (state_of (setting self.old) (seen self.old)).journal ≤ a.commit) }
         ensures memory { OnErr result (Learns (setting self.old) (seen self.old) (seen self.new) (mine self.old) (mine self.new)) }
+        ensures anchor { anchor self.new ≡ anchor self.old }
+        ensures setting { setting self.new ≡ setting self.old };
+
+    /// Matches all commits against the results that were handed out: one entry, which is a tick
+    /// where the front is the last commit already.
+    fn match_all(&mut self, moment: Moment) -> Result<Matched, Memory>
+        requires { is_ready self.old }
+        ensures made { IfOk result (λ m. MatchesAll (setting self.old) (seen self.old) (seen self.new) (mine self.old) (mine self.new) moment m) }
+        ensures memory { OnErr result (Learns (setting self.old) (seen self.old) (seen self.new) (mine self.old) (mine self.new)) }
+        ensures anchor { anchor self.new ≡ anchor self.old }
+        ensures setting { setting self.new ≡ setting self.old };
+
+    /// Writes the page of the outdated keys into the room: one entry. It takes no memory.
+    fn fetch(&mut self, moment: Moment, room: &mut PageRoom)
+        requires ready { is_ready self.old }
+        requires room { IsRoomFor (setting self.old) room.old }
+        ensures made { Fetches (setting self.old) (seen self.old) (seen self.new) (mine self.old) (mine self.new) moment room.new }
+        ensures room { IsRoomFor (setting self.old) room.new }
         ensures anchor { anchor self.new ≡ anchor self.old }
         ensures setting { setting self.new ≡ setting self.old };
 

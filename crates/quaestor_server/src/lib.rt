@@ -3,13 +3,10 @@
 
 mod answer;
 mod ask;
-mod config;
 mod connection;
 mod date;
 mod desk;
-mod entry;
 mod give;
-mod hub;
 mod laws;
 mod owned;
 mod reply;
@@ -17,12 +14,13 @@ mod step;
 mod told;
 
 pub use ask::Ask;
-pub use config::{Config, ConfigRefusal};
 pub use connection::{REQUEST_LIMIT, Room, serve_connection};
 pub use desk::Desk;
-pub use entry::{Answer, Change, Condition, Entry, Found, Outcome, Stats, Tags, Written};
-pub use hub::Hub;
+pub use hub_core::{Config, ConfigRefusal, Hub, PageRoom};
+pub use hub_model::{
+    Answer, Change, Condition, Entry, Found, Matched, Outcome, Stats, Tags, Written,
+};
 pub use laws::{end_is_told_by_the_bytes, one_end_is_told};
 pub use owned::Owned;
 pub use reply::{REPLY_ROOM, ReplyRoom};
-pub use told::{Head, Refused, Status, Told};
+pub use told::{Head, MediaType, Refused, Status, Told};

@@ -1,12 +1,15 @@
 //! A desk that owns its hub, and keeps the list of its entries.
-ghost use Rattle.std.specs.Prelude.{◌≡◌, ◌+◌, ◌<◌, ◌∷◌, [], ◌++◌, length, vec_len, vec_capacity};
+ghost use Rattle.std.specs.Prelude.{◌≡◌, ◌<◌, [], length, vec_len, vec_capacity, IfOk};
 ghost use Rattle.std.specs.List.{enumerate_from};
-ghost use Rattle.quaestor_server.specs.State.{state_of};
+ghost use Rattle.hub_core.specs.Standing.{Stands};
+ghost use Rattle.quaestor_server.specs.Desk.{IsNoted};
 
-use crate::config::Config;
 use crate::desk::Desk;
-use crate::entry::{Answer, Change, Condition, Entry, Stats, Tags, Written};
-use crate::hub::Hub;
+use hub_core::{Config, Hub, PageRoom};
+use hub_model::{
+    Answer, Change, Condition, Entry, Matched, Stats, Tags, Written, front_is_within,
+    no_entry_is_legal, one_entry_more,
+};
 use q_base::{Memory, Moment};
 use query_normal::Key;
 use std::alloc::Global;
@@ -25,7 +28,7 @@ impl Model for Owned {
     ghost use Rattle.std.specs.Coded.{codes};
     ghost use Rattle.q_doc.specs.Code.{tree_code};
     ghost use Rattle.quaestor_server.specs.Desk.{Kept};
-    ghost use Rattle.quaestor_server.specs.Standing.{Stands};
+    ghost use Rattle.hub_core.specs.Standing.{Stands};
 
     ghost Value = { Kept };
 
@@ -42,20 +45,23 @@ impl Model for Owned {
 
 impl Owned {
     /// A desk over a new hub, whose history is empty.
-    pub fn new(alloc: Global, config: Config) -> Owned
-        ensures setting { result.setting ≡ config }
-        ensures empty { result.entries ≡ [] }
+    pub fn new(alloc: Global, config: Config) -> Result<Owned, Memory>
+        ensures setting { IfOk result (λ desk. desk.setting ≡ config) }
+        ensures empty { IfOk result (λ desk. desk.entries ≡ []) }
     {
-        Owned {
-            hub: Hub::new(alloc, config),
+        // The law that an empty history is legal.
+        no_entry_is_legal();
+        let hub = Hub::new(alloc, config)?;
+        Ok(Owned {
+            hub,
             entries: Vec::new(alloc),
-        }
+        })
     }
 
     /// The hub, which stands for the history.
     pub fn hub(&self) -> &Hub
         ensures setting { result.now.setting ≡ self.now.setting }
-        ensures state { result.now.state ≡ state_of self.now.setting self.now.entries }
+        ensures stands { Stands result.now self.now.entries }
     {
         &self.hub
     }
@@ -64,8 +70,10 @@ impl Owned {
 /// Stores an entry in the room that was taken for it.
 fn note(entries: &mut Vec<Entry>, entry: Entry)
     requires { vec_len entries.old < vec_capacity entries.old }
-    ensures { entries.new.items ≡ entries.old.items ++ entry ∷ [] }
+    ensures { IsNoted entries.old.items entries.new.items entry }
 {
+    // The law of a history with one entry more.
+    one_entry_more();
     if entries.push(entry).is_err() {
         unreachable!()
     }
@@ -108,6 +116,8 @@ impl Desk for Owned {
     }
 
     fn read(&mut self, moment: Moment, key: Key, tags: Tags) -> Result<Answer, Memory> {
+        // The law by which a read of the last commit is not below the front.
+        front_is_within();
         let answer = self.hub.read(moment, &key, &tags)?;
         let at = answer.commit;
         note(
@@ -120,6 +130,27 @@ impl Desk for Owned {
             },
         );
         Ok(answer)
+    }
+
+    fn match_all(&mut self, moment: Moment) -> Result<Matched, Memory> {
+        let to = self.hub.commits();
+        if self.hub.front() < to {
+            let matched = self.hub.match_to(moment, to)?;
+            note(&mut self.entries, Entry::Match { moment, to });
+            Ok(matched)
+        } else {
+            let stats = self.hub.tick(moment);
+            note(&mut self.entries, Entry::Tick { moment });
+            Ok(Matched {
+                front: stats.front,
+                clock: stats.clock,
+            })
+        }
+    }
+
+    fn fetch(&mut self, moment: Moment, room: &mut PageRoom) {
+        self.hub.fetch(moment, room);
+        note(&mut self.entries, Entry::Fetch { moment });
     }
 
     fn tick(&mut self, moment: Moment) -> Stats {

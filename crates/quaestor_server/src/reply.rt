@@ -1,16 +1,16 @@
 //! The texts of replies.
 //!
 //! A reply's head, with its body where that is short, is written into a room that was made before the
-//! request was taken, so an accepted write is told whatever memory there is. A result's text follows it
-//! there where it fits, so that the sink is given the reply in one piece.
+//! request was taken, so an accepted write is told whatever memory there is. A result's text or a page
+//! follows it there where it fits, so that the sink is given the reply in one piece.
 ghost use Rattle.std.specs.Prelude.{◌≡◌, ◌+◌, ◌≤◌, ◌++◌, [], length, MatchBool, vec_capacity, IfOk};
 ghost use Rattle.quaestor_server.specs.declared.reply.TheConstants.{REPLY_ROOM};
 ghost use Rattle.quaestor_server.specs.Date.{IsDateOf};
-ghost use Rattle.quaestor_server.specs.ReplyText.{field_text, date_field, lifetime_field, close_field, head_text, outcome_body, written_body, short_body, told_head, clock_of};
+ghost use Rattle.quaestor_server.specs.ReplyText.{field_text, date_field, lifetime_field, close_field, head_text, outcome_body, written_body, front_body, short_body, told_head, clock_of};
 
 use crate::date::DateText;
-use crate::entry::{Outcome, Written};
 use crate::told::{ABSENT, Head, Told, no_memory};
+use hub_model::{Outcome, Written};
 use itoa::Buffer;
 use q_base::Memory;
 use std::alloc::Global;
@@ -115,7 +115,7 @@ impl ReplyRoom {
     {
         self.put(head.status.line());
         self.put_date(head.dated);
-        self.put(b"Content-Type: application/json\r\n");
+        self.put(head.media.field());
         self.put_field(b"Content-Length: ", Some(head.length as u64), b"\r\n");
         self.put_field(b"ETag: \"", head.tag, b"\"\r\n");
         self.put_lifetime(head.ttl);
@@ -136,6 +136,10 @@ impl ReplyRoom {
         match told {
             Told::Write(written) => self.put_written(written),
             Told::Read(answer) => self.put_outcome(&answer.result),
+            Told::Match(matched) => {
+                self.put_field(b"{\"front\":", Some(matched.front), b"}");
+            }
+            Told::Page(_) => {}
             Told::Refusal(reason, _) => self.put(reason.body()),
             Told::Memory => self.put(no_memory()),
         }
@@ -165,15 +169,16 @@ impl ReplyRoom {
         }
     }
 
-    /// Writes a reply in place of what is there: all of it but a result's text.
-    pub(crate) fn write(&mut self, told: &Told, close: bool)
-        ensures items { self.new.bytes.items ≡ head_text (told_head told.now close) self.new.date.text ++ short_body told.now }
+    /// Writes a reply in place of what is there: all of it but a result's text or the page, of which
+    /// these are the bytes.
+    pub(crate) fn write(&mut self, told: &Told, page: &[u8], close: bool)
+        ensures items { self.new.bytes.items ≡ head_text (told_head told.now page.now close) self.new.date.text ++ short_body told.now }
         ensures date { IsDateOf (clock_of told.now) self.new.date.text }
         ensures len { length self.new.bytes.items ≤ 2048 }
     {
         self.bytes.clear();
         self.date.turn_to(told.clock());
-        self.put_head(&told.head(close));
+        self.put_head(&told.head(page, close));
         self.put_short(told);
     }
 

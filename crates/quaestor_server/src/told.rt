@@ -1,8 +1,8 @@
 //! What a request is told, and the parts of a reply's head.
 ghost use Rattle.std.specs.Prelude.{◌≡◌, ◌≤◌, length};
-ghost use Rattle.quaestor_server.specs.ReplyText.{status_line, refusal_body, refusal_status, write_status, commit_body, outcome_body, read_head, plain_head, told_head, long_body, memory_body, clock_of};
+ghost use Rattle.quaestor_server.specs.ReplyText.{status_line, media_field, refusal_body, refusal_status, write_status, commit_body, front_body, outcome_body, read_head, plain_head, page_head, told_head, long_body, memory_body, clock_of};
 
-use crate::entry::{Answer, Found, Outcome, Written};
+use hub_model::{Answer, Found, Matched, Outcome, Written};
 use itoa::Buffer;
 use q_base::{Commit, Moment};
 use q_doc::DocRefusal;
@@ -27,6 +27,11 @@ pub enum Told {
     Write(Written),
     /// The reply to a read.
     Read(Answer),
+    /// The front after a match.
+    Match(Matched),
+    /// A page, whose bytes stand in the room that it was fetched into. The moment is the clock after
+    /// its entry.
+    Page(Moment),
     /// The request is refused. The moment is the clock after its entry.
     Refusal(Refused, Moment),
     /// There was no memory, and no entry was made.
@@ -45,12 +50,21 @@ pub enum Status {
     Unavailable,
 }
 
+/// What a reply's body is (RFC 9110, section 8.3.1).
+#[derive(Clone, Copy, Debug, PartialEq, Eq)]
+pub enum MediaType {
+    Json,
+    OctetStream,
+}
+
 /// The fields of a reply's head.
 #[derive(Clone, Copy, Debug)]
 pub struct Head {
     pub status: Status,
     /// Whether it has a date.
     pub dated: bool,
+    /// What the body is.
+    pub media: MediaType,
     /// The length of the body.
     pub length: usize,
     /// The commit that the entity tag names.
@@ -79,6 +93,19 @@ impl Status {
             Status::Unprocessable => b"HTTP/1.1 422 Unprocessable Entity\r\n",
             Status::NotImplemented => b"HTTP/1.1 501 Not Implemented\r\n",
             Status::Unavailable => b"HTTP/1.1 503 Service Unavailable\r\n",
+        }
+    }
+}
+
+impl MediaType {
+    /// The field that tells it.
+    pub(crate) fn field(self) -> &'static [u8]
+        ensures field { result.now ≡ media_field self }
+        ensures short { length result.now ≤ 40 }
+    {
+        match self {
+            MediaType::Json => b"Content-Type: application/json\r\n",
+            MediaType::OctetStream => b"Content-Type: application/octet-stream\r\n",
         }
     }
 }
@@ -143,6 +170,14 @@ fn commit_length(commit: Commit) -> usize
     11 + digits.format(commit).len()
 }
 
+/// The length of the body of a match.
+fn front_length(front: Commit) -> usize
+    ensures { result ≡ length (front_body front) }
+{
+    let mut digits = Buffer::new();
+    10 + digits.format(front).len()
+}
+
 /// A head that has a status, a length and no field of the store but a commit.
 fn plain_head(
     status: Status,
@@ -156,6 +191,7 @@ fn plain_head(
     Head {
         status,
         dated,
+        media: MediaType::Json,
         length,
         tag: None,
         ttl: 0,
@@ -163,6 +199,16 @@ fn plain_head(
         version: None,
         until: None,
         close,
+    }
+}
+
+/// The head of a page of so many bytes.
+fn page_head(length: usize, close: bool) -> Head
+    ensures { result ≡ page_head length close }
+{
+    Head {
+        media: MediaType::OctetStream,
+        ..plain_head(Status::Okay, true, length, None, close)
     }
 }
 
@@ -175,6 +221,7 @@ fn read_head(answer: &Answer, close: bool) -> Head
         Outcome::Whole { text, version } => Head {
             status: Status::Okay,
             dated: true,
+            media: MediaType::Json,
             length: text.len(),
             tag: Some(answer.commit),
             ttl: answer.ttl,
@@ -186,6 +233,7 @@ fn read_head(answer: &Answer, close: bool) -> Head
         Outcome::Absent => Head {
             status: Status::NotFound,
             dated: true,
+            media: MediaType::Json,
             length: ABSENT.len(),
             tag: None,
             ttl: answer.ttl,
@@ -209,9 +257,9 @@ pub(crate) fn no_memory() -> &'static [u8]
 }
 
 impl Told {
-    /// The head of the reply.
-    pub(crate) fn head(&self, close: bool) -> Head
-        ensures { result ≡ told_head self.now close }
+    /// The head of the reply. These are the bytes of the page, where it is one.
+    pub(crate) fn head(&self, page: &[u8], close: bool) -> Head
+        ensures { result ≡ told_head self.now page.now close }
     {
         match self {
             Told::Write(Written::Done { commit, before, .. }) => plain_head(
@@ -222,6 +270,10 @@ impl Told {
                 close,
             ),
             Told::Read(answer) => read_head(answer, close),
+            Told::Match(matched) => {
+                plain_head(Status::Okay, true, front_length(matched.front), None, close)
+            }
+            Told::Page(_) => page_head(page.len(), close),
             Told::Refusal(reason, _) => {
                 plain_head(reason.status(), true, reason.body().len(), None, close)
             }
@@ -229,15 +281,16 @@ impl Told {
         }
     }
 
-    /// The body where it is a result's text, and else nothing.
-    pub(crate) fn long_body(&self) -> &[u8]
-        ensures { result.now ≡ long_body self.now }
+    /// The body where it is a result's text or the page, of which these are the bytes; else nothing.
+    pub(crate) fn long_body<'a>(&'a self, page: &'a [u8]) -> &'a [u8]
+        ensures { result.now ≡ long_body self.now page.now }
     {
         match self {
             Told::Read(answer) => match &answer.result {
                 Outcome::Whole { text, .. } => text.as_slice(),
                 Outcome::Absent => &[],
             },
+            Told::Page(_) => page,
             _ => &[],
         }
     }
@@ -249,6 +302,8 @@ impl Told {
         match self {
             Told::Write(Written::Done { clock, .. }) => *clock,
             Told::Read(answer) => answer.clock,
+            Told::Match(matched) => matched.clock,
+            Told::Page(clock) => *clock,
             Told::Refusal(_, clock) => *clock,
             Told::Memory => Moment::of(0),
         }

@@ -1,5 +1,6 @@
 -- from the first moment on the connection goes on, and the desk keeps what it is tied to
 use Rattle.std.proofs.Common.{◌≡◌}
+use Rattle.hub_core.specs.Room.{IsRoomFor}
 use Rattle.q_outside.specs.Told.{Ticks}
 use Rattle.quaestor_server.proofs.ProgressLemmas.{Going}
 use Rattle.quaestor_server.proofs.connection.serve_connection.Given as goal
@@ -24,6 +25,7 @@ invariant-loop-requests g l = record {
         faults_out = g.K.Sink.faults l.sink;
       })
       (λ ms. Ticks g.C.Clock.tells l.fn.clock ms l.clock) l.room.requests l.place l.requests;
+  room : IsRoomFor (g.D.Desk.setting l.fn.desk) l.room.pages;
   anchor : g.D.Desk.anchor l.desk ≡ g.D.Desk.anchor l.fn.desk;
   setting : g.D.Desk.setting l.desk ≡ g.D.Desk.setting l.fn.desk;
 }
