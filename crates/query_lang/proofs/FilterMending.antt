@@ -9,8 +9,9 @@ use Rattle.query_lang.specs.declared.filter_reader.PathUse.TheVariants.{Exists a
 use Rattle.query_lang.specs.declared.filter_reader.Pending.{Pending}
 use Rattle.query_lang.specs.declared.filter_reader.Pending.TheVariants as pending
 use Rattle.query_lang.specs.declared.refusal.Cause.{Cause}
-use Rattle.query_lang.specs.declared.refusal.Cause.TheVariants as cause
+use Rattle.query_lang.specs.declared.refusal.QueryRefusal.{QueryRefusal}
 use Rattle.query_lang.specs.declared.refusal.QueryRefusal.TheVariants as refusal
+use Rattle.query_lang.specs.Refusals.{told_place}
 use Rattle.query_lang.specs.declared.token.Beginning.TheVariants as beginning
 use Rattle.query_lang.specs.declared.token.Sign.TheVariants.{Dot}
 use Rattle.query_lang.specs.Bytes.{is_blank}
@@ -20,11 +21,11 @@ use Rattle.query_lang.specs.Grammar.{Segment, path_tokens, filter_meaning}
 use Rattle.query_lang.specs.Mending.{IsFilter, IsFullPath, a_blank, GoesOn, goes_on, at_limit, IsRefusedAt}
 use Rattle.query_lang.specs.Reading.{run, tokens, tokens_in}
 use Rattle.query_lang.specs.Spelling.{spelled, IsToken, Spells}
-use Rattle.query_lang.specs.Tokens.{Token, quoted, number, bad_number, sign}
+use Rattle.query_lang.specs.Tokens.{Token, quoted, number, sign}
 use Rattle.query_lang.proofs.Completing.{Completed, Eighth, completed, segment_completed}
 use Rattle.query_lang.proofs.FilterTextReading.{text_read, no_bad_token}
 use Rattle.query_lang.proofs.Growing.{shadow_grows, before_use}
-use Rattle.query_lang.proofs.Refused.{Joins, IsGood, IsPlain, Language, refused_syntax, refused_there}
+use Rattle.query_lang.proofs.Refused.{Joins, IsGood, IsPlain, Language, refused_place, refused_there}
 use Rattle.query_lang.proofs.Shadows.{Waiting, nothing, waiting_before, outer_before, operand_here, exists_here, behind_dot, behind_segment, value_here, list_here, first_here, behind_comma, behind_value, use_before, Shadow, inside, whole, shadow_before, shadow_pending, shadow_outer, ShadowFits}
 use Rattle.query_lang.proofs.Soundness.{step_follows}
 use Rattle.query_lang.proofs.SpelledOut.{spell_out, joins_nil, joins_out, spells_out, spells_next, last_parts}
@@ -152,20 +153,6 @@ first_been = record {
 
 -- ---- where numbers and texts may stand
 
-no_numbers : (p : Pending) (s s' : State) (z : ℤ) → on_token p s bad_number ≡ Err cause.Syntax → on_token p s (number z) ≡ Ok s' → ⊥
-unfolding on_token on_operand segment_at item_at on_exists on_path on_value on_list on_first_item on_after_item on_joint
-no_numbers pending.Operand s s' z bad e = cc
-no_numbers pending.ExistsSegment s s' z bad e = cc
-no_numbers (pending.Segment used path) s s' z bad e = cc
-no_numbers (pending.Path ForExists path) s s' z bad e = cc
-no_numbers (pending.Path Tested path) s s' z bad e = cc
-no_numbers (pending.Value path asks) s s' z bad e = cc
-no_numbers (pending.List path) s s' z bad e = cc
-no_numbers (pending.FirstItem path) s s' z bad e = cc
-no_numbers (pending.Item path values) s s' z bad e = cc
-no_numbers (pending.AfterItem path values) s s' z bad e = cc
-no_numbers pending.Joint s s' z bad e = cc
-
 no_number : (p : Pending) (s s' : State) (z : ℤ) → may_stand_behind p beginning.Number ≡ false → on_token p s (number z) ≡ Ok s' → ⊥
 unfolding on_token on_operand segment_at item_at on_exists on_path on_value on_list on_first_item on_after_item on_joint
 no_number pending.Operand s s' z never e = cc
@@ -233,32 +220,31 @@ text_good : (text : List ℕ) → IsFilter text → IsGood (run filter_rules (le
 unfolding read_filter tokens
 text_good text (f, is) = subst IsGood (sym (text_read text f is)) (choice_good (nat_lt 256 (leaves f)) (nat_lt 32 (height f)) (capped (leaves f)) (capped (height f)) f)
 
-no_syntax : (a b : Bool) (m n : ℕ) (f : Filter) (field place : ℕ) → cond a (Err (refusal.TooMany m)) (cond b (Err (refusal.TooDeep n)) (Ok f)) ≡ Err (refusal.Syntax field place) → ⊥
-no_syntax true b m n f field place e = cc
-no_syntax false true m n f field place e = cc
-no_syntax false false m n f field place e = cc
+no_place : (a b : Bool) (m n : ℕ) (f : Filter) (why : QueryRefusal) (place : ℕ) → cond a (Err (refusal.TooMany m)) (cond b (Err (refusal.TooDeep n)) (Ok f)) ≡ Err why → told_place why ≡ Some place → ⊥
+no_place true b m n f why place e told = let same : refusal.TooMany m ≡ why = cc in let no = ap told_place same ∙ told in cc
+no_place false true m n f why place e told = let same : refusal.TooDeep n ≡ why = cc in let no = ap told_place same ∙ told in cc
+no_place false false m n f why place e told = cc
 
-end_place : (total : ℕ) (r : Result State Cause) (field place : ℕ) → judged_if total r ≡ Err (refusal.Syntax field place) → place ≡ total
+end_place : (total : ℕ) (r : Result State Cause) (why : QueryRefusal) (place : ℕ) → judged_if total r ≡ Err why → told_place why ≡ Some place → place ≡ total
 unfolding judged
-end_place total (Ok s) field place e = absurd (no_syntax _ _ _ _ _ field place e)
-end_place total (Err x) field place e = (refused_syntax 102 total field place x e).1
+end_place total (Ok s) why place e told = absurd (no_place _ _ _ _ _ why place e told)
+end_place total (Err x) why place e told = refused_place 102 total x why place e told
 
 filters : Language State Filter filter_rules start IsFilter IsFullPath Been
 filters = record {
   good = text_good;
   no_bad = λ s s' e. no_bad_token s.pending (without_pending s) s' e;
-  no_numbers = λ s bad z s' e. no_numbers s.pending (without_pending s) s' z bad e;
   no_number = λ s never z s' e. no_number s.pending (without_pending s) s' z (stands s beginning.Number ∙ never) e;
   no_text = λ s never k s' e. no_text s.pending (without_pending s) s' k (stands s beginning.Text ∙ never) e;
   a_number = λ s may z. a_number s.pending (without_pending s) z (stands s beginning.Number ∙ may);
   a_text = λ s may k. a_text s.pending (without_pending s) k (stands s beginning.Text ∙ may);
-  end_place = λ total s field place e. end_place total (ended s.pending (without_pending s)) field place e;
+  end_place = λ total s why place e told. end_place total (ended s.pending (without_pending s)) why place e told;
   first_been = first_been;
   next_been = next_been;
   goes = goes;
   goes_plainly = goes_plainly;
 }
 
-pub filter_refused : (text : List ℕ) (field place : ℕ) → read_filter text ≡ Err (refusal.Syntax field place) → IsRefusedAt IsFilter IsFullPath a_blank text place
+pub filter_refused : (text : List ℕ) (why : QueryRefusal) (place : ℕ) → read_filter text ≡ Err why → told_place why ≡ Some place → IsRefusedAt IsFilter IsFullPath a_blank text place
 unfolding read_filter tokens
-filter_refused text field place e = refused_there filters text field place e
+filter_refused text why place e told = refused_there filters text why place told e

@@ -12,6 +12,7 @@ pub mod SignSpelling
 pub mod NumberSpelling
 pub mod TokenSpelling
 pub mod LexemeCases
+pub mod BadNumbers
 pub mod TextReading
 pub mod Refused
 pub mod SpelledOut

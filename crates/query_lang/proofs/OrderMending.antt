@@ -6,7 +6,8 @@ use Rattle.std.specs.List.{list_all}
 use Rattle.query_core.specs.Window.{Order}
 use Rattle.query_lang.specs.declared.order_reader.OrderPending.{OrderPending}
 use Rattle.query_lang.specs.declared.order_reader.OrderPending.TheVariants as pending
-use Rattle.query_lang.specs.declared.refusal.QueryRefusal.TheVariants as refusal
+use Rattle.query_lang.specs.declared.refusal.Cause.TheVariants as cause
+use Rattle.query_lang.specs.declared.refusal.QueryRefusal.{QueryRefusal}
 use Rattle.query_lang.specs.declared.token.Beginning.TheVariants as beginning
 use Rattle.query_lang.specs.declared.token.Sign.TheVariants.{Comma, Dot}
 use Rattle.query_lang.specs.Bytes.{is_blank}
@@ -14,11 +15,12 @@ use Rattle.query_lang.specs.Grammar.{Segment, bare, path_tokens, Item, item_toke
 use Rattle.query_lang.specs.Mending.{IsOrder, IsFullOrder, a_blank, GoesOn, goes_on, at_limit, IsRefusedAt}
 use Rattle.query_lang.specs.OrderReading.{State, start, step, on_token, on_item, on_segment, on_path, without_pending, ended, order_rules, read_order, may_stand_behind}
 use Rattle.query_lang.specs.Reading.{run, tokens, tokens_in}
+use Rattle.query_lang.specs.Refusals.{told_place}
 use Rattle.query_lang.specs.Spelling.{spelled, IsToken, ends_before, Spells}
 use Rattle.query_lang.specs.Tokens.{Token, name, quoted, number, sign}
 use Rattle.query_lang.proofs.Growing.{path_grows}
 use Rattle.query_lang.proofs.OrderTextReading.{Place, start_here, item_here, behind_dot, behind_segment, Shadow, within, complete, items_before, place_before, shadow_before, shadow_pending, shadow_count, ShadowFits, Follows, token_follows, listed_items, listed_tokens, listed_len, HasItems, items_of, no_bad_token, order_text_read}
-use Rattle.query_lang.proofs.Refused.{Joins, IsGood, IsPlain, Language, refused_there}
+use Rattle.query_lang.proofs.Refused.{Joins, IsGood, IsPlain, Language, refused_place, refused_there}
 use Rattle.query_lang.proofs.Shadows.{path_tokens-append}
 use Rattle.query_lang.proofs.SpelledOut.{AreTokens, spell_out, joins_nil, joins_out, spells_out, spells_next, last_parts}
 use Rattle.query_lang.proofs.StandsLemmas.{order_stands}
@@ -281,30 +283,29 @@ text_good : (text : List ℕ) → IsOrder text → IsGood (run order_rules (leng
 unfolding read_order tokens
 text_good text (order, is) = subst IsGood (sym (order_text_read text order is)) tt
 
-end_place : (total : ℕ) (p : OrderPending) (paths : Order) (field place : ℕ) → ended total p paths ≡ Err (refusal.Syntax field place) → place ≡ total
+end_place : (total : ℕ) (p : OrderPending) (paths : Order) (why : QueryRefusal) (place : ℕ) → ended total p paths ≡ Err why → told_place why ≡ Some place → place ≡ total
 unfolding ended
-end_place total pending.Start paths field place e = cc
-end_place total pending.Joint paths field place e = cc
-end_place total (pending.Path path) paths field place e = cc
-end_place total pending.Item paths field place e = let same : total ≡ place = cc in sym same
-end_place total (pending.Segment path) paths field place e = let same : total ≡ place = cc in sym same
+end_place total pending.Start paths why place e told = cc
+end_place total pending.Joint paths why place e told = cc
+end_place total (pending.Path path) paths why place e told = cc
+end_place total pending.Item paths why place e told = refused_place 111 total cause.Syntax why place e told
+end_place total (pending.Segment path) paths why place e told = refused_place 111 total cause.Syntax why place e told
 
 orders : Language State Order order_rules start IsOrder IsFullOrder Been
 orders = record {
   good = text_good;
   no_bad = λ s s' e. no_bad_token s.pending (without_pending s) s' e;
-  no_numbers = λ s bad z s' e. no_number s.pending (without_pending s) s' z e;
   no_number = λ s never z s' e. no_number s.pending (without_pending s) s' z e;
   no_text = λ s never k s' e. no_text s.pending (without_pending s) s' k (order_stands s beginning.Text ∙ never) e;
   a_number = λ s may z. a_number s.pending (without_pending s) z (order_stands s beginning.Number ∙ may);
   a_text = λ s may k. a_text s.pending (without_pending s) k (order_stands s beginning.Text ∙ may);
-  end_place = λ total s field place e. end_place total s.pending s.paths field place e;
+  end_place = λ total s why place e told. end_place total s.pending s.paths why place e told;
   first_been = first_been;
   next_been = next_been;
   goes = goes;
   goes_plainly = goes_plainly;
 }
 
-pub order_refused : (text : List ℕ) (field place : ℕ) → read_order text ≡ Err (refusal.Syntax field place) → IsRefusedAt IsOrder IsFullOrder a_blank text place
+pub order_refused : (text : List ℕ) (why : QueryRefusal) (place : ℕ) → read_order text ≡ Err why → told_place why ≡ Some place → IsRefusedAt IsOrder IsFullOrder a_blank text place
 unfolding read_order tokens
-order_refused text field place e = refused_there orders text field place e
+order_refused text why place e told = refused_there orders text why place told e

@@ -1,15 +1,15 @@
 -- A text that is refused is refused where nothing mends it: for the rules of any language of these tokens.
-use Rattle.std.proofs.Common.{◌≡◌, ℕ, zero, suc, ◌-◌, ◌<◌, Bool, true, false, ◌⊎◌, ◌||◌, ◌==◌, if◌then◌else◌, is_ok, List, [], ◌∷◌, ◌++◌, length, take, drop, ℤ, negsuc, Option, Some, None, Result, Ok, Err, refl, sym, ap, ◌∙◌, subst, inl, inr, arith, append_assoc, append-nil, length-append, drop_at}
+use Rattle.std.proofs.Common.{◌≡◌, ℕ, zero, suc, ◌-◌, ◌<◌, Bool, true, false, ◌⊎◌, if◌then◌else◌, is_ok, List, [], ◌∷◌, ◌++◌, length, take, drop, ℤ, negsuc, Option, Some, None, Result, Ok, Err, refl, sym, ap, ◌∙◌, subst, inl, inr, arith, append_assoc, append-nil, length-append, drop_at}
 use Rattle.std.proofs.lemmas.List.{take-append-drop}
 use Rattle.std.specs.Fmt.{decimal}
 use Rattle.std.specs.List.{prefix_len, list_all}
 use Rattle.query_core.specs.declared.filter.Op.TheVariants.{Equal, Unequal, Less, AtMost, Greater, AtLeast}
-use Rattle.query_lang.specs.Bytes.{is_blank, is_letter, is_digit}
+use Rattle.query_lang.specs.Bytes.{is_blank}
 use Rattle.query_lang.specs.Lexing.{lexeme, lexeme_at, by_scan}
 use Rattle.query_lang.specs.Mending.{IsPiece, a_blank, GoesOn, inside_token, IsUnmended, wrong_token, wrong_bytes, ends_early, IsRefusedAt}
 use Rattle.query_lang.specs.Quoted.{scan, closed, bad, unescaped}
 use Rattle.query_lang.specs.Reading.{Rules, run, after_token, tokens_in, by_lexeme, may_stand}
-use Rattle.query_lang.specs.Refusals.{refused}
+use Rattle.query_lang.specs.Refusals.{refused, told_place}
 use Rattle.query_lang.specs.Spelling.{spelled, IsToken, ends_before}
 use Rattle.query_lang.specs.Tokens.{Token, word, name, quoted, number, bad_number, sign, Lexeme, ends, found, unfinished, bad_text, unknown}
 use Rattle.query_lang.specs.declared.refusal.Cause.{Cause}
@@ -19,7 +19,8 @@ use Rattle.query_lang.specs.declared.refusal.QueryRefusal.TheVariants as refusal
 use Rattle.query_lang.specs.declared.token.Beginning.{Beginning}
 use Rattle.query_lang.specs.declared.token.Beginning.TheVariants as beginning
 use Rattle.query_lang.specs.declared.token.Sign.TheVariants.{Compare, Open, Close, OpenList, CloseList, Comma, Dot}
-use Rattle.query_lang.proofs.LexemeCases.{CutOff, cut_text, cut_number, cut_unequal, cut_off, bad_text_is, Unknown, unknown_is, bad_number_is, Refuses, NotTaken, number_refused, text_refused, unequal_refused, left_is}
+use Rattle.query_lang.proofs.LexemeCases.{CutOff, cut_text, cut_number, cut_unequal, cut_off, bad_text_is, Unknown, unknown_is, Refuses, NotTaken, number_refused, text_refused, unequal_refused, left_is}
+use Rattle.query_lang.proofs.BadNumbers.{BadNumber, bad_number_stays, bad_refused}
 use Rattle.query_lang.proofs.QuotedEnds.{scan_bad, scan_open}
 use Rattle.query_lang.proofs.QuotedSpelling.{scan_written}
 use Rattle.query_lang.proofs.TextReading.{spelled_some, no_end}
@@ -82,12 +83,27 @@ refused_not_good A field place cause.TooManyPaths good = good
 refused_not_good A field place cause.TooNested good = good
 refused_not_good A field place cause.Memory good = good
 
-pub refused_syntax : {A : Type 0} (field place f p : ℕ) (e : Cause) → ◌≡◌ {A = Result A QueryRefusal} (Err (refused field place e)) (Err (refusal.Syntax f p)) → (e ≡ cause.Syntax) × (p ≡ place)
-refused_syntax field place f p cause.Syntax e = let same : place ≡ p = cc in (refl, sym same)
-refused_syntax field place f p cause.BadNumber e = cc
-refused_syntax field place f p cause.TooManyPaths e = cc
-refused_syntax field place f p cause.TooNested e = cc
-refused_syntax field place f p cause.Memory e = cc
+-- a refusal at a place tells that place
+pub refused_place : {A : Type 0} (field place : ℕ) (x : Cause) (why : QueryRefusal) (p : ℕ) → ◌≡◌ {A = Result A QueryRefusal} (Err (refused field place x)) (Err why) → told_place why ≡ Some p → p ≡ place
+refused_place field place x why p is told =
+    let same : refused field place x ≡ why = cc in
+    by_cause x (ap told_place same ∙ told)
+  where
+    by_cause : (x : Cause) → told_place (refused field place x) ≡ Some p → p ≡ place
+    by_cause cause.Syntax told = let same : place ≡ p = cc in sym same
+    by_cause cause.BadNumber told = let same : place ≡ p = cc in sym same
+    by_cause cause.TooManyPaths told = let same : place ≡ p = cc in sym same
+    by_cause cause.TooNested told = let same : place ≡ p = cc in sym same
+    by_cause cause.Memory told = cc
+
+told_not_good : (A : Type 0) (why : QueryRefusal) (place : ℕ) → told_place why ≡ Some place → IsGood {A = A} (Err why) → ⊥
+told_not_good A (refusal.Syntax field place) p told good = good
+told_not_good A (refusal.BadNumber field place) p told good = good
+told_not_good A (refusal.TooManyPaths place) p told good = good
+told_not_good A (refusal.TooMany leaves) p told good = cc
+told_not_good A (refusal.TooNested place) p told good = good
+told_not_good A (refusal.TooDeep depth) p told good = cc
+told_not_good A refusal.Memory p told good = good
 
 -- no dot and no comma
 abbrev pub IsPlain : Token → Type 0
@@ -97,12 +113,11 @@ IsPlain t = (t ≡ sign Dot → ⊥) × (t ≡ sign Comma → ⊥)
 pub record Language (S A : Type 0) (rules : Rules S A) (start : S) (IsText : List ℕ → Type 0) (IsFull : List ℕ → List ℕ → Type 0) (Been : List ℕ → S → Option Token → Type 0) : Type 0 where
   pub good : (text : List ℕ) → IsText text → IsGood (run rules (length text) start (tokens_in (suc (length text)) text))
   pub no_bad : (s : S) → NotTaken rules s bad_number
-  pub no_numbers : (s : S) → rules.takes s bad_number ≡ Err cause.Syntax → (z : ℤ) → NotTaken rules s (number z)
   pub no_number : (s : S) → may_stand rules s beginning.Number ≡ false → (z : ℤ) → NotTaken rules s (number z)
   pub no_text : (s : S) → may_stand rules s beginning.Text ≡ false → (k : List ℕ) → NotTaken rules s (quoted k)
   pub a_number : (s : S) → may_stand rules s beginning.Number ≡ true → (z : ℤ) → (s' : S) × (rules.takes s (number z) ≡ Ok s')
   pub a_text : (s : S) → may_stand rules s beginning.Text ≡ true → (k : List ℕ) → (s' : S) × (rules.takes s (quoted k) ≡ Ok s')
-  pub end_place : (total : ℕ) (s : S) (field place : ℕ) → rules.ends total s ≡ Err (refusal.Syntax field place) → place ≡ total
+  pub end_place : (total : ℕ) (s : S) (why : QueryRefusal) (place : ℕ) → rules.ends total s ≡ Err why → told_place why ≡ Some place → place ≡ total
   pub first_been : Been [] start None
   pub next_been : (pre : List ℕ) (s s' : S) (o : Option Token) (blanks : List ℕ) (t : Token) → Been pre s o → list_all is_blank blanks ≡ true → IsToken t
       → ((x : List ℕ) → Joins o (blanks ++ (spelled t ++ x))) → rules.takes s t ≡ Ok s' → Been (pre ++ (blanks ++ spelled t)) s' (Some t)
@@ -219,8 +234,8 @@ taken (Ok s) stands = (s, refl)
 taken (Err x) stands = cc
 
 -- what stands behind the blanks has so many bytes in front of its end
-place_of : {A : Type 0} (field place n : ℕ) (f : ℕ) → ◌≡◌ {A = Result A QueryRefusal} (Err (refusal.Syntax f n)) (Err (refusal.Syntax field place)) → place ≡ n
-place_of field place n f e = let same : n ≡ place = cc in sym same
+place_of : {A : Type 0} (field n : ℕ) (why : QueryRefusal) (place : ℕ) → ◌≡◌ {A = Result A QueryRefusal} (Err (refusal.Syntax field n)) (Err why) → told_place why ≡ Some place → place ≡ n
+place_of {A} field n why place is told = refused_place {A = A} field n cause.Syntax why place is told
 
 -- no token stands where the text ends inside one
 no_token : (y : List ℕ) (what : Beginning) (left : ℕ) → 0 < length y → lexeme_at y ≡ unfinished what left → IsPiece y
@@ -362,14 +377,14 @@ moved {IsText = IsText} {IsFull = IsFull} a b same place r = subst (λ x. IsRefu
 abbrev ReadsOn : {S A : Type 0} → Rules S A → S → (List ℕ → Type 0) → (List ℕ → List ℕ → Type 0) → (List ℕ → S → Option Token → Type 0) → ℕ → Type 0
 ReadsOn {S} {A} rules start IsText IsFull Been n =
     (pre : List ℕ) (s : S) (o : Option Token) (rest : List ℕ) → Been pre s o → Reached rules start pre s o → Joins o rest → length rest < n
-    → (field place : ℕ) → run rules (length (pre ++ rest)) s (tokens_in n rest) ≡ Err (refusal.Syntax field place) → IsRefusedAt IsText IsFull a_blank (pre ++ rest) place
+    → (why : QueryRefusal) (place : ℕ) → told_place why ≡ Some place → run rules (length (pre ++ rest)) s (tokens_in n rest) ≡ Err why → IsRefusedAt IsText IsFull a_blank (pre ++ rest) place
 
 -- a token that is taken or not
 by_token : {S A : Type 0} {rules : Rules S A} {start : S} {IsText : List ℕ → Type 0} {IsFull : List ℕ → List ℕ → Type 0} {Been : List ℕ → S → Option Token → Type 0} (h : Here S A rules start IsText IsFull Been)
     → (n : ℕ) → ReadsOn rules start IsText IsFull Been n → (t : Token) (y rest : List ℕ) → Fronts y rest t → (t ≡ bad_number → ⊥) → Joins h.o (h.blanks ++ y) → length (h.blanks ++ y) < suc n → (r : Result S Cause) → rules.takes h.s t ≡ r
-    → (field place : ℕ) → after_token (λ after. run rules (length (h.pre ++ (h.blanks ++ y))) after (tokens_in n rest)) rules.field (length (h.pre ++ (h.blanks ++ y)) - length y) r ≡ Err (refusal.Syntax field place)
+    → (why : QueryRefusal) (place : ℕ) → told_place why ≡ Some place → after_token (λ after. run rules (length (h.pre ++ (h.blanks ++ y))) after (tokens_in n rest)) rules.field (length (h.pre ++ (h.blanks ++ y)) - length y) r ≡ Err why
     → IsRefusedAt IsText IsFull a_blank (h.pre ++ (h.blanks ++ y)) place
-by_token {S = S} {A = A} {rules = rules} {start = start} {IsText = IsText} {IsFull = IsFull} {Been = Been} h n more t y rest f good joins room (Ok s') is field place e =
+by_token {S = S} {A = A} {rules = rules} {start = start} {IsText = IsText} {IsFull = IsFull} {Been = Been} h n more t y rest f good joins room (Ok s') is why place told e =
     let gap = h.blanks ++ spelled t in
     let whole : (h.pre ++ gap) ++ rest ≡ h.pre ++ (h.blanks ++ y) =
     append_assoc h.pre gap rest ∙ ap (λ w. h.pre ++ w) (append_assoc h.blanks (spelled t) rest) ∙ ap (λ w. h.pre ++ (h.blanks ++ w)) (sym f.parts) in
@@ -377,23 +392,22 @@ by_token {S = S} {A = A} {rules = rules} {start = start} {IsText = IsText} {IsFu
     λ x. joins_behind h.o h.blanks (spelled t) rest x (spelled_some t f.is_token) (subst (λ w. Joins h.o (h.blanks ++ w)) f.parts joins) in
     moved ((h.pre ++ gap) ++ rest) (h.pre ++ (h.blanks ++ y)) whole place
     (more (h.pre ++ gap) s' (Some t) rest (h.language.next_been h.pre h.s s' h.o h.blanks t h.been h.blank f.is_token joins_so is) (next_reached h t y rest s' f joins is) f.longest
-    (omega (arith, room, ap length f.parts, length-append (spelled t) rest, length-append h.blanks y, spelled_some t f.is_token)) field place
+    (omega (arith, room, ap length f.parts, length-append (spelled t) rest, length-append h.blanks y, spelled_some t f.is_token)) why place told
     (ap (λ w. run rules (length w) s' (tokens_in n rest)) whole ∙ e))
-by_token {S = S} {A = A} {rules = rules} {start = start} {IsText = IsText} {IsFull = IsFull} {Been = Been} h n more t y rest f good joins room (Err x) is field place e =
-    at_front h y place (refused_syntax rules.field (length (h.pre ++ (h.blanks ++ y)) - length y) field place x e).1
+by_token {S = S} {A = A} {rules = rules} {start = start} {IsText = IsText} {IsFull = IsFull} {Been = Been} h n more t y rest f good joins room (Err x) is why place told e =
+    at_front h y place (refused_place rules.field (length (h.pre ++ (h.blanks ++ y)) - length y) x why place e told)
     (token_wrong h t y rest f joins (λ s' ok. let no = sym is ∙ ok in cc))
 
 -- a number that is refused
 by_bad : {S A : Type 0} {rules : Rules S A} {start : S} {IsText : List ℕ → Type 0} {IsFull : List ℕ → List ℕ → Type 0} {Been : List ℕ → S → Option Token → Type 0} (h : Here S A rules start IsText IsFull Been)
-    → (b : ℕ) (bs : List ℕ) → is_letter b ≡ false → (is_digit b || b == 45) ≡ true → is_blank b ≡ false → Joins h.o (h.blanks ++ (b ∷ bs)) → (more : S → Result A QueryRefusal) (r : Result S Cause) → rules.takes h.s bad_number ≡ r
-    → (field place : ℕ) → after_token more rules.field (length (h.pre ++ (h.blanks ++ (b ∷ bs))) - length (b ∷ bs)) r ≡ Err (refusal.Syntax field place)
+    → (b : ℕ) (bs : List ℕ) → BadNumber b bs → is_blank b ≡ false → Joins h.o (h.blanks ++ (b ∷ bs)) → (more : S → Result A QueryRefusal) (r : Result S Cause) → rules.takes h.s bad_number ≡ r
+    → (why : QueryRefusal) (place : ℕ) → told_place why ≡ Some place → after_token more rules.field (length (h.pre ++ (h.blanks ++ (b ∷ bs))) - length (b ∷ bs)) r ≡ Err why
     → IsRefusedAt IsText IsFull a_blank (h.pre ++ (h.blanks ++ (b ∷ bs))) place
-by_bad {S = S} {A = A} {rules = rules} {start = start} {IsText = IsText} {IsFull = IsFull} {Been = Been} h b bs no_word starts shown joins more (Ok s') is field place e = absurd (h.language.no_bad h.s s' is)
-by_bad {S = S} {A = A} {rules = rules} {start = start} {IsText = IsText} {IsFull = IsFull} {Been = Been} h b bs no_word starts shown joins more (Err x) is field place e =
-    let (syntax, where_is) = refused_syntax rules.field (length (h.pre ++ (h.blanks ++ (b ∷ bs))) - length (b ∷ bs)) field place x e in
-    let never = h.language.no_numbers h.s (is ∙ ap Err syntax) in
-    at_front h (b ∷ bs) place where_is
-    (bytes_wrong h b [] bs shown joins (λ other. number_refused rules h.s b other no_word starts never (h.language.no_bad h.s)))
+by_bad {S = S} {A = A} {rules = rules} {start = start} {IsText = IsText} {IsFull = IsFull} {Been = Been} h b bs bad_one shown joins more (Ok s') is why place told e = absurd (h.language.no_bad h.s s' is)
+by_bad {S = S} {A = A} {rules = rules} {start = start} {IsText = IsText} {IsFull = IsFull} {Been = Been} h b bs bad_one shown joins more (Err x) is why place told e =
+    at_front h (b ∷ bs) place (refused_place rules.field (length (h.pre ++ (h.blanks ++ (b ∷ bs))) - length (b ∷ bs)) x why place e told)
+    (subst (λ z. IsUnmended IsText (h.pre ++ h.blanks) (b ∷ z)) (sym bad_one.parts)
+    (bytes_wrong h b bad_one.more bad_one.rest shown (subst (λ z. Joins h.o (h.blanks ++ (b ∷ z))) bad_one.parts joins) (λ other. bad_refused rules h.s b bs bad_one other (h.language.no_bad h.s))))
 
 -- bytes with which no token begins
 by_unknown : {S A : Type 0} {rules : Rules S A} {start : S} {IsText : List ℕ → Type 0} {IsFull : List ℕ → List ℕ → Type 0} {Been : List ℕ → S → Option Token → Type 0} (h : Here S A rules start IsText IsFull Been)
@@ -405,74 +419,74 @@ by_unknown {S = S} {A = A} {rules = rules} {start = start} {IsText = IsText} {Is
 
 -- the text ends
 by_end : {S A : Type 0} {rules : Rules S A} {start : S} {IsText : List ℕ → Type 0} {IsFull : List ℕ → List ℕ → Type 0} {Been : List ℕ → S → Option Token → Type 0} (h : Here S A rules start IsText IsFull Been)
-    → lexeme (h.blanks ++ []) ≡ ends → Joins h.o (h.blanks ++ []) → (field place : ℕ) → rules.ends (length (h.pre ++ (h.blanks ++ []))) h.s ≡ Err (refusal.Syntax field place)
+    → lexeme (h.blanks ++ []) ≡ ends → Joins h.o (h.blanks ++ []) → (why : QueryRefusal) (place : ℕ) → told_place why ≡ Some place → rules.ends (length (h.pre ++ (h.blanks ++ []))) h.s ≡ Err why
     → IsRefusedAt IsText IsFull a_blank (h.pre ++ (h.blanks ++ [])) place
-by_end {S = S} {A = A} {rules = rules} {start = start} {IsText = IsText} {IsFull = IsFull} {Been = Been} h reads joins field place e =
+by_end {S = S} {A = A} {rules = rules} {start = start} {IsText = IsText} {IsFull = IsFull} {Been = Been} h reads joins why place told e =
     let text = h.pre ++ (h.blanks ++ []) in
-    let at : place ≡ length text = h.language.end_place (length text) h.s field place e in
+    let at : place ≡ length text = h.language.end_place (length text) h.s why place e told in
     at_end h [] place (omega (arith, at)) (subst (λ z. GoesOn IsText IsFull a_blank (h.pre ++ z)) (sym (append-nil h.blanks)) (h.language.goes h.pre h.s h.o h.blanks h.been h.blank))
     (λ is. let (n, room, same) = h.reached (h.blanks ++ []) joins (length text) (suc (length text)) (omega arith) in never n room (subst IsGood same (h.language.good text is)))
   where
     never : (n : ℕ) → length (h.blanks ++ []) < n → IsGood (run rules (length (h.pre ++ (h.blanks ++ []))) h.s (tokens_in n (h.blanks ++ []))) → ⊥
     never zero room good = absurd (omega arith)
     never (suc n) room good =
-        subst IsGood (ap (λ l. run rules (length (h.pre ++ (h.blanks ++ []))) h.s (by_lexeme (tokens_in n) l)) reads ∙ e) good
+        told_not_good A why place told (subst IsGood (ap (λ l. run rules (length (h.pre ++ (h.blanks ++ []))) h.s (by_lexeme (tokens_in n) l)) reads ∙ e) good)
 
 by_next : {S A : Type 0} {rules : Rules S A} {start : S} {IsText : List ℕ → Type 0} {IsFull : List ℕ → List ℕ → Type 0} {Been : List ℕ → S → Option Token → Type 0} (h : Here S A rules start IsText IsFull Been)
     → (n : ℕ) → ReadsOn rules start IsText IsFull Been n → (b : ℕ) (bs : List ℕ) → is_blank b ≡ false → Joins h.o (h.blanks ++ (b ∷ bs)) → length (h.blanks ++ (b ∷ bs)) < suc n
-    → (l : Lexeme) → lexeme_at (b ∷ bs) ≡ l → (field place : ℕ) → run rules (length (h.pre ++ (h.blanks ++ (b ∷ bs)))) h.s (by_lexeme (tokens_in n) l) ≡ Err (refusal.Syntax field place)
+    → (l : Lexeme) → lexeme_at (b ∷ bs) ≡ l → (why : QueryRefusal) (place : ℕ) → told_place why ≡ Some place → run rules (length (h.pre ++ (h.blanks ++ (b ∷ bs)))) h.s (by_lexeme (tokens_in n) l) ≡ Err why
     → IsRefusedAt IsText IsFull a_blank (h.pre ++ (h.blanks ++ (b ∷ bs))) place
-by_next {S = S} {A = A} {rules = rules} {start = start} {IsText = IsText} {IsFull = IsFull} {Been = Been} h n more b bs shown joins room ends is field place e = absurd (no_end b bs is)
-by_next {S = S} {A = A} {rules = rules} {start = start} {IsText = IsText} {IsFull = IsFull} {Been = Been} h n more b bs shown joins room (found t left span rest) is field place e =
+by_next {S = S} {A = A} {rules = rules} {start = start} {IsText = IsText} {IsFull = IsFull} {Been = Been} h n more b bs shown joins room ends is why place told e = absurd (no_end b bs is)
+by_next {S = S} {A = A} {rules = rules} {start = start} {IsText = IsText} {IsFull = IsFull} {Been = Been} h n more b bs shown joins room (found t left span rest) is why place told e =
     let total = length (h.pre ++ (h.blanks ++ (b ∷ bs))) in
     let len : left ≡ length (b ∷ bs) = left_is (b ∷ bs) t left span rest is in
-    let goes : (v : Token) → t ≡ v → after_token (λ after. run rules total after (tokens_in n rest)) rules.field (total - length (b ∷ bs)) (rules.takes h.s v) ≡ Err (refusal.Syntax field place) =
+    let goes : (v : Token) → t ≡ v → after_token (λ after. run rules total after (tokens_in n rest)) rules.field (total - length (b ∷ bs)) (rules.takes h.s v) ≡ Err why =
     λ v same. ap (λ k. after_token (λ after. run rules total after (tokens_in n rest)) rules.field (total - k) (rules.takes h.s v)) (sym len)
     ∙ ap (λ k. after_token (λ after. run rules total after (tokens_in n rest)) rules.field (total - left) (rules.takes h.s k)) (sym same) ∙ e in
     elim (is_bad_number t) [
       | inl bad_one ↦ (
-          let (no_word, starts, told) = bad_number_is b bs left span rest (subst (λ v. lexeme_at (b ∷ bs) ≡ found v left span rest) bad_one is) in
-          by_bad h b bs no_word starts shown joins (λ after. run rules total after (tokens_in n rest)) (rules.takes h.s bad_number) refl field place (goes bad_number bad_one))
-      | inr good ↦ by_token h n more t (b ∷ bs) rest (token_written (b ∷ bs) t left span rest is good) good joins room (rules.takes h.s t) refl field place (goes t refl)
+          let bad = bad_number_stays b bs left span rest (subst (λ v. lexeme_at (b ∷ bs) ≡ found v left span rest) bad_one is) in
+          by_bad h b bs bad shown joins (λ after. run rules total after (tokens_in n rest)) (rules.takes h.s bad_number) refl why place told (goes bad_number bad_one))
+      | inr good ↦ by_token h n more t (b ∷ bs) rest (token_written (b ∷ bs) t left span rest is good) good joins room (rules.takes h.s t) refl why place told (goes t refl)
     ]
-by_next {S = S} {A = A} {rules = rules} {start = start} {IsText = IsText} {IsFull = IsFull} {Been = Been} h n more b bs shown joins room (unfinished what left) is field place e =
+by_next {S = S} {A = A} {rules = rules} {start = start} {IsText = IsText} {IsFull = IsFull} {Been = Been} h n more b bs shown joins room (unfinished what left) is why place told e =
     let (cut, len) = cut_off b bs what left is in
     by_unfinished h (b ∷ bs) what left cut (no_token (b ∷ bs) what left (omega arith) is) len (past_blanks h.blanks (b ∷ bs) h.blank shown ∙ is) joins (may_stand rules h.s what) refl place
-    (place_of field place (length (h.pre ++ (h.blanks ++ (b ∷ bs))) - (if may_stand rules h.s what then 0 else left)) rules.field e)
-by_next {S = S} {A = A} {rules = rules} {start = start} {IsText = IsText} {IsFull = IsFull} {Been = Been} h n more b bs shown joins room (bad_text left there) is field place e =
+    (place_of rules.field (length (h.pre ++ (h.blanks ++ (b ∷ bs))) - (if may_stand rules h.s what then 0 else left)) why place e told)
+by_next {S = S} {A = A} {rules = rules} {start = start} {IsText = IsText} {IsFull = IsFull} {Been = Been} h n more b bs shown joins room (bad_text left there) is why place told e =
     let (at, quote, scans, whole, part) = bad_text_is b bs left there is in
     let total = length (h.pre ++ (h.blanks ++ (b ∷ bs))) in
-    let there_is = place_of field place (total - (if may_stand rules h.s beginning.Text then there else left)) rules.field e in
+    let there_is = place_of rules.field (total - (if may_stand rules h.s beginning.Text then there else left)) why place e told in
     subst (λ c. Joins h.o (h.blanks ++ (c ∷ bs)) → place ≡ length (h.pre ++ (h.blanks ++ (c ∷ bs))) - (if may_stand rules h.s beginning.Text then there else left) → IsRefusedAt IsText IsFull a_blank (h.pre ++ (h.blanks ++ (c ∷ bs))) place) (sym quote)
     (λ j p. by_quotes h bs at scans j left there whole part (may_stand rules h.s beginning.Text) refl place p) joins there_is
-by_next {S = S} {A = A} {rules = rules} {start = start} {IsText = IsText} {IsFull = IsFull} {Been = Been} h n more b bs shown joins room (unknown left) is field place e =
+by_next {S = S} {A = A} {rules = rules} {start = start} {IsText = IsText} {IsFull = IsFull} {Been = Been} h n more b bs shown joins room (unknown left) is why place told e =
     let (u, len) = unknown_is b bs left is in
     by_unknown h b bs u shown joins place
-    (place_of field place (length (h.pre ++ (h.blanks ++ (b ∷ bs))) - left) rules.field e ∙ ap (λ k. length (h.pre ++ (h.blanks ++ (b ∷ bs))) - k) len)
+    (place_of rules.field (length (h.pre ++ (h.blanks ++ (b ∷ bs))) - left) why place e told ∙ ap (λ k. length (h.pre ++ (h.blanks ++ (b ∷ bs))) - k) len)
 
 -- what stands behind the blanks
 by_rest : {S A : Type 0} {rules : Rules S A} {start : S} {IsText : List ℕ → Type 0} {IsFull : List ℕ → List ℕ → Type 0} {Been : List ℕ → S → Option Token → Type 0} (h : Here S A rules start IsText IsFull Been)
     → (n : ℕ) → ReadsOn rules start IsText IsFull Been n → (y : List ℕ) → is_blank (first y) ≡ false → Joins h.o (h.blanks ++ y) → length (h.blanks ++ y) < suc n
-    → (field place : ℕ) → run rules (length (h.pre ++ (h.blanks ++ y))) h.s (tokens_in (suc n) (h.blanks ++ y)) ≡ Err (refusal.Syntax field place) → IsRefusedAt IsText IsFull a_blank (h.pre ++ (h.blanks ++ y)) place
-by_rest {S = S} {A = A} {rules = rules} {start = start} {IsText = IsText} {IsFull = IsFull} {Been = Been} h n more [] shown joins room field place e =
+    → (why : QueryRefusal) (place : ℕ) → told_place why ≡ Some place → run rules (length (h.pre ++ (h.blanks ++ y))) h.s (tokens_in (suc n) (h.blanks ++ y)) ≡ Err why → IsRefusedAt IsText IsFull a_blank (h.pre ++ (h.blanks ++ y)) place
+by_rest {S = S} {A = A} {rules = rules} {start = start} {IsText = IsText} {IsFull = IsFull} {Been = Been} h n more [] shown joins room why place told e =
     let reads : lexeme (h.blanks ++ []) ≡ ends = past_blanks h.blanks [] h.blank refl in
-    by_end h reads joins field place (ap (λ l. run rules (length (h.pre ++ (h.blanks ++ []))) h.s (by_lexeme (tokens_in n) l)) (sym reads) ∙ e)
-by_rest {S = S} {A = A} {rules = rules} {start = start} {IsText = IsText} {IsFull = IsFull} {Been = Been} h n more (b ∷ bs) shown joins room field place e =
-    by_next h n more b bs shown joins room (lexeme_at (b ∷ bs)) refl field place
+    by_end h reads joins why place told (ap (λ l. run rules (length (h.pre ++ (h.blanks ++ []))) h.s (by_lexeme (tokens_in n) l)) (sym reads) ∙ e)
+by_rest {S = S} {A = A} {rules = rules} {start = start} {IsText = IsText} {IsFull = IsFull} {Been = Been} h n more (b ∷ bs) shown joins room why place told e =
+    by_next h n more b bs shown joins room (lexeme_at (b ∷ bs)) refl why place told
     (ap (λ l. run rules (length (h.pre ++ (h.blanks ++ (b ∷ bs)))) h.s (by_lexeme (tokens_in n) l)) (sym (past_blanks h.blanks (b ∷ bs) h.blank shown)) ∙ e)
 
 reads_on : {S A : Type 0} {rules : Rules S A} {start : S} {IsText : List ℕ → Type 0} {IsFull : List ℕ → List ℕ → Type 0} {Been : List ℕ → S → Option Token → Type 0} → Language S A rules start IsText IsFull Been → (n : ℕ) → ReadsOn rules start IsText IsFull Been n
-reads_on language zero pre s o rest been reached joins room field place e = absurd (omega arith)
-reads_on {S = S} {A = A} {rules = rules} {start = start} {IsText = IsText} {IsFull = IsFull} {Been = Been} language (suc n) pre s o rest been reached joins room field place e =
+reads_on language zero pre s o rest been reached joins room why place told e = absurd (omega arith)
+reads_on {S = S} {A = A} {rules = rules} {start = start} {IsText = IsText} {IsFull = IsFull} {Been = Been} language (suc n) pre s o rest been reached joins room why place told e =
     let k = prefix_len is_blank rest in
     let parts : take k rest ++ drop k rest ≡ rest = take-append-drop k rest in
     let h : Here S A rules start IsText IsFull Been = record { language = language; pre = pre; s = s; o = o; been = been; reached = reached; blanks = take k rest; blank = run_passes is_blank rest } in
     moved (pre ++ (take k rest ++ drop k rest)) (pre ++ rest) (ap (λ z. pre ++ z) parts) place
-    (by_rest h n (reads_on language n) (drop k rest) (run_stops is_blank rest refl) (subst (Joins o) (sym parts) joins) (omega (arith, ap length parts)) field place
+    (by_rest h n (reads_on language n) (drop k rest) (run_stops is_blank rest refl) (subst (Joins o) (sym parts) joins) (omega (arith, ap length parts)) why place told
     (ap (λ z. run rules (length (pre ++ z)) s (tokens_in (suc n) z)) parts ∙ e))
 
 -- a refused text is refused where nothing mends
-pub refused_there : {S A : Type 0} {rules : Rules S A} {start : S} {IsText : List ℕ → Type 0} {IsFull : List ℕ → List ℕ → Type 0} {Been : List ℕ → S → Option Token → Type 0} → Language S A rules start IsText IsFull Been → (text : List ℕ) (field place : ℕ)
-    → run rules (length text) start (tokens_in (suc (length text)) text) ≡ Err (refusal.Syntax field place) → IsRefusedAt IsText IsFull a_blank text place
-refused_there {start = start} language text field place e =
-    reads_on language (suc (length text)) [] start None text language.first_been (λ x joins total m room. (m, room, refl)) tt (omega arith) field place e
+pub refused_there : {S A : Type 0} {rules : Rules S A} {start : S} {IsText : List ℕ → Type 0} {IsFull : List ℕ → List ℕ → Type 0} {Been : List ℕ → S → Option Token → Type 0} → Language S A rules start IsText IsFull Been → (text : List ℕ) (why : QueryRefusal) (place : ℕ)
+    → told_place why ≡ Some place → run rules (length text) start (tokens_in (suc (length text)) text) ≡ Err why → IsRefusedAt IsText IsFull a_blank text place
+refused_there {start = start} language text why place told e =
+    reads_on language (suc (length text)) [] start None text language.first_been (λ x joins total m room. (m, room, refl)) tt (omega arith) why place told e

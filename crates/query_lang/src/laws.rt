@@ -1,5 +1,5 @@
 //! What the reading of texts has to do with the grammar. Each law is the contract of an empty function.
-ghost use Rattle.std.specs.Prelude.{◌≡◌, ◌≤◌, ℕ, List, [], Ok, Err};
+ghost use Rattle.std.specs.Prelude.{◌≡◌, ◌≤◌, ℕ, List, [], Some, Ok, Err};
 ghost use Rattle.query_core.specs.Filters.{Filter, height};
 ghost use Rattle.query_core.specs.Limits.{leaves, IsQuery};
 ghost use Rattle.query_core.specs.declared.query.Query.{Query};
@@ -13,6 +13,8 @@ ghost use Rattle.query_lang.specs.Queries.{read_query, number_field};
 ghost use Rattle.query_lang.specs.OrderText.{IsOrderText};
 ghost use Rattle.query_lang.specs.OrderReading.{read_order};
 ghost use Rattle.query_lang.specs.Mending.{IsRefusedAt, IsFilter, IsFullPath, IsOrder, IsFullOrder, IsInteger, IsNeverFull, a_blank};
+ghost use Rattle.query_lang.specs.Refusals.{told_place};
+ghost use Rattle.query_lang.specs.declared.refusal.QueryRefusal.{QueryRefusal};
 ghost use Rattle.query_lang.specs.declared.refusal.QueryRefusal.TheVariants.{Syntax};
 
 /// A filter of the grammar is read, or refused for the first limit of whole filters that it passes.
@@ -40,15 +42,16 @@ pub fn printed_queries_are_read_again()
     ensures { (query : Query) (kind : Kind) (fields : Fields) → IsQuery query → IsPrinted fields query kind → read_query query.collection fields ≡ Ok (query, kind) }
 {}
 
-/// A filter is refused as no filter where the first of it stands that nothing behind it can mend: what
-/// stands before goes on to a filter, and with it none does.
+/// A refusal of a filter that tells a place tells where the first of it stands that nothing behind it
+/// can mend: what stands before goes on to a filter, and with it none does.
 pub fn a_filter_is_refused_where_nothing_mends()
-    ensures { (bytes : List ℕ) (field place : ℕ) → read_filter bytes ≡ Err (Syntax field place) → IsRefusedAt IsFilter IsFullPath a_blank bytes place }
+    ensures { (bytes : List ℕ) (why : QueryRefusal) (place : ℕ) → read_filter bytes ≡ Err why → told_place why ≡ Some place → IsRefusedAt IsFilter IsFullPath a_blank bytes place }
 {}
 
-/// An order is refused as no order where the first of it stands that nothing behind it can mend.
+/// A refusal of an order that tells a place tells where the first of it stands that nothing behind it
+/// can mend.
 pub fn an_order_is_refused_where_nothing_mends()
-    ensures { (bytes : List ℕ) (field place : ℕ) → read_order bytes ≡ Err (Syntax field place) → IsRefusedAt IsOrder IsFullOrder a_blank bytes place }
+    ensures { (bytes : List ℕ) (why : QueryRefusal) (place : ℕ) → read_order bytes ≡ Err why → told_place why ≡ Some place → IsRefusedAt IsOrder IsFullOrder a_blank bytes place }
 {}
 
 /// A number is refused as none where the first byte stands that nothing behind it can mend.
