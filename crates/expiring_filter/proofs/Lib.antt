@@ -2,3 +2,4 @@ pub mod CountLemmas
 pub mod FilterLemmas
 pub mod HeldLemmas
 pub mod PutLemmas
+pub mod EventLemmas

@@ -1,5 +1,6 @@
 pub mod Counts
 pub mod Due
+pub mod Events
 pub mod Filter
 pub mod Held
 pub use Rattle.query_normal.specs.Bits

@@ -4,6 +4,7 @@
 mod counters;
 mod filter;
 mod held;
+pub mod laws;
 mod queue;
 
 pub use filter::CountingFilter;
