@@ -1,10 +1,12 @@
 //! Changes of the store, and what a commit made of its record.
 ghost use Rattle.std.specs.Prelude.{◌≡◌, IfOk};
+ghost use Rattle.commit_book.specs.Journal.{cost_of};
 ghost use Rattle.commit_book.specs.Same.{same_document, same_change};
 
-use q_base::{Commit, Name};
+use crate::row::{cost_of, text_of};
+use q_base::{Commit, Memory, Name};
 use q_doc::Doc;
-use std::alloc::AllocError;
+use std::alloc::{AllocError, Global};
 
 /// What a write does to a record: it puts a document, or deletes.
 #[derive(Drop)]
@@ -23,6 +25,16 @@ pub struct CommitRow {
     pub id: Name,
     pub before: Option<Doc>,
     pub after: Option<Doc>,
+}
+
+impl Change {
+    /// What the change takes of a capacity, in bytes. It prints the document.
+    pub fn cost(&self, alloc: Global) -> Result<u64, Memory>
+        ensures { IfOk result (λ bytes. bytes ≡ cost_of self.now) }
+    {
+        let text = text_of(alloc, self)?;
+        Ok(cost_of(self, &text))
+    }
 }
 
 impl Clone for Change {

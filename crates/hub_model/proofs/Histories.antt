@@ -1,15 +1,16 @@
--- What one entry more does to a history, and what the fold's clock, journal and front are.
+-- What one entry more does to a history, and what the fold's clock and front are.
 use Rattle.std.proofs.Common.{◌≡◌, ℕ, ◌≤◌, max, List, [], ◌∷◌, ◌++◌, length, map, fold, Some, None, refl, sym, ap, ◌∙◌, subst, arith, append_assoc, append-nil, length-append}
 use Rattle.std.specs.Prelude.{unwrap_or}
 use Rattle.std.specs.List.{filter_map, last_or}
 use Rattle.std.proofs.lemmas.List.Sums.{fold-append}
 use Rattle.hub_model.specs.declared.entry.Entry.{Entry}
 use Rattle.hub_model.specs.declared.entry.Entry.TheVariants.{Write, Read, Match, Fetch, Tick}
-use Rattle.hub_model.specs.Direct.{moment_of, clock_of, journal_of, to_of, front_of}
+use Rattle.hub_model.specs.Direct.{moment_of, clock_of, to_of, front_of}
 use Rattle.hub_model.specs.Legal.{MayFollow, IsLegalFrom, IsLegal}
 use Rattle.hub_model.specs.Setting.{Setting}
-use Rattle.hub_model.specs.State.{State, start}
+use Rattle.hub_model.specs.State.{State, start, at_moment}
 use Rattle.hub_model.specs.Step.{after, state_of}
+use Rattle.hub_model.proofs.Accepted.{wrote-keeps}
 
 -- ---- one entry more, and more entries
 
@@ -54,7 +55,7 @@ legal-parts g history more legal = legal_from-parts g start history more legal
 -- ---- the clock
 
 clock-after : (g : Setting) (s : State) (e : Entry) → (after g s e).clock ≡ max s.clock (moment_of e)
-clock-after g s (Write moment change condition) = refl
+clock-after g s (Write moment change condition) = wrote-keeps (λ (t : State). t.clock ≡ max s.clock moment) g change condition (at_moment s moment) refl refl
 clock-after g s (Read moment key tags at) = refl
 clock-after g s (Match moment to) = refl
 clock-after g s (Fetch moment) = refl
@@ -68,27 +69,10 @@ pub clock-greatest : (g : Setting) (history : List Entry) → (state_of g histor
 unfolding state_of
 clock-greatest g history = clock-from g start history
 
--- ---- the journal
-
-journal-after : (g : Setting) (s : State) (e : Entry) (es : List Entry) → (after g s e).journal ++ journal_of es ≡ s.journal ++ journal_of (e ∷ es)
-journal-after g s (Write moment change condition) es = append_assoc s.journal (change ∷ []) (journal_of es)
-journal-after g s (Read moment key tags at) es = refl
-journal-after g s (Match moment to) es = refl
-journal-after g s (Fetch moment) es = refl
-journal-after g s (Tick moment) es = refl
-
-journal-from : (g : Setting) (s : State) (history : List Entry) → (fold (after g) s history).journal ≡ s.journal ++ journal_of history
-journal-from g s [] = sym (append-nil s.journal)
-journal-from g s (e ∷ es) = journal-from g (after g s e) es ∙ journal-after g s e es
-
-pub journal-writes : (g : Setting) (history : List Entry) → (state_of g history).journal ≡ journal_of history
-unfolding state_of
-journal-writes g history = journal-from g start history
-
 -- ---- the front
 
 front-after : (g : Setting) (s : State) (e : Entry) (es : List Entry) → unwrap_or (last_or (Some (after g s e).front) (filter_map to_of es)) 0 ≡ unwrap_or (last_or (Some s.front) (filter_map to_of (e ∷ es))) 0
-front-after g s (Write moment change condition) es = refl
+front-after g s (Write moment change condition) es = wrote-keeps (λ (t : State). unwrap_or (last_or (Some t.front) (filter_map to_of es)) 0 ≡ unwrap_or (last_or (Some s.front) (filter_map to_of es)) 0) g change condition (at_moment s moment) refl refl
 front-after g s (Read moment key tags at) es = refl
 front-after g s (Match moment to) es = refl
 front-after g s (Fetch moment) es = refl
@@ -111,7 +95,7 @@ front-last g history = front-from g start history ∙ last_or-zero (filter_map t
 
 -- the front is not above the number of commits
 within-after : (g : Setting) (s : State) (e : Entry) → s.front ≤ length s.journal → MayFollow s e → (after g s e).front ≤ length (after g s e).journal
-within-after g s (Write moment change condition) h may = let size = length-append s.journal (change ∷ []) in omega (arith, size, h)
+within-after g s (Write moment change condition) h may = wrote-keeps (λ (t : State). t.front ≤ length t.journal) g change condition (at_moment s moment) (let size = length-append s.journal (change ∷ []) in omega (arith, size, h)) h
 within-after g s (Read moment key tags at) h may = h
 within-after g s (Match moment to) h may = may.1
 within-after g s (Fetch moment) h may = h
@@ -126,7 +110,7 @@ unfolding IsLegal state_of
 front-within g history legal = within-from g start history (omega arith) legal
 
 front-grows : (g : Setting) (s : State) (e : Entry) → MayFollow s e → s.front ≤ (after g s e).front
-front-grows g s (Write moment change condition) may = omega arith
+front-grows g s (Write moment change condition) may = wrote-keeps (λ (t : State). s.front ≤ t.front) g change condition (at_moment s moment) (omega arith) (omega arith)
 front-grows g s (Read moment key tags at) may = omega arith
 front-grows g s (Match moment to) may = let up = may.0 in omega (arith, up)
 front-grows g s (Fetch moment) may = omega arith

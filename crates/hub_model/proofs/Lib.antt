@@ -1,3 +1,4 @@
+mod Accepted
 mod Bits
 mod Changes
 mod Copies

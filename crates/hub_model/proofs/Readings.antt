@@ -11,6 +11,7 @@ use Rattle.hub_model.specs.Lifetime.{ttl_of}
 use Rattle.hub_model.specs.Setting.{Setting}
 use Rattle.hub_model.specs.State.{Reading, State, start, at_moment}
 use Rattle.hub_model.specs.Step.{after, state_of}
+use Rattle.hub_model.proofs.Accepted.{wrote-keeps}
 use Rattle.hub_model.proofs.Copies.{only}
 use Rattle.hub_model.proofs.Histories.{state_of-push, state_of-append, clock-greatest}
 
@@ -32,7 +33,7 @@ given g s (Tick moment) = []
 
 given-after : (g : Setting) (s : State) (e : Entry) → (after g s e).readings ≡ s.readings ++ given g s e
 unfolding given reading_at
-given-after g s (Write moment change condition) = sym (append-nil s.readings)
+given-after g s (Write moment change condition) = wrote-keeps (λ (t : State). t.readings ≡ s.readings ++ []) g change condition (at_moment s moment) (sym (append-nil s.readings)) (sym (append-nil s.readings))
 given-after g s (Read moment key tags at) = refl
 given-after g s (Match moment to) = sym (append-nil s.readings)
 given-after g s (Fetch moment) = sym (append-nil s.readings)

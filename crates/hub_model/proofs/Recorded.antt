@@ -25,6 +25,7 @@ use Rattle.hub_model.specs.Setting.{Setting}
 use Rattle.hub_model.specs.State.{Reading, State, at_moment}
 use Rattle.hub_model.specs.Step.{after, has_read, state_of}
 use Rattle.hub_model.specs.Until.{until_among, until_of_outdated}
+use Rattle.hub_model.proofs.Accepted.{wrote-keeps}
 use Rattle.hub_model.proofs.Copies.{any_from, found_by, live-parts, live-from, copy-parts, copy-from, among-keys_of, distinct-keys_of}
 use Rattle.hub_model.proofs.Histories.{state_of-push, legal-parts, front-within}
 use Rattle.hub_model.proofs.KeySets.{among-filter, distinct-filter, same_keys-permute}
@@ -169,5 +170,5 @@ outdated_until-longer s more key h = ap (λ (test : Reading → Bool). until_amo
 pub write-records_nothing : (g : Setting) (history : List Entry) (moment : ℕ) (change : Change) (condition : Condition) → IsLegal g history → record_of (state_of g (history ++ Write moment change condition ∷ [])) ≡ record_of (state_of g (history ++ Tick moment ∷ []))
 write-records_nothing g history moment change condition legal =
     ap record_of (state_of-push g history (Write moment change condition))
-    ∙ record-longer (at_moment (state_of g history) moment) (change ∷ []) (front-within g history legal)
+    ∙ wrote-keeps (λ (t : State). record_of t ≡ record_of (at_moment (state_of g history) moment)) g change condition (at_moment (state_of g history) moment) (record-longer (at_moment (state_of g history) moment) (change ∷ []) (front-within g history legal)) refl
     ∙ ap record_of (sym (state_of-push g history (Tick moment)))

@@ -1,18 +1,22 @@
 -- Worked histories, computed from the definitions alone.
-use Rattle.std.proofs.Common.{◌≡◌, ℕ, ◌++◌, List, [], ◌∷◌, Some, None, true, false, pos, codes, refl, ap, arith}
+use Rattle.std.proofs.Common.{◌≡◌, ◌<◌, ◌≤◌, ℕ, ◌++◌, List, [], ◌∷◌, Some, None, true, false, pos, codes, refl, ap, arith}
+use Rattle.std.specs.Fmt.{digits}
+use Rattle.json.specs.Print.{escape_byte}
 use Rattle.q_doc.specs.Printed.{printed}
 use Rattle.q_doc.specs.Tree.{Tree, number, object, no_members, member}
 use Rattle.query_normal.specs.declared.key.KeyShape.{KeyShape}
 use Rattle.query_normal.specs.declared.key.KeyShape.TheVariants.{Record}
 use Rattle.query_normal.specs.Pages.{Page}
 use Rattle.commit_book.specs.declared.change.Change.{Change}
-use Rattle.hub_model.specs.declared.entry.Condition.TheVariants.{Always}
+use Rattle.commit_book.specs.Journal.{cost_of}
+use Rattle.hub_model.specs.declared.entry.Condition.{Condition}
+use Rattle.hub_model.specs.declared.entry.Condition.TheVariants.{Always, Present, Absent, Unchanged}
 use Rattle.hub_model.specs.declared.entry.Entry.{Entry}
 use Rattle.hub_model.specs.declared.entry.Entry.TheVariants.{Write, Read, Match, Fetch}
 use Rattle.hub_model.specs.declared.entry.Found.TheVariants.{Missing, At}
 use Rattle.hub_model.specs.declared.entry.Outcome.TheVariants.{Whole}
-use Rattle.hub_model.specs.declared.entry.Tags.TheVariants.{Unasked}
-use Rattle.hub_model.specs.declared.entry.Written.TheVariants.{Done}
+use Rattle.hub_model.specs.declared.entry.Tags.TheVariants.{Any, Listed}
+use Rattle.hub_model.specs.declared.entry.Written.TheVariants.{Done, Precondition, Full}
 use Rattle.hub_model.specs.Setting.{Setting, default_setting}
 use Rattle.hub_model.specs.Record.{record_of, bits_of}
 use Rattle.hub_model.specs.Step.{state_of}
@@ -42,22 +46,22 @@ put_p1 n = record { collection = codes "shop"; id = codes "p1"; document = Some 
 -- ---- a copy of commit 1 until 160, and then commit 2, which is matched
 
 abbrev copied : List Entry
-copied = Write 100 (put_p1 1) Always ∷ Read 100 p1 Unasked 1 ∷ Write 110 (put_p1 2) Always ∷ []
+copied = Write 100 (put_p1 1) Always ∷ Read 100 p1 (Listed []) 1 ∷ Write 110 (put_p1 2) Always ∷ []
 
 abbrev covered : List Entry
 covered = copied ++ Match 110 2 ∷ []
 
 covered_replies : (reply sixty [] (Write 100 (put_p1 1) Always) ≡ wrote (Done 1 Missing 100))
-    × (reply sixty (Write 100 (put_p1 1) Always ∷ []) (Read 100 p1 Unasked 1) ≡ read (record { commit = 1; clock = 100; ttl = 60; result = Whole (printed (a_is 1)) (Some 1) }))
-    × (reply sixty (Write 100 (put_p1 1) Always ∷ Read 100 p1 Unasked 1 ∷ []) (Write 110 (put_p1 2) Always) ≡ wrote (Done 2 (At 1) 110))
+    × (reply sixty (Write 100 (put_p1 1) Always ∷ []) (Read 100 p1 (Listed []) 1) ≡ read (record { commit = 1; clock = 100; ttl = 60; result = Whole (printed (a_is 1)) (Some 1) }))
+    × (reply sixty (Write 100 (put_p1 1) Always ∷ Read 100 p1 (Listed []) 1 ∷ []) (Write 110 (put_p1 2) Always) ≡ wrote (Done 2 (At 1) 110))
     × (reply sixty copied (Match 110 2) ≡ matched (record { front = 2; clock = 110 }))
-unfolding state_of reply
+unfolding state_of reply cost_of digits escape_byte
 covered_replies = (refl, refl, refl, refl)
 
 -- the history is legal
 covered_legal : IsLegal sixty covered
-unfolding IsLegal
-covered_legal = (tt, ((omega arith, omega arith), (tt, ((omega arith, omega arith), tt))))
+unfolding IsLegal cost_of digits escape_byte
+covered_legal = (tt, (((let h : 0 ≤ 1 = omega arith in h), (let h : 1 ≤ 1 = omega arith in h)), (tt, (((let h : 0 < 2 = omega arith in h), (let h : 2 ≤ 2 = omega arith in h)), tt))))
 
 -- a page at 159 with the bits of these keys
 abbrev page : ℕ → ℕ → List KeyShape → Page
@@ -72,36 +76,36 @@ page front commits keys = record {
 
 -- at 159 the key is in the record, and the page has its bits alone, the front, the number of commits and the clock
 covered_at_159 : reply sixty covered (Fetch 159) ≡ fetched (page 2 2 (p1 ∷ []))
-unfolding state_of reply
+unfolding state_of reply cost_of digits escape_byte
 covered_at_159 = ap (λ (keys : List KeyShape). fetched (page 2 2 keys)) (let recorded : record_of (at_moment (state_of sixty covered) 159) ≡ p1 ∷ [] = refl in recorded)
 
 -- at 160 it is not, since 160 is not above 160
 covered_at_160 : record_of (state_of sixty (covered ++ Fetch 160 ∷ [])) ≡ []
-unfolding state_of
+unfolding state_of cost_of digits escape_byte
 covered_at_160 = refl
 
 -- ---- without the match, or with a match up to commit 1, the page has no bit
 
 uncovered_at_159 : reply sixty copied (Fetch 159) ≡ fetched (page 0 2 [])
-unfolding state_of reply
+unfolding state_of reply cost_of digits escape_byte
 uncovered_at_159 = ap (λ (keys : List KeyShape). fetched (page 0 2 keys)) (let recorded : record_of (at_moment (state_of sixty copied) 159) ≡ [] = refl in recorded)
 
 half_covered_at_159 : reply sixty (copied ++ Match 110 1 ∷ []) (Fetch 159) ≡ fetched (page 1 2 [])
-unfolding state_of reply
+unfolding state_of reply cost_of digits escape_byte
 half_covered_at_159 = ap (λ (keys : List KeyShape). fetched (page 1 2 keys)) (let recorded : record_of (at_moment (state_of sixty (copied ++ Match 110 1 ∷ [])) 159) ≡ [] = refl in recorded)
 
 -- ---- a further copy, of commit 2 until 180, is not outdated: it neither takes the key out early nor keeps it in
 
 abbrev read_again : List Entry
-read_again = covered ++ Read 120 p1 Unasked 2 ∷ []
+read_again = covered ++ Read 120 p1 (Listed []) 2 ∷ []
 
 read_again_at_159 : record_of (state_of sixty (read_again ++ Fetch 159 ∷ [])) ≡ p1 ∷ []
-unfolding state_of
+unfolding state_of cost_of digits escape_byte
 read_again_at_159 = refl
 
 read_again_at_160 : (record_of (state_of sixty (read_again ++ Fetch 160 ∷ [])) ≡ [])
     × (active_keys (state_of sixty (read_again ++ Fetch 160 ∷ [])) ≡ p1 ∷ [])
-unfolding state_of
+unfolding state_of cost_of digits escape_byte
 read_again_at_160 = (refl, refl)
 
 -- ---- a record has its own last change, and an undone change counts
@@ -133,9 +137,58 @@ few_active n = record sixty { active = n }
 abbrev p2 : KeyShape
 p2 = Record (codes "shop") (codes "p2")
 
-one_active : (ttl_of (few_active 1) (at_moment (state_of (few_active 1) (Read 100 p1 Unasked 0 ∷ [])) 159) p2 0 ≡ 0)
-    × (ttl_of (few_active 1) (at_moment (state_of (few_active 1) (Read 100 p1 Unasked 0 ∷ [])) 159) p1 0 ≡ 60)
-    × (ttl_of (few_active 1) (at_moment (state_of (few_active 1) (Read 100 p1 Unasked 0 ∷ [])) 160) p2 0 ≡ 60)
+one_active : (ttl_of (few_active 1) (at_moment (state_of (few_active 1) (Read 100 p1 (Listed []) 0 ∷ [])) 159) p2 0 ≡ 0)
+    × (ttl_of (few_active 1) (at_moment (state_of (few_active 1) (Read 100 p1 (Listed []) 0 ∷ [])) 159) p1 0 ≡ 60)
+    × (ttl_of (few_active 1) (at_moment (state_of (few_active 1) (Read 100 p1 (Listed []) 0 ∷ [])) 160) p2 0 ≡ 60)
     × (ttl_of (few_active 0) start p1 0 ≡ 0)
-unfolding state_of
+unfolding state_of cost_of digits escape_byte
 one_active = (refl, refl, refl, refl)
+
+-- ---- what a write asks of its record
+
+-- commits 1 and 4 put p1, and the others p2
+abbrev seven : List Entry
+seven =
+    Write 100 (put_p1 1) Always
+    ∷ Write 100 (put_p2 2) Always
+    ∷ Write 100 (put_p2 3) Always
+    ∷ Write 100 (put_p1 4) Always
+    ∷ Write 100 (put_p2 5) Always
+    ∷ Write 100 (put_p2 6) Always
+    ∷ Write 100 (put_p2 7) Always
+    ∷ []
+
+abbrev unchanged : ℕ → Condition
+unchanged tag = Unchanged (Listed (tag ∷ []))
+
+-- since commit 4 p1 is as commit 5 had it, but not as commit 3 did, and there is no commit 8 to know of
+conditions : (reply sixty seven (Write 100 (put_p1 8) (unchanged 3)) ≡ wrote (Precondition (At 4) 100))
+    × (reply sixty seven (Write 100 (put_p1 8) (unchanged 4)) ≡ wrote (Done 8 (At 4) 100))
+    × (reply sixty seven (Write 100 (put_p1 8) (unchanged 5)) ≡ wrote (Done 8 (At 4) 100))
+    × (reply sixty seven (Write 100 (put_p1 8) (unchanged 8)) ≡ wrote (Precondition (At 4) 100))
+    × (reply sixty seven (Write 100 (put_p1 8) (Unchanged Any)) ≡ wrote (Done 8 (At 4) 100))
+    × (reply sixty seven (Write 100 (put_p1 8) Present) ≡ wrote (Done 8 (At 4) 100))
+    × (reply sixty seven (Write 100 (put_p1 8) Absent) ≡ wrote (Precondition (At 4) 100))
+    × (reply sixty seven (Write 100 (put_elsewhere 8) (Unchanged Any)) ≡ wrote (Precondition Missing 100))
+    × (reply sixty seven (Write 100 (put_elsewhere 8) Absent) ≡ wrote (Done 8 Missing 100))
+unfolding state_of reply cost_of digits escape_byte
+conditions = (refl, refl, refl, refl, refl, refl, refl, refl, refl)
+
+-- a refused write moves the clock and adds nothing; the deletion of nothing is a commit
+refused : (state_of sixty (Write 100 (put_p1 1) Present ∷ []) ≡ at_moment start 100)
+    × (reply sixty [] (Write 100 delete_p1 Always) ≡ wrote (Done 1 Missing 100))
+    × (reply sixty (Write 100 delete_p1 Always ∷ []) (Write 100 (put_p1 1) Present) ≡ wrote (Precondition Missing 100))
+unfolding state_of reply cost_of digits escape_byte
+refused = (refl, refl, refl)
+
+-- ---- what a write takes: each put of p1 or p2 is 77 bytes, and its deletion 70
+
+abbrev few_bytes : ℕ → Setting
+few_bytes n = record sixty { capacity = n }
+
+capacities : (reply (few_bytes 154) (Write 100 (put_p1 1) Always ∷ []) (Write 100 (put_p2 2) Always) ≡ wrote (Done 2 Missing 100))
+    × (reply (few_bytes 153) (Write 100 (put_p1 1) Always ∷ []) (Write 100 (put_p2 2) Always) ≡ wrote (Full 154 100))
+    × (reply (few_bytes 153) (Write 100 (put_p1 1) Always ∷ []) (Write 100 delete_p1 Always) ≡ wrote (Done 2 (At 1) 100))
+    × (reply (few_bytes 153) (Write 100 (put_p1 1) Always ∷ []) (Write 100 (put_p2 2) Present) ≡ wrote (Precondition Missing 100))
+unfolding state_of reply cost_of digits escape_byte
+capacities = (refl, refl, refl, refl)

@@ -1,15 +1,22 @@
 -- What a history has come to, said of its entries alone.
-use Rattle.std.specs.Prelude.{◌≡◌, ℕ, max, List, [], ◌∷◌, ◌++◌, map, fold, Option, Some, None, unwrap_or}
+use Rattle.std.specs.Prelude.{◌≡◌, ◌⊎◌, ◌≤◌, Contains, ℕ, ◌+◌, max, List, [], ◌∷◌, ◌++◌, length, map, fold, Option, Some, None, unwrap_or}
 use Rattle.std.specs.List.{filter_map, last_or}
+use Rattle.q_doc.specs.Tree.{Tree}
 use Rattle.query_normal.specs.declared.key.KeyShape.{KeyShape}
 use Rattle.commit_book.specs.declared.change.Change.{Change}
+use Rattle.commit_book.specs.Journal.{document_at, cost_of, kept}
+use Rattle.hub_model.specs.declared.entry.Condition.{Condition}
+use Rattle.hub_model.specs.declared.entry.Condition.TheVariants.{Always, Present, Absent, Unchanged}
+use Rattle.hub_model.specs.declared.entry.Found.{Found}
+use Rattle.hub_model.specs.declared.entry.Found.TheVariants.{Missing, At}
 use Rattle.hub_model.specs.declared.entry.Entry.{Entry}
 use Rattle.hub_model.specs.declared.entry.Entry.TheVariants.{Write, Read, Match, Fetch, Tick}
 use Rattle.hub_model.specs.declared.entry.Tags.{Tags}
+use Rattle.hub_model.specs.declared.entry.Tags.TheVariants.{Any, Listed}
 use Rattle.hub_model.specs.Lifetime.{ttl_of}
 use Rattle.hub_model.specs.Setting.{Setting}
 use Rattle.hub_model.specs.State.{at_moment}
-use Rattle.hub_model.specs.Step.{state_of}
+use Rattle.hub_model.specs.Step.{found_of, state_of}
 
 -- the moment of an entry
 abbrev pub moment_of : Entry → ℕ
@@ -23,14 +30,46 @@ moment_of (Tick moment) = moment
 abbrev pub clock_of : List Entry → ℕ
 clock_of history = fold max 0 (map moment_of history)
 
--- the change of a write
-abbrev pub change_of : Entry → Option Change
-change_of (Write moment change condition) = Some change
-change_of e = None
+-- what a record has behind some changes: a document of this commit, or none
+abbrev pub found_behind : List Change → Change → Found
+found_behind journal change = found_of (document_at journal (length journal) change.collection change.id)
 
--- the changes of the writes, in order
-abbrev pub journal_of : List Entry → List Change
-journal_of history = filter_map change_of history
+-- a condition, of what is found and of the number of commits
+abbrev pub IsMet : Condition → Found → ℕ → Type 0
+IsMet Always found commits = Unit {0}
+IsMet Present found commits = (version : ℕ) × (found ≡ At version)
+IsMet Absent found commits = found ≡ Missing
+IsMet (Unchanged Any) found commits = (version : ℕ) × (found ≡ At version)
+IsMet (Unchanged (Listed tags)) found commits = (version t : ℕ) × (found ≡ At version) × Contains tags t × (version ≤ t) × (t ≤ commits)
+
+-- The record of a change has a document behind some changes, and had the same at a listed commit.
+pub record IsEqualAtOne (journal : List Change) (change : Change) (tags : List ℕ) : Type 0 where
+  pub tag : ℕ
+  pub listed : Contains tags tag
+  pub within : tag ≤ length journal
+  pub found : ℕ × Tree
+  pub now : document_at journal (length journal) change.collection change.id ≡ Some found
+  pub then : document_at journal tag change.collection change.id ≡ Some found
+
+-- A write is accepted behind some changes: its condition is true of what they leave, and with it they take no more than the capacity.
+pub record IsAccepted (g : Setting) (journal : List Change) (change : Change) (condition : Condition) : Type 0 where
+  pub met : IsMet condition (found_behind journal change) (length journal)
+  pub fits : kept journal + cost_of change ≤ g.capacity
+
+-- the changes that are accepted behind some, and those together: an accepted write adds its change, and nothing else does
+abbrev pub IsJournalFrom : Setting → List Change → List Entry → List Change → Type 0
+IsJournalFrom g before [] journal = journal ≡ before
+IsJournalFrom g before (Write moment change condition ∷ es) journal =
+    (IsAccepted g before change condition × IsJournalFrom g (before ++ change ∷ []) es journal)
+    ⊎ ((IsAccepted g before change condition → ⊥) × IsJournalFrom g before es journal)
+IsJournalFrom g before (Read moment key tags at ∷ es) journal = IsJournalFrom g before es journal
+IsJournalFrom g before (Match moment to ∷ es) journal = IsJournalFrom g before es journal
+IsJournalFrom g before (Fetch moment ∷ es) journal = IsJournalFrom g before es journal
+IsJournalFrom g before (Tick moment ∷ es) journal = IsJournalFrom g before es journal
+
+-- the changes of the accepted writes, in order
+abbrev pub IsJournalOf : Setting → List Entry → List Change → Type 0
+IsJournalOf g history journal = IsJournalFrom g [] history journal
 
 -- the commit that a match goes up to
 abbrev pub to_of : Entry → Option ℕ

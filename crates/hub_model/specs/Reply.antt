@@ -1,5 +1,5 @@
 -- What the hub answers to an entry after a history.
-use Rattle.std.specs.Prelude.{ℕ, ◌+◌, List, length, Some}
+use Rattle.std.specs.Prelude.{ℕ, ◌+◌, if◌then◌else◌, nat_le, List, length, Some}
 use Rattle.q_doc.specs.Printed.{printed}
 use Rattle.query_normal.specs.Pages.{Page}
 use Rattle.query_normal.specs.declared.key.KeyShape.{KeyShape}
@@ -14,13 +14,13 @@ use Rattle.hub_model.specs.declared.entry.Outcome.TheVariants.{Whole, Absent}
 use Rattle.hub_model.specs.declared.entry.Stats.{Stats}
 use Rattle.hub_model.specs.declared.entry.Tags.{Tags}
 use Rattle.hub_model.specs.declared.entry.Written.{Written}
-use Rattle.hub_model.specs.declared.entry.Written.TheVariants.{Done}
+use Rattle.hub_model.specs.declared.entry.Written.TheVariants.{Done, Precondition, Full}
 use Rattle.hub_model.specs.Journal.{Finding, absent, present, result_at}
 use Rattle.hub_model.specs.Lifetime.{ttl_of}
 use Rattle.hub_model.specs.Record.{page_of}
 use Rattle.hub_model.specs.Setting.{Setting}
 use Rattle.hub_model.specs.State.{State, at_moment}
-use Rattle.hub_model.specs.Step.{found_now, has_matched, state_of}
+use Rattle.hub_model.specs.Step.{found_now, is_met, kept_with, has_matched, state_of}
 
 -- What a caller of the hub is told.
 pub data Replied : Type 0 where
@@ -32,7 +32,10 @@ pub data Replied : Type 0 where
 
 -- the reply to a write, in a state whose clock is that of the write
 abbrev pub written : Setting → Change → Condition → State → Written
-written g change condition s = Done (length s.journal + 1) (found_now s change) s.clock
+written g change condition s =
+    if is_met condition (found_now s change) (length s.journal)
+    then (if nat_le (kept_with s change) g.capacity then Done (length s.journal + 1) (found_now s change) s.clock else Full (kept_with s change) s.clock)
+    else Precondition (found_now s change) s.clock
 
 -- what a read tells of a finding
 abbrev pub outcome_of : Finding → Outcome

@@ -1,14 +1,17 @@
 -- A history is a list of entries, the newest last; its state is what the entries leave, one after another.
-use Rattle.std.specs.Prelude.{ℕ, List, [], ◌∷◌, ◌++◌, length, fold, Option, Some, None}
+use Rattle.std.specs.Prelude.{ℕ, ◌+◌, Bool, true, false, ◌&&◌, if◌then◌else◌, nat_le, List, [], ◌∷◌, ◌++◌, length, fold, Option, Some, None}
+use Rattle.std.specs.List.{list_any}
 use Rattle.q_doc.specs.Tree.{Tree}
 use Rattle.query_normal.specs.declared.key.KeyShape.{KeyShape}
 use Rattle.commit_book.specs.declared.change.Change.{Change}
 use Rattle.hub_model.specs.declared.entry.Condition.{Condition}
+use Rattle.hub_model.specs.declared.entry.Condition.TheVariants.{Always, Present, Absent, Unchanged}
 use Rattle.hub_model.specs.declared.entry.Entry.{Entry}
 use Rattle.hub_model.specs.declared.entry.Entry.TheVariants.{Write, Read, Match, Fetch, Tick}
 use Rattle.hub_model.specs.declared.entry.Found.{Found}
 use Rattle.hub_model.specs.declared.entry.Found.TheVariants.{Missing, At}
-use Rattle.commit_book.specs.Journal.{document_at}
+use Rattle.hub_model.specs.declared.entry.Tags.TheVariants.{Any, Listed}
+use Rattle.commit_book.specs.Journal.{document_at, cost_of, kept}
 use Rattle.hub_model.specs.Lifetime.{ttl_of}
 use Rattle.hub_model.specs.Setting.{Setting}
 use Rattle.hub_model.specs.State.{State, start, at_moment}
@@ -22,9 +25,28 @@ found_of (Some found) = At found.0
 abbrev pub found_now : State → Change → Found
 found_now s change = found_of (document_at s.journal (length s.journal) change.collection change.id)
 
+-- whether a condition is met by what is found, at a number of commits
+abbrev pub is_met : Condition → Found → ℕ → Bool
+is_met Always found commits = true
+is_met Present Missing commits = false
+is_met Present (At version) commits = true
+is_met Absent Missing commits = true
+is_met Absent (At version) commits = false
+is_met (Unchanged tags) Missing commits = false
+is_met (Unchanged Any) (At version) commits = true
+is_met (Unchanged (Listed tags)) (At version) commits = list_any (λ t. nat_le version t && nat_le t commits) tags
+
+-- what the journal takes with one change more, in bytes
+abbrev pub kept_with : State → Change → ℕ
+kept_with s change = kept s.journal + cost_of change
+
+-- whether a write is accepted: its condition is met, and there is room for it
+abbrev pub is_accepted : Setting → State → Change → Condition → Bool
+is_accepted g s change condition = is_met condition (found_now s change) (length s.journal) && nat_le (kept_with s change) g.capacity
+
 -- an accepted change is the next commit
 abbrev pub wrote : Setting → Change → Condition → State → State
-wrote g change condition s = record s { journal = s.journal ++ change ∷ [] }
+wrote g change condition s = if is_accepted g s change condition then record s { journal = s.journal ++ change ∷ [] } else s
 
 -- a read hands out a copy, for a lifetime that may be none
 abbrev pub has_read : Setting → KeyShape → ℕ → State → State

@@ -1,20 +1,29 @@
 //! The entries of a history, and the replies to them.
+use crate::commits::Commits;
 use commit_book::Change;
 use q_base::{Commit, Moment, Text};
 use query_normal::Key;
 
-/// When a write is accepted.
-#[derive(Clone, Copy, Debug, PartialEq, Eq)]
+/// What a write asks of the record that it changes.
+#[derive(Debug, Drop)]
 pub enum Condition {
-    /// Whatever is found.
+    /// Nothing.
     Always,
+    /// There is a document.
+    Present,
+    /// There is none.
+    Absent,
+    /// There is a document, and it is the one of a tagged commit.
+    Unchanged(Tags),
 }
 
-/// Which results the caller of a read knows already, by their commits.
-#[derive(Clone, Copy, Debug, PartialEq, Eq)]
+/// The results that a caller knows, by the commits that told them.
+#[derive(Debug, Drop)]
 pub enum Tags {
-    /// None.
-    Unasked,
+    /// Whichever there is.
+    Any,
+    /// Those of these commits. A read without tags lists none.
+    Listed(Commits),
 }
 
 /// One event of the store. A history is a list of entries, the newest last.
@@ -25,7 +34,7 @@ pub enum Entry {
         change: Change,
         condition: Condition,
     },
-    /// The result of a key at a commit was read.
+    /// The result of a key at a commit was read, by a caller that knows the tagged results.
     Read {
         moment: Moment,
         key: Key,
@@ -62,6 +71,19 @@ pub enum Written {
     Done {
         commit: Commit,
         before: Found,
+        /// The clock after the write.
+        clock: Moment,
+    },
+    /// Its condition is not met by what was found.
+    Precondition {
+        found: Found,
+        /// The clock after the write.
+        clock: Moment,
+    },
+    /// With it the store would take more bytes than the capacity.
+    Full {
+        /// What the store would take, in bytes.
+        bytes: u64,
         /// The clock after the write.
         clock: Moment,
     },

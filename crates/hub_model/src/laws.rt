@@ -9,11 +9,13 @@ ghost use Rattle.query_normal.specs.Keys.{same_key};
 ghost use Rattle.query_normal.specs.Pages.{is_set, page_holds, positions};
 ghost use Rattle.commit_book.specs.declared.change.Change.{Change as AChange};
 ghost use Rattle.hub_model.specs.declared.entry.Condition.{Condition as ACondition};
+ghost use Rattle.hub_model.specs.declared.entry.Condition.TheVariants.{Unchanged};
 ghost use Rattle.hub_model.specs.declared.entry.Entry.{Entry as AnEntry};
 ghost use Rattle.hub_model.specs.declared.entry.Entry.TheVariants.{Write, Read, Tick};
 ghost use Rattle.hub_model.specs.declared.entry.Tags.{Tags as SomeTags};
+ghost use Rattle.hub_model.specs.declared.entry.Tags.TheVariants.{Listed};
 ghost use Rattle.hub_model.specs.Copies.{IsActive, live, active_keys, is_active};
-ghost use Rattle.hub_model.specs.Direct.{clock_of, journal_of, front_of, IsRead};
+ghost use Rattle.hub_model.specs.Direct.{clock_of, front_of, found_behind, IsMet, IsAccepted, IsEqualAtOne, IsJournalOf, IsRead};
 ghost use Rattle.commit_book.specs.Journal.{is_of, document_at};
 ghost use Rattle.hub_model.specs.Journal.{Finding, result_at, same_finding};
 ghost use Rattle.hub_model.specs.Legal.{MayFollow, IsLegal};
@@ -22,7 +24,7 @@ ghost use Rattle.hub_model.specs.Outdated.{IsOutdated, IsChangedAfter, is_outdat
 ghost use Rattle.hub_model.specs.Record.{IsRecorded, is_recorded, record_of, outdated_copies, bits_of, page_of};
 ghost use Rattle.hub_model.specs.Setting.{Setting};
 ghost use Rattle.hub_model.specs.State.{Reading, State, start, at_moment};
-ghost use Rattle.hub_model.specs.Step.{after, has_read, state_of};
+ghost use Rattle.hub_model.specs.Step.{is_accepted, after, has_read, state_of};
 ghost use Rattle.hub_model.specs.Until.{until_among, latest_until, until_of_outdated};
 
 // What the tests of the definitions tell.
@@ -35,6 +37,16 @@ pub fn results_are_told()
 /// The test of what is outdated is true exactly where it is.
 pub fn outdated_is_tested()
     ensures { (key : KeyShape) (commit : ℕ) (journal : List AChange) (front : ℕ) → IsTrue (is_outdated key commit journal front) ↔ IsOutdated key commit journal front }
+{}
+
+/// The test of what a write asks is true exactly where it is accepted.
+pub fn acceptance_is_tested()
+    ensures { (g : Setting) (s : State) (change : AChange) (condition : ACondition) → IsTrue (is_accepted g s change condition) ↔ IsAccepted g s.journal change condition }
+{}
+
+/// What is listed is unchanged exactly where there is a document, and a listed commit had the same.
+pub fn listed_results_are_unchanged()
+    ensures { (journal : List AChange) (change : AChange) (tags : List ℕ) → IsMet (Unchanged (Listed tags)) (found_behind journal change) (length journal) ↔ IsEqualAtOne journal change tags }
 {}
 
 /// A key is among the active keys, each of which stands there once, exactly where it is active.
@@ -68,9 +80,10 @@ pub fn clock_is_greatest()
     ensures { (g : Setting) (history : List AnEntry) → (state_of g history).clock ≡ clock_of history }
 {}
 
-/// The journal is the changes of the writes.
+/// The journal is the changes of the accepted writes, each judged by those before it, and no other
+/// list is.
 pub fn journal_is_of_writes()
-    ensures { (g : Setting) (history : List AnEntry) → (state_of g history).journal ≡ journal_of history }
+    ensures { (g : Setting) (history : List AnEntry) (journal : List AChange) → IsJournalOf g history journal ↔ (journal ≡ (state_of g history).journal) }
 {}
 
 /// The front is that of the last match.

@@ -1,13 +1,16 @@
-//! What record keys find, looked up in the whole journal.
-ghost use Rattle.std.specs.Prelude.{◌≡◌, ◌≤◌, min, length, Some, None, IfSome, IfNone};
-ghost use Rattle.commit_book.specs.Journal.{is_of, document_at};
+//! What record keys find, looked up in the whole journal, and what it takes.
+ghost use Rattle.std.specs.Prelude.{◌≡◌, ◌≤◌, min, nat_le, length, Some, None, IfSome, IfNone, IfOk};
+ghost use Rattle.commit_book.specs.Journal.{is_of, document_at, kept};
 ghost use Rattle.hub_model.specs.Journal.{row_at, result_at, same_finding};
 ghost use Rattle.hub_model.specs.Outdated.{is_outdated};
+ghost use Rattle.hub_model.specs.Step.{found_of};
 
+use crate::entry::Found;
 use commit_book::Change;
-use q_base::{Commit, Name};
+use q_base::{Commit, Memory, Name};
 use q_doc::Doc;
 use query_normal::{Key, KeyShape};
+use std::alloc::Global;
 
 /// Whether a change is of this record.
 fn is_of(change: &Change, collection: &Name, id: &Name) -> bool
@@ -49,6 +52,36 @@ fn document(journal: &[Change], row: usize) -> Option<&Doc>
         return None;
     }
     journal[row - 1].document.as_ref()
+}
+
+/// What a write finds of its record behind all changes.
+pub fn found(journal: &[Change], change: &Change) -> Found
+    ensures { result ≡ found_of (document_at journal.now (length journal.now) change.now.collection change.now.id) }
+{
+    let row = last_row(
+        journal,
+        journal.len() as u64,
+        &change.collection,
+        &change.id,
+    );
+    match document(journal, row) {
+        Some(_) => Found::At(row as u64),
+        None => Found::Missing,
+    }
+}
+
+/// Whether the changes take no more bytes than these.
+pub fn fits(alloc: Global, journal: &[Change], bytes: u64) -> Result<bool, Memory>
+    ensures { IfOk result (λ b. b ≡ nat_le (kept journal.now) bytes) }
+{
+    let Some((change, rest)) = journal.split_first() else {
+        return Ok(true);
+    };
+    let cost = change.cost(alloc)?;
+    if cost > bytes {
+        return Ok(false);
+    }
+    fits(alloc, rest, bytes - cost)
 }
 
 /// Whether a key finds the same at two commits.

@@ -1,19 +1,31 @@
 //! The definitions as a program, which keeps every reading and computes everything anew.
-ghost use Rattle.std.specs.Prelude.{◌≡◌, ℕ, length, max, OnOk, OnErr};
+ghost use Rattle.std.specs.Prelude.{◌≡◌, ℕ, length, max, IfOk, OnOk, OnErr};
 ghost use Rattle.hub_model.specs.Copies.{is_active};
 ghost use Rattle.hub_model.specs.Record.{is_recorded};
 ghost use Rattle.hub_model.specs.Lifetime.{ttl_of};
 ghost use Rattle.hub_model.specs.Setting.{Setting};
 ghost use Rattle.hub_model.specs.State.{start};
-ghost use Rattle.hub_model.specs.Step.{after};
+ghost use Rattle.hub_model.specs.Step.{is_accepted, after};
 
-use crate::entry::Entry;
+use crate::entry::{Condition, Entry};
 use crate::handed_out::{Copied, has_kept, has_outdated, reaches};
+use crate::lookup::{fits, found};
 use commit_book::Change;
 use q_base::{Commit, Memory, Moment};
 use query_normal::Key;
 use std::alloc::Global;
 use std::marker::Model;
+
+/// The limits of a configuration.
+#[derive(Clone, Copy, Debug)]
+pub struct Limits {
+    /// So many keys may be active.
+    pub active: u32,
+    /// For so many seconds a reply may be kept.
+    pub ttl: u32,
+    /// So many bytes the changes may take.
+    pub capacity: u64,
+}
 
 /// What a history has come to, kept whole. It is slow, and made to hold a store against on small
 /// inputs.
@@ -62,15 +74,21 @@ impl Plain {
         }
     }
 
-    /// One entry more, where so many keys may be active, and a reply may be kept for so many seconds.
-    pub fn enter(&mut self, active: u32, ttl: u32, entry: &Entry) -> Result<(), Memory>
-        ensures entered { OnOk result ((g : Setting) → g.active ≡ active → g.ttl_high ≡ ttl → self.new ≡ after g self.old entry.now) }
+    /// One entry more.
+    pub fn enter(&mut self, limits: Limits, entry: &Entry) -> Result<(), Memory>
+        ensures entered { OnOk result ((g : Setting) → g.active ≡ limits.active → g.ttl_high ≡ limits.ttl → g.capacity ≡ limits.capacity → self.new ≡ after g self.old entry.now) }
         ensures memory { OnErr result (self.new ≡ self.old) }
     {
         match entry {
-            Entry::Write { moment, change, .. } => {
-                let change = change.clone()?;
-                self.journal.push(change)?;
+            Entry::Write {
+                moment,
+                change,
+                condition,
+            } => {
+                if self.accepts(limits.capacity, change, condition)? {
+                    let change = change.clone()?;
+                    self.journal.push(change)?;
+                }
                 self.clock = later(self.clock, *moment);
             }
             Entry::Read {
@@ -84,7 +102,7 @@ impl Plain {
                     key: key.clone()?,
                     at: *at,
                     clock,
-                    ttl: self.lifetime(clock, active, ttl, key),
+                    ttl: self.lifetime(clock, limits, key),
                 };
                 self.copies.push(copy)?;
                 self.clock = clock;
@@ -101,14 +119,29 @@ impl Plain {
 
     /// For how long a reply may be kept at a clock.
     #[tactic(auto, using(crate::proofs::Copies::any_filtered))]
-    fn lifetime(&self, clock: Moment, active: u32, ttl: u32, key: &Key) -> u32
-        ensures { (g : Setting) → g.active ≡ active → g.ttl_high ≡ ttl → result ≡ ttl_of g (record self.now { clock = clock }) key.now 0 }
+    fn lifetime(&self, clock: Moment, limits: Limits, key: &Key) -> u32
+        ensures { (g : Setting) → g.active ≡ limits.active → g.ttl_high ≡ limits.ttl → result ≡ ttl_of g (record self.now { clock = clock }) key.now 0 }
     {
-        if !has_kept(&self.copies, clock, key) && reaches(&self.copies, clock, active) {
+        if !has_kept(&self.copies, clock, key) && reaches(&self.copies, clock, limits.active) {
             0
         } else {
-            ttl
+            limits.ttl
         }
+    }
+
+    /// Whether a write is accepted.
+    fn accepts(&self, capacity: u64, change: &Change, condition: &Condition) -> Result<bool, Memory>
+        ensures { IfOk result (λ b. (g : Setting) → g.capacity ≡ capacity → b ≡ is_accepted g self.now change.now condition.now) }
+    {
+        if !condition.is_met(found(&self.journal, change), self.commits()) {
+            return Ok(false);
+        }
+        let alloc = *self.journal.allocator();
+        let cost = change.cost(alloc)?;
+        if cost > capacity {
+            return Ok(false);
+        }
+        fits(alloc, &self.journal, capacity - cost)
     }
 
     /// The greatest moment.

@@ -1,6 +1,6 @@
 //! What no clause says: that the plain program runs where there is memory.
 
-use crate::{Change, Condition, Entry, Plain, Tags};
+use crate::{Change, Commits, Condition, Entry, Limits, Plain, Tags};
 use q_base::{Moment, Name};
 use q_doc::Doc;
 use query_normal::Key;
@@ -32,7 +32,7 @@ fn read(alloc: Global, moment: u64, at: u64) -> Result<Entry, Fail> {
     Ok(Entry::Read {
         moment: Moment::of(moment),
         key: key(alloc)?,
-        tags: Tags::Unasked,
+        tags: Tags::Listed(Commits::new(alloc)),
         at,
     })
 }
@@ -49,20 +49,25 @@ fn a_key_is_recorded_as_the_worked_histories_tell(rt: HostRuntime) -> Result<(),
         (2, true, 159, true),
         (2, true, 160, false),
     ];
+    let limits = Limits {
+        active: 10_000,
+        ttl: 60,
+        capacity: 134_217_728,
+    };
     for (to, again, moment, recorded) in cases {
         let mut plain = Plain::new(rt.alloc());
-        plain.enter(10_000, 60, &put(rt.alloc(), 100, b"{\"a\":1}")?)?;
-        plain.enter(10_000, 60, &read(rt.alloc(), 100, 1)?)?;
-        plain.enter(10_000, 60, &put(rt.alloc(), 110, b"{\"a\":2}")?)?;
+        plain.enter(limits, &put(rt.alloc(), 100, b"{\"a\":1}")?)?;
+        plain.enter(limits, &read(rt.alloc(), 100, 1)?)?;
+        plain.enter(limits, &put(rt.alloc(), 110, b"{\"a\":2}")?)?;
         if to > 0 {
             let moment = Moment::of(110);
-            plain.enter(10_000, 60, &Entry::Match { moment, to })?;
+            plain.enter(limits, &Entry::Match { moment, to })?;
         }
         if again {
-            plain.enter(10_000, 60, &read(rt.alloc(), 120, 2)?)?;
+            plain.enter(limits, &read(rt.alloc(), 120, 2)?)?;
         }
         let moment = Moment::of(moment);
-        plain.enter(10_000, 60, &Entry::Fetch { moment })?;
+        plain.enter(limits, &Entry::Fetch { moment })?;
         assert_eq!(rt; plain.is_recorded(&key(rt.alloc())?), recorded);
         assert_eq!(rt; plain.front(), to);
         assert_eq!(rt; plain.commits(), 2);

@@ -1,6 +1,6 @@
-use Rattle.hub_model.proofs.Histories.{journal-writes}
+use Rattle.hub_model.proofs.Accepted.{journal-writes}
 use Rattle.hub_model.proofs.laws.journal_is_of_writes.Goals as goal
 
--- a write alone adds its change
+-- an accepted write alone adds its change
 pub returns : goal.returns
 returns c = journal-writes
