@@ -1,10 +1,9 @@
 -- Worked cases of the definitions, so that a slip in one does not check.
-use Rattle.std.proofs.Common.{◌≡◌, ℕ, List, [], ◌∷◌, Option, Some, None, true, false, pos, codes, refl}
+use Rattle.std.proofs.Common.{◌≡◌, ℕ, List, [], ◌∷◌, Some, None, pos, codes, refl}
 use Rattle.std.specs.Fmt.{digits}
 use Rattle.json.specs.Print.{escape_byte}
-use Rattle.q_doc.specs.Tree.{Tree, number, text, object, member, no_members}
+use Rattle.q_doc.specs.Tree.{Tree, number, object, member, no_members}
 use Rattle.commit_book.specs.declared.change.Change.{Change}
-use Rattle.commit_book.specs.declared.change.CommitRow.{CommitRow}
 use Rattle.commit_book.specs.CommitRows.{commit_rows}
 use Rattle.commit_book.specs.Contents.{added}
 use Rattle.commit_book.specs.Documents.{docs}

@@ -1,5 +1,5 @@
 -- A journal is the list of the changes, the newest last. The change at place n, counted from 1, is commit n.
-use Rattle.std.specs.Prelude.{ℕ, zero, suc, ◌+◌, Bool, ◌&&◌, if◌then◌else◌, List, [], Option, Some, None, length, slice_get, sum_by, bytes_eq, option_map}
+use Rattle.std.specs.Prelude.{ℕ, zero, suc, ◌+◌, Bool, ◌&&◌, ◌||◌, if◌then◌else◌, List, [], Option, Some, None, length, slice_get, sum_by, bytes_eq, is_some, option_map, option_and_then}
 use Rattle.std.specs.Option.{option_map_or}
 use Rattle.q_doc.specs.Tree.{Tree}
 use Rattle.q_doc.specs.Printed.{printed}
@@ -35,6 +35,11 @@ printed_of found = option_map (λ d. (d.0, printed d.1)) found
 -- the printed text of the document of a record after the first n changes, with its number
 abbrev pub text_at : List Change → ℕ → List ℕ → List ℕ → Option (ℕ × List ℕ)
 text_at journal n collection id = printed_of (document_at journal n collection id)
+
+-- the change of a commit, where it altered its record: where it put a document, or took one away
+abbrev pub alteration : List Change → ℕ → Option Change
+alteration journal zero = None
+alteration journal (suc n) = option_and_then (λ change. if is_some change.document || is_some (document_at journal n change.collection change.id) then Some change else None) (slice_get journal n)
 
 -- what a change takes of the capacity, in bytes
 unfoldable pub cost_of : Change → ℕ

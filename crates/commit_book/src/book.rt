@@ -1,12 +1,12 @@
 //! The book: its rows, and what finds them.
-ghost use Rattle.std.specs.Prelude.{◌≡◌, ◌⊎◌, ◌+◌, ◌≤◌, ◌^◌, Some, Err, IsOk, IsSome, IfOk, OnOk, OnErr, length, slice_get, option_map, ◌<◌, ℕ};
+ghost use Rattle.std.specs.Prelude.{◌≡◌, ◌⊎◌, ◌+◌, ◌≤◌, ◌^◌, Some, Err, IsOk, IsSome, IfOk, OnOk, OnErr, length, slice_get, option_map, is_some, ◌<◌, ℕ};
 ghost use Rattle.commit_book.specs.declared.change.Change.{Change as AChange};
 ghost use Rattle.commit_book.specs.declared.refusal.BookRefusal.TheVariants.{Memory as NoMemory};
 ghost use Rattle.commit_book.specs.Contents.{empty_book, judged, added, is_reserved, with_commit};
 ghost use Rattle.commit_book.specs.CommitRows.{commit_row, commit_rows};
 ghost use Rattle.commit_book.specs.Documents.{docs, HasDocuments};
 ghost use Rattle.commit_book.specs.Index.{put_of};
-ghost use Rattle.commit_book.specs.Journal.{document_at, text_at, kept};
+ghost use Rattle.commit_book.specs.Journal.{document_at, text_at, alteration, kept};
 
 use crate::change::{Change, CommitRow, copy_of, is_same};
 use crate::documents::documents_under;
@@ -190,6 +190,32 @@ impl Book {
     {
         let commits = commits_in(&self.collections, collection, id);
         row_at(&self.rows, commits, commit)
+    }
+
+    /// The change of a commit, where it altered its record: where it put a document, or took one away.
+    /// It takes no memory.
+    pub fn altered(&self, commit: Commit) -> Option<&Change>
+        ensures { option_map (λ c. c.now) result ≡ alteration self.now.journal commit }
+    {
+        if commit == 0 {
+            return None;
+        }
+        let place = commit - 1;
+        let change = self.rows.get(place as usize)?.change();
+        if change.document.is_some() || self.has_document(place, change) {
+            Some(change)
+        } else {
+            None
+        }
+    }
+
+    /// Whether the record of a change has a document after a commit.
+    fn has_document(&self, commit: Commit, change: &Change) -> bool
+        requires { commit ≤ length self.now.journal }
+        ensures { result ≡ is_some (document_at self.now.journal commit change.now.collection change.now.id) }
+    {
+        self.document_at(commit, &change.collection, &change.id)
+            .is_some()
     }
 
     /// The commits after `from`, up to `to`.

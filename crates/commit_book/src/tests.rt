@@ -57,6 +57,7 @@ fn a_change_above_the_capacity_is_refused(rt: HostRuntime) -> Result<(), Fail> {
     assert_eq!(rt; add(alloc, &mut book, b"p2", b"{\"a\":1}")?, 3);
     let short = change(alloc, b"p2", b"{\"a\":1}")?;
     assert!(rt; is_full(&mut book, &short, 65_837));
+    assert_eq!(rt; short.cost(alloc)?, 77);
     assert_eq!(rt; book.count(), 3);
     Ok(())
 }

@@ -1,5 +1,5 @@
 -- The steps of the hub's calls.
-use Rattle.std.proofs.Common.{◌≡◌, ℕ, suc, ◌+◌, ◌-◌, ◌*◌, ◌^◌, ◌<◌, ◌≤◌, Bool, true, false, not, ◌&&◌, max, nat_lt, List, [], ◌∷◌, ◌++◌, length, map, Option, Some, None, IfSome, option_map, is_err, Result, Ok, Err, OnOk, IsTrue, if◌then◌else◌, refl, sym, ap, ap₂, ◌∙◌, subst, arith, inl, inr}
+use Rattle.std.proofs.Common.{◌≡◌, ℕ, suc, ◌+◌, ◌-◌, ◌*◌, ◌^◌, ◌<◌, ◌≤◌, Bool, true, false, not, ◌&&◌, max, nat_lt, List, [], ◌∷◌, ◌++◌, length, map, slice_index_or, All, Option, Some, None, IfSome, option_map, is_err, Result, Ok, Err, OnOk, IsTrue, if◌then◌else◌, refl, sym, ap, ap₂, ◌∙◌, subst, arith, inl, inr}
 use Rattle.std.specs.List.{list_any, IsDistinct}
 use Rattle.std.specs.List.Sorted.{IsPermutation}
 use Rattle.query_normal.specs.Bits.{flat_bits}
@@ -16,11 +16,12 @@ use Rattle.hub_model.specs.State.{State, at_moment}
 use Rattle.hub_model.specs.Step.{has_read}
 use Rattle.hub_model.specs.Until.{until_of_outdated}
 use Rattle.commit_book.specs.declared.change.Change.{Change}
-use Rattle.hub_core.specs.Rows.{altered_key}
+use Rattle.hub_core.specs.declared.marks.Mark.{Mark}
+use Rattle.hub_core.specs.Marks.{marks_of, marked_until}
 use Rattle.hub_core.specs.Standing.{HubValue, IsAt, copies_of, until_in}
-use Rattle.hub_core.specs.Handed.{Handed, lifetime, while_later, marked_keys, AreMarked, IsRoomFor, HaveRoom, CanMark, CanMarkAll, IsMarkedAt}
+use Rattle.hub_core.specs.Handed.{Handed, lifetime, while_later, marked_keys, AreMarked, IsRoomFor, CanMark}
 use Rattle.hub_core.proofs.HandedLemmas.{active-later}
-use Rattle.hub_core.proofs.MatchLemmas.{lifetime-at, recorded-at}
+use Rattle.hub_core.proofs.MatchLemmas.{ChangesItsOwn, RaisesByCommit, marks-raise, lifetime-at, recorded-at}
 use Rattle.hub_core.proofs.StateLemmas.{is-moved, is-read}
 
 -- the hub of these parts
@@ -47,27 +48,25 @@ hub-read journal front h new s key g at ttl is within setting ttl_is copies cloc
 -- ---- a match
 
 -- what was reserved serves for the marks when the clock has moved
-pub room-later : (journal : List Change) (front to : ℕ) (h new : Handed) → HaveRoom journal front to h → SameCopies new.copies (unexpired new.clock h.copies) → new.markable ≡ h.markable → CanMarkAll journal front to new
-room-later journal front to h new room copies markable n low high = kept (altered_key journal (n + 1)) (room n low high)
-  where
-    kept : (o : Option KeyShape) → IfSome o (IsRoomFor h) → IfSome o (CanMark new)
-    kept None r = tt
-    kept (Some key) r = λ active. inl (ap (list_any (same_key key)) markable ∙ r (active-later new.clock h.copies new.copies copies key active))
-
--- an answer that is no want of memory
-pub room-had : {T E : Type 0} (result : Result T E) (failed : Bool) (P : Type 0) → failed ≡ is_err result → failed ≡ false → OnOk result P → P
-room-had (Ok value) failed P is ok p = p
-room-had (Err reason) failed P is ok p = absurd (let wrong : false ≡ true = sym ok ∙ is in cc)
+pub room-later : (marks : List Mark) (h new : Handed) → All (λ m. IsRoomFor h m.key) marks → SameCopies new.copies (unexpired new.clock h.copies) → new.markable ≡ h.markable → All (λ m. CanMark new m.key) marks
+room-later marks h new room copies markable k d low = λ active.
+    let key = (slice_index_or marks k d).key in
+    inl (ap (list_any (same_key key)) markable ∙ room k d low (active-later new.clock h.copies new.copies copies key active))
 
 -- with the marks of the matched commits
-pub hub-matched : (journal : List Change) (front to : ℕ) (h new : Handed) (s : State) → IsAt (hub_of journal front h) s →
-    ((t : State) → journal ≡ t.journal → SameCopies h.copies (copies_of t) → IsMarkedAt h t front → IsMarkedAt new t to) → new.clock ≡ h.clock → new.copies ≡ h.copies → IsAt (hub_of journal to new) (record s { front = to })
-hub-matched journal front to h new s is marks clock copies = record {
+pub hub-matched : (journal : List Change) (front to : ℕ) (h new : Handed) (marks : List Mark) (s : State) → IsAt (hub_of journal front h) s → front ≤ to → to ≤ length journal →
+    ((n : ℕ) → ChangesItsOwn s.journal n) → RaisesByCommit → marks ≡ marks_of journal front to →
+    ((key : KeyShape) → until_in new.outdated key ≡ max (until_in h.outdated key) (marked_until h.copies marks key)) → new.clock ≡ h.clock → new.copies ≡ h.copies → IsAt (hub_of journal to new) (record s { front = to })
+hub-matched journal front to h new marks s is after within own raises marks_are outdated clock copies = record {
   clock = clock ∙ is.clock;
   journal = is.journal;
   front = refl;
   copies = λ key test. ap (latest_where key test) copies ∙ is.copies key test;
-  outdated = marks s is.journal is.copies (λ key. is.outdated key ∙ sym (ap (λ (n : ℕ). until_of_outdated (record s { front = n }) key) is.front));
+  outdated = λ key.
+      outdated key
+      ∙ ap₂ max (is.outdated key ∙ sym (ap (λ (n : ℕ). until_of_outdated (record s { front = n }) key) is.front))
+      (ap (λ (ms : List Mark). marked_until h.copies ms key) (marks_are ∙ ap (λ (xs : List Change). marks_of xs front to) is.journal))
+      ∙ sym (marks-raise h.copies s front key is.copies own raises to after (subst (λ (xs : List Change). to ≤ length xs) is.journal within));
 }
 
 -- ---- the record

@@ -1,5 +1,4 @@
 pub mod JournalLemmas
-pub mod RowLemmas
 pub mod RoomLemmas
 pub mod GreatestLemmas
 pub mod CopyLemmas
@@ -9,3 +8,4 @@ pub mod SoundLemmas
 pub mod StateLemmas
 pub mod MatchLemmas
 pub mod HubLemmas
+pub mod WriteLemmas

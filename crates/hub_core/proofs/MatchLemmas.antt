@@ -1,9 +1,10 @@
 -- What a match and the record are, in the hub's words.
-use Rattle.std.proofs.Common.{◌≡◌, ℕ, zero, suc, ◌+◌, ◌-◌, ◌<◌, ◌≤◌, ◌==◌, Bool, true, false, not, ◌&&◌, ◌||◌, ◌⊎◌, cond, max, nat_lt, nat_le, List, [], ◌∷◌, ◌++◌, length, map, filter, All, is_some, Option, Some, None, unwrap_or, slice_get, slice_index_or, option_and_then, if◌then◌else◌, refl, sym, ap, ap₂, ◌∙◌, subst, arith, inl, inr}
+use Rattle.std.proofs.Common.{◌≡◌, ℕ, zero, suc, ◌+◌, ◌-◌, ◌<◌, ◌≤◌, ◌==◌, Bool, true, false, not, ◌&&◌, ◌||◌, ◌⊎◌, cond, max, nat_lt, nat_le, List, [], ◌∷◌, ◌++◌, length, map, filter, All, is_some, Option, Some, None, unwrap_or, slice_get, slice_index_or, get_or, take, option_map, option_and_then, if◌then◌else◌, refl, sym, ap, ap₂, ◌∙◌, subst, arith, inl, inr}
 use Rattle.std.specs.List.{list_any}
-use Rattle.std.proofs.lemmas.Bool.{cases_Bool, cases_lt, lt-ltb, le-ltb, ltb-true}
+use Rattle.std.proofs.lemmas.Bool.{cases_Bool, cases_lt, lt-ltb, le-ltb, ltb-true, le-leb, lt-leb}
 use Rattle.std.proofs.lemmas.List.Elements.{filter_passes, All-weaker}
 use Rattle.std.proofs.lemmas.Map.Made.{length-from_keys}
+use Rattle.std.proofs.Math.Seq.{take-suc}
 use Rattle.query_normal.specs.Keys.{same_key}
 use Rattle.query_normal.specs.SameKey.{same_key-Decides, same_key_equiv}
 use Rattle.query_normal.specs.declared.key.KeyShape.{KeyShape}
@@ -18,11 +19,12 @@ use Rattle.hub_model.specs.Setting.{Setting}
 use Rattle.hub_model.specs.State.{Reading, State, until_of}
 use Rattle.hub_model.specs.Until.{greatest, until_among, latest_until, until_of_outdated}
 use Rattle.commit_book.specs.declared.change.Change.{Change}
-use Rattle.hub_core.specs.Rows.{key_of, altered_key}
+use Rattle.hub_core.specs.declared.marks.Mark.{Mark}
+use Rattle.hub_core.specs.Marks.{key_of, altered_key, mark_of, marks_of, marked_until}
 use Rattle.hub_core.specs.Standing.{HubValue, IsAt, copy_of, copies_of, until_in}
-use Rattle.hub_core.specs.Handed.{Handed, until_below, IsMarkedAt}
+use Rattle.hub_core.specs.Handed.{Handed, until_below}
 use Rattle.hub_core.proofs.CopyLemmas.{latest, latest-cons, same-active}
-use Rattle.hub_core.proofs.GreatestLemmas.{best, best-cons, any-best}
+use Rattle.hub_core.proofs.GreatestLemmas.{best, best-cons, best-append, any-best}
 use Rattle.hub_core.proofs.HandedLemmas.{unique-distinct, among-unique}
 use Rattle.hub_core.proofs.JournalLemmas.{is_of-key}
 use Rattle.hub_core.proofs.MarkLemmas.{any-map}
@@ -59,87 +61,126 @@ abbrev pub ChangesItsOwn : List Change → ℕ → Type 0
 ChangesItsOwn journal n = (collection id : List ℕ) (change : Change) → slice_get journal n ≡ Some change →
     is_changed (Record collection id) journal (suc n) ≡ (is_of collection id change && (is_some change.document || is_some (document_at journal n collection id)))
 
+both_true : (b : Bool) → (b && true) ≡ b
+both_true true = refl
+both_true false = refl
+
+both_false : (b : Bool) → (b && false) ≡ false
+both_false true = refl
+both_false false = refl
+
 -- the key that a commit altered is the only one whose result it changed
-changed-told : (journal : List Change) (n : ℕ) (change : Change) (key : KeyShape) → ChangesItsOwn journal n → slice_get journal n ≡ Some change →
-    is_changed key journal (suc n) ≡ told (if is_changed (key_of change) journal (suc n) then Some (key_of change) else None) key
-changed-told journal n change (Record collection id) own at =
-    elim (cases_Bool (same_key (Record collection id) (key_of change))) [
-      | inl hit ↦ (
-          let same : Record collection id ≡ key_of change = (same_key-Decides (Record collection id) (key_of change)).0 hit in
-          ap (λ (k : KeyShape). is_changed k journal (suc n)) same ∙ found (is_changed (key_of change) journal (suc n)) hit)
-      | inr miss ↦ (
-          let other : is_of collection id change ≡ false = is_of-key change collection id ∙ same_key_equiv.symm (key_of change) (Record collection id) ∙ miss in
-          own collection id change at
-          ∙ ap (λ (b : Bool). b && (is_some change.document || is_some (document_at journal n collection id))) other
-          ∙ lost (is_changed (key_of change) journal (suc n)) miss)
-    ]
-  where
-    found : (b : Bool) → same_key (Record collection id) (key_of change) ≡ true → b ≡ told (if b then Some (key_of change) else None) (Record collection id)
-    found true hit = sym hit
-    found false hit = refl
-
-    lost : (b : Bool) → same_key (Record collection id) (key_of change) ≡ false → false ≡ told (if b then Some (key_of change) else None) (Record collection id)
-    lost true miss = sym miss
-    lost false miss = refl
-
-pub altered-told : (journal : List Change) (commit : ℕ) (key : KeyShape) → 0 < commit → commit ≤ length journal → ChangesItsOwn journal (commit - 1) → is_changed key journal (suc (commit - 1)) ≡ told (altered_key journal commit) key
-altered-told journal commit key some within own =
-    let next : suc (commit - 1) ≡ commit = omega (arith, some) in
-    of (there journal (commit - 1) (omega (arith, some, within))) next
+altered-told : (journal : List Change) (n : ℕ) (key : KeyShape) → n < length journal → ChangesItsOwn journal n → is_changed key journal (suc n) ≡ told (altered_key journal (suc n)) key
+altered-told journal n (Record collection id) low own = of (there journal n low)
   where
     there : (xs : List Change) (i : ℕ) → i < length xs → (x : Change) × (slice_get xs i ≡ Some x)
     there [] i low = absurd (omega (arith, low))
     there (x ∷ xs) zero low = (x, refl)
     there (x ∷ xs) (suc i) low = there xs i (omega (arith, low))
 
-    of : (x : Change) × (slice_get journal (commit - 1) ≡ Some x) → suc (commit - 1) ≡ commit → is_changed key journal (suc (commit - 1)) ≡ told (altered_key journal commit) key
-    of found next =
-        changed-told journal (commit - 1) found.0 key own found.1
-        ∙ ap (λ (n : ℕ). told (if is_changed (key_of found.0) journal n then Some (key_of found.0) else None) key) next
-        ∙ sym (ap (λ (o : Option Change). told (option_and_then (λ change. if is_changed (key_of change) journal commit then Some (key_of change) else None) o) key) found.1)
+    same_record : (x : Change) (b : Bool) → same_key (Record collection id) (key_of x) ≡ b →
+        (b && (is_some x.document || is_some (document_at journal n collection id))) ≡ (b && (is_some x.document || is_some (document_at journal n x.collection x.id)))
+    same_record x true hit =
+        let e : Record collection id ≡ key_of x = (same_key-Decides (Record collection id) (key_of x)).0 hit in
+        let c : collection ≡ x.collection = cc in
+        let i : id ≡ x.id = cc in
+        ap₂ (λ (a b : List ℕ). is_some x.document || is_some (document_at journal n a b)) c i
+    same_record x false miss = refl
 
--- ---- the marks of a commit
+    tells : (x : Change) (a : Bool) → (same_key (Record collection id) (key_of x) && a) ≡ told (option_map key_of (if a then Some x else None)) (Record collection id)
+    tells x true = both_true (same_key (Record collection id) (key_of x))
+    tells x false = both_false (same_key (Record collection id) (key_of x))
+
+    of : (x : Change) × (slice_get journal n ≡ Some x) → is_changed (Record collection id) journal (suc n) ≡ told (altered_key journal (suc n)) (Record collection id)
+    of found =
+        let x = found.0 in
+        own collection id x found.1
+        ∙ ap (λ (b : Bool). b && (is_some x.document || is_some (document_at journal n collection id))) (is_of-key x collection id ∙ same_key_equiv.symm (key_of x) (Record collection id))
+        ∙ same_record x (same_key (Record collection id) (key_of x)) refl
+        ∙ tells x (is_some x.document || is_some (document_at journal n x.collection x.id))
+        ∙ sym (ap (λ (o : Option Change). told (option_map key_of (option_and_then (λ change. if is_some change.document || is_some (document_at journal n change.collection change.id) then Some change else None) o)) (Record collection id)) found.1)
+
+-- ---- the marks of commits
+
+-- no commit is after itself
+pub marks-none : (journal : List Change) (front : ℕ) → marks_of journal front front ≡ []
+marks-none journal zero = refl
+marks-none journal (suc n) = rw (le-leb (suc n) (suc n) (omega arith)) refl
+
+-- one commit more
+pub marks-more : (journal : List Change) (front n : ℕ) → front ≤ n → marks_of journal front (suc n) ≡ marks_of journal front n ++ mark_of (suc n) (altered_key journal (suc n))
+marks-more journal front n low = rw (lt-leb (suc n) front (omega (arith, low))) refl
+
+pub marks-next : (journal : List Change) (front n : ℕ) → front ≤ n → marks_of journal front (n + 1) ≡ marks_of journal front n ++ mark_of (n + 1) (altered_key journal (n + 1))
+marks-next journal front n low = subst (λ (m : ℕ). marks_of journal front m ≡ marks_of journal front n ++ mark_of m (altered_key journal m)) (let h : suc n ≡ n + 1 = omega arith in h) (marks-more journal front n low)
 
 abbrev pub RaisesByCommit : Type 0
 RaisesByCommit = (s : State) (key : KeyShape) (n : ℕ) →
     until_of_outdated (record s { front = suc n }) key ≡ max (until_of_outdated (record s { front = n }) key) (if is_changed key s.journal (suc n) then latest_until s key 0 (suc n) else 0)
 
--- the marks after a commit that altered a key
-pub marked-altered : (journal : List Change) (copies : List Copy) (before after : List (KeyShape × ℕ)) (own : KeyShape) (commit : ℕ) (s : State) → 0 < commit → commit ≤ length journal → journal ≡ s.journal → SameCopies copies (copies_of s) →
-    ChangesItsOwn journal (commit - 1) → RaisesByCommit → Some own ≡ altered_key journal commit →
-    ((key : KeyShape) → until_in after key ≡ max (until_in before key) (if same_key key own then until_below copies own commit else 0)) →
-    ((key : KeyShape) → until_in before key ≡ until_of_outdated (record s { front = commit - 1 }) key) → (key : KeyShape) → until_in after key ≡ until_of_outdated (record s { front = commit }) key
-marked-altered journal copies before after own commit s some within journal_is same changes raises altered marks was key =
-    let next : suc (commit - 1) ≡ commit = omega (arith, some) in
-    let tells : is_changed key s.journal (suc (commit - 1)) ≡ same_key key own =
-    ap (λ (xs : List Change). is_changed key xs (suc (commit - 1))) (sym journal_is) ∙ altered-told journal commit key some within changes ∙ ap (λ (o : Option KeyShape). told o key) (sym altered) in
-    let more : until_of_outdated (record s { front = commit }) key ≡ max (until_of_outdated (record s { front = commit - 1 }) key) (if same_key key own then latest_until s key 0 commit else 0) =
-    ap (λ (n : ℕ). until_of_outdated (record s { front = n }) key) (sym next)
-    ∙ raises s key (commit - 1)
-    ∙ ap₂ (λ (b : Bool) (n : ℕ). max (until_of_outdated (record s { front = commit - 1 }) key) (if b then latest_until s key 0 n else 0)) tells next in
-    marks key
-    ∙ ap₂ (λ (n m : ℕ). max n m) (was key) (chosen (same_key key own) refl)
-    ∙ sym more
+-- what a commit outdates of a key is what its mark does
+one-mark : (copies : List Copy) (s : State) (key : KeyShape) (commit : ℕ) → SameCopies copies (copies_of s) → (b : Bool) (o : Option KeyShape) → b ≡ told o key →
+    (if b then latest_until s key 0 commit else 0) ≡ marked_until copies (mark_of commit o) key
+one-mark copies s key commit same b None tells = ap (λ (b : Bool). if b then latest_until s key 0 commit else 0) tells
+one-mark copies s key commit same b (Some own) tells =
+    ap (λ (b : Bool). if b then latest_until s key 0 commit else 0) tells
+    ∙ chosen (same_key key own) refl
+    ∙ sym (best-cons (λ (m : Mark). until_below copies m.key m.commit) (λ (m : Mark). same_key key m.key) (record { key = own; commit = commit }) [] ∙ (let h : max (if same_key key own then until_below copies own commit else 0) 0 ≡ (if same_key key own then until_below copies own commit else 0) = omega arith in h))
   where
-    chosen : (b : Bool) → same_key key own ≡ b → (if same_key key own then until_below copies own commit else 0) ≡ (if same_key key own then latest_until s key 0 commit else 0)
+    chosen : (b : Bool) → same_key key own ≡ b → (if same_key key own then latest_until s key 0 commit else 0) ≡ (if same_key key own then until_below copies own commit else 0)
     chosen true hit =
         let k : key ≡ own = (same_key-Decides key own).0 hit in
-        ap (λ (n : ℕ). if same_key key own then n else 0) (ap (λ (x : KeyShape). until_below copies x commit) (sym k) ∙ below-until copies s key commit same)
+        sym (ap (λ (n : ℕ). if same_key key own then n else 0) (ap (λ (x : KeyShape). until_below copies x commit) (sym k) ∙ below-until copies s key commit same))
     chosen false miss = rw miss refl
 
--- and after one that altered none
-pub marked-unaltered : (journal : List Change) (before : List (KeyShape × ℕ)) (commit : ℕ) (s : State) → 0 < commit → commit ≤ length journal → journal ≡ s.journal →
-    ChangesItsOwn journal (commit - 1) → RaisesByCommit → None ≡ altered_key journal commit →
-    ((key : KeyShape) → until_in before key ≡ until_of_outdated (record s { front = commit - 1 }) key) → (key : KeyShape) → until_in before key ≡ until_of_outdated (record s { front = commit }) key
-marked-unaltered journal before commit s some within journal_is changes raises altered was key =
-    let next : suc (commit - 1) ≡ commit = omega (arith, some) in
-    let tells : is_changed key s.journal (suc (commit - 1)) ≡ false =
-    ap (λ (xs : List Change). is_changed key xs (suc (commit - 1))) (sym journal_is) ∙ altered-told journal commit key some within changes ∙ ap (λ (o : Option KeyShape). told o key) (sym altered) in
-    was key
-    ∙ (let e : until_of_outdated (record s { front = commit - 1 }) key ≡ max (until_of_outdated (record s { front = commit - 1 }) key) 0 = omega arith in e)
-    ∙ sym (ap (λ (b : Bool). max (until_of_outdated (record s { front = commit - 1 }) key) (if b then latest_until s key 0 (suc (commit - 1)) else 0)) tells)
-    ∙ sym (raises s key (commit - 1))
-    ∙ ap (λ (n : ℕ). until_of_outdated (record s { front = n }) key) next
+-- the marks of the commits up to one are what these outdate
+pub marks-raise : (copies : List Copy) (s : State) (front : ℕ) (key : KeyShape) → SameCopies copies (copies_of s) → ((n : ℕ) → ChangesItsOwn s.journal n) → RaisesByCommit → (to : ℕ) → front ≤ to → to ≤ length s.journal →
+    until_of_outdated (record s { front = to }) key ≡ max (until_of_outdated (record s { front = front }) key) (marked_until copies (marks_of s.journal front to) key)
+marks-raise copies s front key same own raises zero after within =
+    let e : 0 ≡ front = omega (arith, after) in
+    ap (λ (n : ℕ). until_of_outdated (record s { front = n }) key) e
+    ∙ (let h : until_of_outdated (record s { front = front }) key ≡ max (until_of_outdated (record s { front = front }) key) 0 = omega arith in h)
+marks-raise copies s front key same own raises (suc n) after within = elim (cases_lt n front) [
+  | inl past ↦ (
+      let e : front ≡ suc n = omega (arith, past, after) in
+      let none : marks_of s.journal front (suc n) ≡ [] = ap (marks_of s.journal front) (sym e) ∙ marks-none s.journal front in
+      ap (λ (n : ℕ). until_of_outdated (record s { front = n }) key) (sym e)
+      ∙ (let h : until_of_outdated (record s { front = front }) key ≡ max (until_of_outdated (record s { front = front }) key) 0 = omega arith in h)
+      ∙ sym (ap (λ (ms : List Mark). max (until_of_outdated (record s { front = front }) key) (marked_until copies ms key)) none))
+  | inr low ↦ (
+      let u : Mark → ℕ = λ m. until_below copies m.key m.commit in
+      let p : Mark → Bool = λ m. same_key key m.key in
+      let old = until_of_outdated (record s { front = front }) key in
+      let before = marked_until copies (marks_of s.journal front n) key in
+      let more = marked_until copies (mark_of (suc n) (altered_key s.journal (suc n))) key in
+      raises s key n
+      ∙ ap₂ max (marks-raise copies s front key same own raises n low (omega (arith, within)))
+      (one-mark copies s key (suc n) same (is_changed key s.journal (suc n)) (altered_key s.journal (suc n)) (altered-told s.journal n key (omega (arith, within)) (own n)))
+      ∙ (let h : max (max old before) more ≡ max old (max before more) = omega arith in h)
+      ∙ ap (max old) (sym (best-append u p (marks_of s.journal front n) (mark_of (suc n) (altered_key s.journal (suc n)))))
+      ∙ sym (ap (λ (ms : List Mark). max old (marked_until copies ms key)) (marks-more s.journal front n low)))
+]
+
+-- one mark more
+pub marked-more : (copies : List Copy) (marks : List Mark) (m : Mark) (key : KeyShape) → marked_until copies (marks ++ m ∷ []) key ≡ max (marked_until copies marks key) (if same_key key m.key then until_below copies m.key m.commit else 0)
+marked-more copies marks m key =
+    let u : Mark → ℕ = λ m. until_below copies m.key m.commit in
+    let p : Mark → Bool = λ m. same_key key m.key in
+    best-append u p marks (m ∷ [])
+    ∙ ap (max (best u p marks)) (best-cons u p m [] ∙ (let h : max (if p m then u m else 0) 0 ≡ (if p m then u m else 0) = omega arith in h))
+
+pub marked-take : (copies : List Copy) (marks : List Mark) (i : ℕ) (m : Mark) (key : KeyShape) (first old new : ℕ) → m ≡ get_or marks i m → i < length marks → old ≡ max first (marked_until copies (take i marks) key) →
+    new ≡ max old (if same_key key m.key then until_below copies m.key m.commit else 0) → new ≡ max first (marked_until copies (take (i + 1) marks) key)
+marked-take copies marks i m key first old new item low was is =
+    let next : take (i + 1) marks ≡ take i marks ++ m ∷ [] =
+    ap (λ n. take n marks) (let h : i + 1 ≡ suc i = omega arith in h) ∙ take-suc marks i m low ∙ ap (λ (x : Mark). take i marks ++ x ∷ []) (sym item) in
+    let more = marked-more copies (take i marks) m key in
+    let last = if same_key key m.key then until_below copies m.key m.commit else 0 in
+    let there : marked_until copies (take (i + 1) marks) key ≡ max (marked_until copies (take i marks) key) last = ap (λ (ms : List Mark). marked_until copies ms key) next ∙ more in
+    is
+    ∙ ap (λ n. max n last) was
+    ∙ (let h : max (max first (marked_until copies (take i marks) key)) last ≡ max first (max (marked_until copies (take i marks) key) last) = omega arith in h)
+    ∙ ap (max first) (sym there)
 
 -- ---- the record
 

@@ -9,8 +9,6 @@ use Rattle.query_normal.specs.declared.key.KeyShape.{KeyShape}
 use Rattle.hub_model.specs.Setting.{Setting, IsWithinLimits}
 use Rattle.hub_model.specs.State.{State}
 use Rattle.hub_model.specs.Until.{until_of_outdated}
-use Rattle.commit_book.specs.declared.change.Change.{Change}
-use Rattle.hub_core.specs.Rows.{altered_key}
 use Rattle.hub_core.specs.Standing.{until_in}
 
 -- What contracts see of the copies.
@@ -80,14 +78,6 @@ pub record IsSound (g : Setting) (clock : ℕ) (issued : Issued) (filter : Filte
   pub once : IsDistinct same_key (map (λ e. e.0) filter.held)
   pub later : All (λ e. clock < e.1) filter.held
   pub backed : (key : KeyShape) → until_in filter.held key ≤ last_until issued.held key
-
--- each key whose result the commits after one, up to another, changed can be marked without memory
-abbrev pub HaveRoom : List Change → ℕ → ℕ → Handed → Type 0
-HaveRoom journal front to h = (n : ℕ) → front ≤ n → n < to → IfSome (altered_key journal (n + 1)) (IsRoomFor h)
-
--- or it is marked already
-abbrev pub CanMarkAll : List Change → ℕ → ℕ → Handed → Type 0
-CanMarkAll journal front to h = (n : ℕ) → front ≤ n → n < to → IfSome (altered_key journal (n + 1)) (CanMark h)
 
 -- the keys are marked as the state would have them at another front
 abbrev pub IsMarkedAt : Handed → State → ℕ → Type 0

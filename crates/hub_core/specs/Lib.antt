@@ -1,7 +1,7 @@
 pub mod Config
 pub mod Handed
+pub mod Marks
 pub mod Room
-pub mod Rows
 pub mod Standing
 pub use Rattle.flat_snapshot.specs.PageText
 pub use Rattle.hub_model.specs.Legal

@@ -157,6 +157,14 @@ impl Config {
     {
         self.active
     }
+
+    /// The greatest number of bytes that the changes may take.
+    pub fn capacity(&self) -> u64
+        ensures same { result ≡ self.now.capacity }
+        ensures within { IsWithinLimits self.now }
+    {
+        self.capacity
+    }
 }
 
 impl Default for Config {

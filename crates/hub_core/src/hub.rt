@@ -1,23 +1,26 @@
 //! The hub.
 ghost use Rattle.std.specs.Prelude.{◌≡◌, ◌<◌, ◌≤◌, length, option_map, Some, IfOk, OnOk, OnErr};
 ghost use Rattle.hub_model.specs.declared.entry.Entry.TheVariants.{Write, Read, Match, Fetch, Tick};
+ghost use Rattle.commit_book.specs.Journal.{document_at};
+ghost use Rattle.hub_model.specs.Journal.{result_at};
 ghost use Rattle.hub_model.specs.Record.{is_recorded, page_of, record_of};
-ghost use Rattle.hub_model.specs.Reply.{wrote, read, matched, fetched, counted, reply_in};
+ghost use Rattle.hub_model.specs.Reply.{outcome_of, wrote, read, matched, fetched, counted, reply_in};
 ghost use Rattle.hub_model.specs.State.{State, start};
-ghost use Rattle.hub_model.specs.Step.{after};
+ghost use Rattle.hub_model.specs.Step.{found_of, after};
 ghost use Rattle.hub_core.specs.Room.{IsRoomFor};
 ghost use Rattle.hub_core.specs.Standing.{IsAt};
 
 use crate::config::Config;
 use crate::copies::Copies;
-use crate::marks::{mark_altered, reserve_marks};
+use crate::marks::{mark_all, reserve_marks};
 use crate::room::{Numbers, PageRoom};
-use crate::rows::Rows;
+use commit_book::{Book, BookRefusal};
 use hub_model::{
-    Answer, Change, Condition, Matched, Stats, Tags, Written, bits_in_any_order, keys_in_any_order,
+    Answer, Change, Condition, Found, Matched, Outcome, Stats, Tags, Written, bits_in_any_order,
+    keys_in_any_order, matches_record_commit_by_commit, record_changes_by_its_own_commits,
 };
-use q_base::{Commit, Memory, Moment};
-use query_normal::Key;
+use q_base::{Commit, Memory, Moment, Text};
+use query_normal::{Key, KeyShape};
 use std::alloc::Global;
 use std::marker::Model;
 
@@ -25,13 +28,14 @@ use std::marker::Model;
 /// outdated. Each call that makes an entry of the history says so.
 #[derive(Drop)]
 pub struct Hub {
-    rows: Rows,
+    alloc: Global,
+    book: Book,
     front: Commit,
     copies: Copies,
 }
 
 impl Model for Hub {
-    ghost use Rattle.std.specs.Prelude.{◌≤◌, length};
+    ghost use Rattle.std.specs.Prelude.{◌≡◌, ◌≤◌, length};
     ghost use Rattle.std.specs.Coded.{codes};
     ghost use Rattle.q_doc.specs.Code.{tree_code};
     ghost use Rattle.hub_core.specs.Standing.{HubValue};
@@ -43,13 +47,13 @@ impl Model for Hub {
     ghost view = { λ h. record {
       setting = h.copies.setting;
       clock = h.copies.clock;
-      journal = h.rows;
+      journal = h.book.journal;
       front = h.front;
       copies = h.copies.copies;
       outdated = h.copies.outdated;
     } };
 
-    ghost invariant = { λ h. h.front ≤ length h.rows };
+    ghost invariant = { λ h. record { within : h.front ≤ length h.book.journal; capacity : h.book.capacity ≡ h.copies.setting.capacity } };
 }
 
 impl Hub {
@@ -59,13 +63,15 @@ impl Hub {
         ensures begins { IfOk result (λ hub. IsAt hub start) }
     {
         Ok(Hub {
-            rows: Rows::new(alloc),
+            alloc,
+            book: Book::new(alloc, config.capacity())?,
             front: 0,
             copies: Copies::new(alloc, config)?,
         })
     }
 
-    /// Writes, as one entry: the change is the next commit.
+    /// Writes, as one entry: the condition is tested first, and then the capacity; an accepted change is
+    /// the next commit.
     pub fn write(
         &mut self,
         moment: Moment,
@@ -80,13 +86,32 @@ impl Hub {
         ensures setting { self.new.setting ≡ self.old.setting }
         ensures memory { OnErr result (self.new ≡ self.old) }
     {
-        let before = self.rows.push(change)?;
-        self.copies.advance(moment);
-        Ok(Written::Done {
-            commit: self.rows.len(),
-            before,
-            clock: self.copies.clock(),
-        })
+        let before = found(&self.book, change);
+        if !condition.is_met(before, self.book.count()) {
+            self.copies.advance(moment);
+            return Ok(Written::Precondition {
+                found: before,
+                clock: self.copies.clock(),
+            });
+        }
+        match self.book.add(change) {
+            Ok(commit) => {
+                self.copies.advance(moment);
+                Ok(Written::Done {
+                    commit,
+                    before,
+                    clock: self.copies.clock(),
+                })
+            }
+            Err(BookRefusal::Full { bytes }) => {
+                self.copies.advance(moment);
+                Ok(Written::Full {
+                    bytes,
+                    clock: self.copies.clock(),
+                })
+            }
+            Err(BookRefusal::Memory) => Err(Memory),
+        }
     }
 
     /// Reads the result of a key at the last commit, as one entry.
@@ -100,10 +125,10 @@ impl Hub {
         ensures setting { self.new.setting ≡ self.old.setting }
         ensures memory { OnErr result (self.new ≡ self.old) }
     {
-        let result = self.rows.read(key)?;
+        let commit = self.book.count();
+        let result = outcome_at(self.alloc, &self.book, commit, key)?;
         self.copies.reserve(key)?;
         self.copies.advance(moment);
-        let commit = self.rows.len();
         let ttl = self.copies.hand_out(key, commit);
         Ok(Answer {
             commit,
@@ -127,19 +152,25 @@ impl Hub {
         ensures setting { self.new.setting ≡ self.old.setting }
         ensures memory { OnErr result (self.new ≡ self.old) }
     {
-        let reserved = reserve_marks(&self.rows, &mut self.copies, self.front, to);
-        if reserved.is_err() {
-            self.copies.forget_marks();
-            return Err(Memory);
+        // The laws that say which copies a commit outdates.
+        record_changes_by_its_own_commits();
+        matches_record_commit_by_commit();
+        match reserve_marks(self.alloc, &self.book, &mut self.copies, self.front, to) {
+            Ok(marks) => {
+                self.copies.advance(moment);
+                mark_all(&mut self.copies, &marks);
+                self.copies.forget_marks();
+                self.front = to;
+                Ok(Matched {
+                    front: to,
+                    clock: self.copies.clock(),
+                })
+            }
+            Err(Memory) => {
+                self.copies.forget_marks();
+                Err(Memory)
+            }
         }
-        self.copies.advance(moment);
-        mark_altered(&self.rows, &mut self.copies, self.front, to);
-        self.copies.forget_marks();
-        self.front = to;
-        Ok(Matched {
-            front: to,
-            clock: self.copies.clock(),
-        })
     }
 
     /// Writes the page into the room, as one entry. It takes no memory.
@@ -156,7 +187,7 @@ impl Hub {
         bits_in_any_order();
         self.copies.advance(moment);
         let front = self.front;
-        let commits = self.rows.len();
+        let commits = self.book.count();
         let moment = self.copies.clock();
         let numbers = Numbers {
             front,
@@ -175,7 +206,7 @@ impl Hub {
         self.copies.advance(moment);
         Stats {
             front: self.front,
-            commits: self.rows.len(),
+            commits: self.book.count(),
             clock: self.copies.clock(),
         }
     }
@@ -192,7 +223,7 @@ impl Hub {
     pub fn commits(&self) -> Commit
         ensures { result ≡ length self.now.journal }
     {
-        self.rows.len()
+        self.book.count()
     }
 
     /// Whether a key is in the record: it has an unexpired copy that is outdated.
@@ -210,5 +241,30 @@ impl Hub {
         keys_in_any_order();
         bits_in_any_order();
         self.copies.marked()
+    }
+}
+
+/// What the last commit has of the record that a change is of.
+fn found(book: &Book, change: &Change) -> Found
+    ensures { result ≡ found_of (document_at book.now.journal (length book.now.journal) change.now.collection change.now.id) }
+{
+    match book.document_at(book.count(), &change.collection, &change.id) {
+        Some((version, _)) => Found::At(version),
+        None => Found::Missing,
+    }
+}
+
+/// What a read tells of a key at a commit: a copy of the text that the book keeps.
+fn outcome_at(alloc: Global, book: &Book, commit: Commit, key: &Key) -> Result<Outcome, Memory>
+    requires { commit ≤ length book.now.journal }
+    ensures { IfOk result (λ o. o ≡ outcome_of (result_at key.now book.now.journal commit)) }
+{
+    let KeyShape::Record { collection, id } = key.shape();
+    match book.text_at(commit, collection, id) {
+        Some((version, text)) => Ok(Outcome::Whole {
+            text: Text::of(text.to_vec(alloc)?),
+            version: Some(version),
+        }),
+        None => Ok(Outcome::Absent),
     }
 }

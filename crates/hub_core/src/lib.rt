@@ -7,7 +7,6 @@ mod hub;
 mod laws;
 mod marks;
 mod room;
-mod rows;
 
 pub use config::{Config, ConfigRefusal};
 pub use hub::Hub;

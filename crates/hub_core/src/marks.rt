@@ -1,62 +1,78 @@
 //! What the commits of a match mark.
-ghost use Rattle.std.specs.Prelude.{◌≡◌, ◌+◌, ◌-◌, ◌<◌, ◌≤◌, ℕ, length, OnOk};
-ghost use Rattle.issued_expiries.specs.Copies.{SameCopies};
-ghost use Rattle.hub_model.specs.State.{State};
-ghost use Rattle.hub_core.specs.Standing.{copies_of};
-ghost use Rattle.hub_core.specs.Handed.{HaveRoom, CanMark, CanMarkAll, IsMarkedAt};
+ghost use Rattle.std.specs.Prelude.{◌≡◌, ◌≤◌, ◌++◌, All, max, IfOk, OnOk};
 ghost use Rattle.query_normal.specs.declared.key.KeyShape.{KeyShape as AKey};
+ghost use Rattle.hub_core.specs.Handed.{IsRoomFor, CanMark};
+ghost use Rattle.hub_core.specs.Standing.{until_in};
+ghost use Rattle.hub_core.specs.Marks.{key_of, altered_key, mark_of, marks_of, marked_until};
 
 use crate::copies::Copies;
-use crate::rows::Rows;
-use hub_model::{matches_record_commit_by_commit, record_changes_by_its_own_commits};
+use commit_book::{Book, Change};
 use q_base::{Commit, Memory};
+use query_normal::Key;
+use std::alloc::Global;
 
-/// Makes room to mark the keys whose results the commits after one, up to another, changed.
+/// A key whose result a commit changed: its copies of earlier commits are outdated.
+#[derive(Drop)]
+pub struct Mark {
+    pub key: Key,
+    pub commit: Commit,
+}
+
+/// The marks of the commits after one, up to another, with room for each of them. Only these commits
+/// are looked at.
 pub fn reserve_marks(
-    rows: &Rows,
+    alloc: Global,
+    book: &Book,
     copies: &mut Copies,
     front: Commit,
     to: Commit,
-) -> Result<(), Memory>
-    requires { to ≤ length rows.now }
-    ensures room { OnOk result (HaveRoom rows.now front to copies.new) }
+) -> Result<Vec<Mark>, Memory>
+    requires { front ≤ to }
+    ensures marks { IfOk result (λ marks. marks.items ≡ marks_of book.now.journal front to) }
+    ensures room { IfOk result (λ marks. All (λ m. IsRoomFor copies.new m.key) marks.items) }
     ensures rest { copies.new ≡ record copies.old { markable = copies.new.markable } }
 {
+    let mut marks = Vec::new(alloc);
     for commit in front..to {
-        if let Some(key) = rows.altered(commit + 1) {
-            copies.reserve_mark(key)?;
-        }
+        push_mark(alloc, book, copies, commit + 1, &mut marks)?;
+    }
+    Ok(marks)
+}
+
+/// Adds the mark of a commit, with room for it.
+fn push_mark(
+    alloc: Global,
+    book: &Book,
+    copies: &mut Copies,
+    commit: Commit,
+    marks: &mut Vec<Mark>,
+) -> Result<(), Memory>
+    ensures marks { OnOk result (marks.new.items ≡ marks.old.items ++ mark_of commit (altered_key book.now.journal commit)) }
+    ensures room { OnOk result (All (λ m. IsRoomFor copies.old m.key) marks.old.items → All (λ m. IsRoomFor copies.new m.key) marks.new.items) }
+    ensures rest { copies.new ≡ record copies.old { markable = copies.new.markable } }
+{
+    if let Some(change) = book.altered(commit) {
+        let key = key_of(alloc, change)?;
+        copies.reserve_mark(&key)?;
+        marks.push(Mark { key, commit })?;
     }
     Ok(())
 }
 
-/// Marks the keys whose results the commits after one, up to another, changed.
-pub fn mark_altered(rows: &Rows, copies: &mut Copies, front: Commit, to: Commit)
-    requires order { front ≤ to }
-    requires within { to ≤ length rows.now }
-    requires room { CanMarkAll rows.now front to copies.old }
-    ensures marked { (s : State) → rows.now ≡ s.journal → SameCopies copies.old.copies (copies_of s) → IsMarkedAt copies.old s front → IsMarkedAt copies.new s to }
-    ensures rest { copies.new ≡ record copies.old { outdated = copies.new.outdated; markable = copies.new.markable } }
+/// The key of the record that a change is of.
+fn key_of(alloc: Global, change: &Change) -> Result<Key, Memory>
+    ensures { IfOk result (λ key. key ≡ key_of change.now) }
 {
-    for commit in front..to {
-        mark_commit(rows, copies, commit + 1);
-    }
+    Key::record(alloc, change.collection.clone()?, change.id.clone()?)
 }
 
-/// Marks the key whose result a commit changed.
-fn mark_commit(rows: &Rows, copies: &mut Copies, commit: Commit)
-    requires some { 0 < commit }
-    requires within { commit ≤ length rows.now }
-    requires room { CanMarkAll rows.now (commit - 1) commit copies.old }
-    ensures marked { (s : State) → rows.now ≡ s.journal → SameCopies copies.old.copies (copies_of s) → IsMarkedAt copies.old s (commit - 1) → IsMarkedAt copies.new s commit }
-    ensures room { (key : AKey) → CanMark copies.old key → CanMark copies.new key }
+/// Marks each key as long as its copies of commits before the mark's may be kept. It takes no memory.
+pub fn mark_all(copies: &mut Copies, marks: &[Mark])
+    requires { All (λ m. CanMark copies.old m.key) marks.now }
+    ensures outdated { (key : AKey) → until_in copies.new.outdated key ≡ max (until_in copies.old.outdated key) (marked_until copies.old.copies marks.now key) }
     ensures rest { copies.new ≡ record copies.old { outdated = copies.new.outdated; markable = copies.new.markable } }
 {
-    // The laws that say which copies a commit outdates.
-    record_changes_by_its_own_commits();
-    matches_record_commit_by_commit();
-    match rows.altered(commit) {
-        Some(key) => copies.mark(key, commit),
-        None => {}
+    for mark in marks {
+        copies.mark(&mark.key, mark.commit);
     }
 }

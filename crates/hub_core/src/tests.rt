@@ -5,7 +5,7 @@ ghost use Rattle.hub_core.specs.Room.{IsRoomFor};
 
 use crate::{Config, ConfigRefusal, Hub, PageRoom};
 use flat_snapshot::{set_bit, write_head};
-use hub_model::{Change, Condition, Found, Outcome, Tags, Written};
+use hub_model::{Change, Commits, Condition, Found, Outcome, Tags, Written};
 use q_base::{Moment, Name};
 use q_doc::Doc;
 use query_normal::Key;
@@ -83,15 +83,22 @@ fn is_right(alloc: Global, hub: &mut Hub, room: &mut PageRoom, step: Step) -> Re
     match step {
         Step::Put(moment, text, commit, found) => {
             let change = change_to(alloc, text)?;
-            let Written::Done {
-                commit: told,
-                before,
-                clock: _,
-            } = hub.write(Moment::of(moment), &change, &Condition::Always)?;
-            Ok(told == commit && before == found)
+            let written = hub.write(Moment::of(moment), &change, &Condition::Always)?;
+            Ok(match written {
+                Written::Done {
+                    commit: told,
+                    before,
+                    ..
+                } => told == commit && before == found,
+                _ => false,
+            })
         }
         Step::Read(moment, commit, ttl, text) => {
-            let answer = hub.read(Moment::of(moment), &key(alloc)?, &Tags::Unasked)?;
+            let answer = hub.read(
+                Moment::of(moment),
+                &key(alloc)?,
+                &Tags::Listed(Commits::new(alloc)),
+            )?;
             Ok(answer.commit == commit && answer.ttl == ttl && is_text(&answer.result, text))
         }
         Step::Match(moment, to) => {
@@ -152,6 +159,96 @@ fn page_of(
         }
     }
     Ok(page)
+}
+
+/// What a write was told, without its clock.
+#[derive(Clone, Copy, Debug, PartialEq, Eq)]
+enum Told {
+    Done(u64, Found),
+    Precondition(Found),
+    Full(u64),
+}
+
+/// Writes to a record of the collection shop; an empty text deletes.
+fn write(
+    alloc: Global,
+    hub: &mut Hub,
+    id: &[u8],
+    text: &[u8],
+    condition: Condition,
+) -> Result<Told, Fail>
+    ensures { hub.new.setting ≡ hub.old.setting }
+{
+    let document = if text.is_empty() {
+        None
+    } else {
+        Some(Doc::read(alloc, text)?)
+    };
+    let change = Change {
+        collection: Name::read(alloc, b"shop")?,
+        id: Name::read(alloc, id)?,
+        document,
+    };
+    Ok(match hub.write(Moment::of(100), &change, &condition)? {
+        Written::Done { commit, before, .. } => Told::Done(commit, before),
+        Written::Precondition { found, .. } => Told::Precondition(found),
+        Written::Full { bytes, .. } => Told::Full(bytes),
+    })
+}
+
+/// A condition on the result of one commit.
+fn unchanged(alloc: Global, commit: u64) -> Result<Condition, Fail> {
+    let mut tags = Commits::new(alloc);
+    tags.push(commit)?;
+    Ok(Condition::Unchanged(Tags::Listed(tags)))
+}
+
+#[test]
+fn writes_are_judged_by_what_they_find(rt: HostRuntime) -> Result<(), Fail> {
+    let alloc = rt.alloc();
+    let one = br#"{"a":1}"#;
+    let mut hub = Hub::new(alloc, Config::default())?;
+    // Commits 1 and 4 put p1, and the others p2.
+    for id in ["p1", "p2", "p2", "p1", "p2", "p2", "p2"] {
+        write(alloc, &mut hub, id.as_bytes(), one, Condition::Always)?;
+    }
+    let told = write(alloc, &mut hub, b"p1", one, unchanged(alloc, 3)?)?;
+    assert_eq!(rt; told, Told::Precondition(Found::At(4)));
+    let told = write(alloc, &mut hub, b"p1", one, unchanged(alloc, 5)?)?;
+    assert_eq!(rt; told, Told::Done(8, Found::At(4)));
+    let told = write(alloc, &mut hub, b"p1", one, Condition::Absent)?;
+    assert_eq!(rt; told, Told::Precondition(Found::At(8)));
+    let told = write(alloc, &mut hub, b"p3", one, Condition::Present)?;
+    assert_eq!(rt; told, Told::Precondition(Found::Missing));
+    let told = write(alloc, &mut hub, b"p3", b"", Condition::Always)?;
+    assert_eq!(rt; told, Told::Done(9, Found::Missing));
+    Ok(())
+}
+
+#[test]
+fn writes_are_judged_by_what_they_take(rt: HostRuntime) -> Result<(), Fail> {
+    let alloc = rt.alloc();
+    let one = br#"{"a":1}"#;
+    let mut hub = Hub::new(alloc, Config::new(10, 6, 1, 60, 10_000, 65_792)?)?;
+    let mut long = Vec::new(alloc);
+    long.extend_from_slice(br#"{"a":""#)?;
+    for _ in 0..65_528 {
+        long.push(b'x')?;
+    }
+    long.extend_from_slice(br#""}"#)?;
+    // 65,606 bytes, and then 77 and 77.
+    let told = write(alloc, &mut hub, b"p1", &long, Condition::Always)?;
+    assert_eq!(rt; told, Told::Done(1, Found::Missing));
+    let told = write(alloc, &mut hub, b"p2", one, Condition::Always)?;
+    assert_eq!(rt; told, Told::Done(2, Found::Missing));
+    let told = write(alloc, &mut hub, b"p2", one, Condition::Always)?;
+    assert_eq!(rt; told, Told::Done(3, Found::At(2)));
+    let told = write(alloc, &mut hub, b"p2", one, Condition::Always)?;
+    assert_eq!(rt; told, Told::Full(65_837));
+    // What is not met is told first.
+    let told = write(alloc, &mut hub, b"p2", one, Condition::Absent)?;
+    assert_eq!(rt; told, Told::Precondition(Found::At(3)));
+    Ok(())
 }
 
 #[test]

@@ -1,6 +1,6 @@
 //! What no clause says: that the plain program runs where there is memory.
 
-use crate::{Change, Commits, Condition, Entry, Limits, Plain, Tags};
+use crate::{Change, Commits, Condition, Entry, Found, Limits, Plain, Tags};
 use q_base::{Moment, Name};
 use q_doc::Doc;
 use query_normal::Key;
@@ -73,5 +73,21 @@ fn a_key_is_recorded_as_the_worked_histories_tell(rt: HostRuntime) -> Result<(),
         assert_eq!(rt; plain.commits(), 2);
         assert_eq!(rt; plain.clock(), moment);
     }
+    Ok(())
+}
+
+#[test]
+fn up_to_sixteen_commits_are_named(rt: HostRuntime) -> Result<(), Fail> {
+    let alloc = rt.alloc();
+    let mut tags = Commits::new(alloc);
+    for commit in 1..20 {
+        if !tags.is_full() {
+            tags.push(commit)?;
+        }
+    }
+    assert_eq!(rt; tags.len(), 16);
+    let condition = Condition::Unchanged(Tags::Listed(tags)).clone()?;
+    assert!(rt; condition.is_met(Found::At(16), 16));
+    assert!(rt; !condition.is_met(Found::At(17), 17));
     Ok(())
 }

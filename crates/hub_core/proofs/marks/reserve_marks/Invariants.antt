@@ -1,10 +1,12 @@
--- there is room for the marks of the commits so far
-use Rattle.std.proofs.Common.{◌≡◌}
-use Rattle.hub_core.specs.Handed.{HaveRoom}
+-- the marks of the commits so far have their room
+use Rattle.std.proofs.Common.{◌≡◌, All}
+use Rattle.hub_core.specs.Handed.{IsRoomFor}
+use Rattle.hub_core.specs.Marks.{marks_of}
 use Rattle.hub_core.proofs.marks.reserve_marks.Given as goal
 
 abbrev pub invariant-loop-commit : goal.invariant-loop-commit
 invariant-loop-commit l = record {
-  room : HaveRoom l.rows l.initial.front l.commit l.copies;
+  marks : l.marks.items ≡ marks_of l.book.journal l.initial.front l.commit;
+  room : All (λ m. IsRoomFor l.copies m.key) l.marks.items;
   rest : l.copies ≡ record l.initial.copies { markable = l.copies.markable };
 }
