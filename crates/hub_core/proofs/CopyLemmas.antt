@@ -1,11 +1,9 @@
 -- The last copies of keys.
-use Rattle.std.proofs.Common.{◌≡◌, ℕ, zero, suc, ◌+◌, ◌<◌, ◌≤◌, ◌==◌, Bool, true, false, not, ◌&&◌, ◌||◌, cond, max, nat_lt, List, [], ◌∷◌, ◌++◌, length, map, filter, All, is_some, Option, Some, None, unwrap_or, if◌then◌else◌, refl, sym, ap, ap₂, ◌∙◌, subst, arith, inl, inr}
-use Rattle.std.specs.List.{list_any, IsDistinct}
-use Rattle.std.specs.Set.{distinct_count}
+use Rattle.std.proofs.Common.{◌≡◌, ℕ, ◌<◌, ◌≤◌, Bool, true, false, ◌&&◌, ◌||◌, max, nat_lt, List, [], ◌∷◌, ◌++◌, is_some, Option, Some, None, if◌then◌else◌, refl, sym, ap, ◌∙◌, arith, inl, inr}
 use Rattle.std.proofs.lemmas.Bool.{cases_Bool, cases_lt, lt-ltb, le-ltb}
 use Rattle.query_normal.specs.Keys.{same_key}
 use Rattle.query_normal.specs.declared.key.KeyShape.{KeyShape}
-use Rattle.issued_expiries.specs.Copies.{Copy, unexpired, later_of, latest_where, latest_of, is_active, active_keys, SameCopies, with_copy}
+use Rattle.issued_expiries.specs.Copies.{Copy, unexpired, later_of, latest_where, is_active, SameCopies}
 
 -- a second that is later than the clock
 abbrev pub survivor : ℕ → Option ℕ → Option ℕ

@@ -1,17 +1,16 @@
 -- What each step leaves of the copies and of the marked keys.
-use Rattle.std.proofs.Common.{◌≡◌, ℕ, zero, suc, ◌+◌, ◌<◌, ◌≤◌, ◌==◌, Bool, true, false, not, ◌&&◌, ◌||◌, ◌⊎◌, cond, max, nat_lt, nat_le, List, [], ◌∷◌, ◌++◌, length, map, filter, All, IsTrue, is_some, IsSome, Option, Some, None, unwrap_or, if◌then◌else◌, refl, sym, ap, ap₂, ◌∙◌, subst, arith, inl, inr}
+use Rattle.std.proofs.Common.{◌≡◌, ℕ, suc, ◌<◌, ◌≤◌, Bool, true, false, ◌&&◌, ◌||◌, ◌⊎◌, max, List, [], ◌∷◌, length, map, is_some, Option, Some, None, unwrap_or, if◌then◌else◌, refl, sym, ap, ◌∙◌, subst, arith, inl, inr}
 use Rattle.std.specs.List.{list_any, AllByRecursion, IsDistinct}
-use Rattle.std.specs.Map.{lookup}
 use Rattle.std.specs.Set.{unique_keys}
-use Rattle.std.proofs.lemmas.Bool.{cases_Bool, cases_lt, lt-ltb, le-ltb, ltb-true, or_parts, or_cases, and_parts}
+use Rattle.std.proofs.lemmas.Bool.{cases_Bool, cases_lt, lt-ltb, le-ltb, or_parts, or_cases}
 use Rattle.std.proofs.lemmas.List.{length-map}
-use Rattle.std.proofs.lemmas.Map.Made.{length-from_keys, length-le_from_is_member}
+use Rattle.std.proofs.lemmas.Map.Made.{length-le_from_is_member}
 use Rattle.query_normal.specs.Keys.{same_key}
 use Rattle.query_normal.specs.SameKey.{same_key-Decides, same_key_equiv}
 use Rattle.query_normal.specs.declared.key.KeyShape.{KeyShape}
-use Rattle.issued_expiries.specs.Copies.{Copy, unexpired, later_of, latest_where, latest_of, is_between, is_active, active_keys, SameCopies, with_copy}
+use Rattle.issued_expiries.specs.Copies.{Copy, unexpired, latest_where, latest_of, is_between, is_active, active_keys, SameCopies, with_copy}
 use Rattle.hub_core.specs.Standing.{until_in}
-use Rattle.hub_core.specs.Handed.{while_later, last_until, until_below}
+use Rattle.hub_core.specs.Handed.{while_later, last_until}
 use Rattle.hub_core.proofs.CopyLemmas.{survivor, latest, latest-cons, latest-unexpired, active-latest, same-active}
 use Rattle.hub_core.proofs.MarkLemmas.{any-map}
 

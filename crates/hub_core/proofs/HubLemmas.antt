@@ -1,14 +1,12 @@
 -- The steps of the hub's calls.
-use Rattle.std.proofs.Common.{◌≡◌, ℕ, suc, ◌+◌, ◌-◌, ◌*◌, ◌^◌, ◌<◌, ◌≤◌, Bool, true, false, not, ◌&&◌, max, nat_lt, List, [], ◌∷◌, ◌++◌, length, map, slice_index_or, All, Option, Some, None, IfSome, option_map, is_err, Result, Ok, Err, OnOk, IsTrue, if◌then◌else◌, refl, sym, ap, ap₂, ◌∙◌, subst, arith, inl, inr}
+use Rattle.std.proofs.Common.{◌≡◌, ℕ, ◌+◌, ◌≤◌, max, nat_lt, List, [], ◌∷◌, ◌++◌, length, slice_index_or, All, if◌then◌else◌, refl, sym, ap, ap₂, ◌∙◌, subst, inl}
 use Rattle.std.specs.List.{list_any, IsDistinct}
 use Rattle.std.specs.List.Sorted.{IsPermutation}
 use Rattle.query_normal.specs.Bits.{flat_bits}
 use Rattle.query_normal.specs.Keys.{same_key}
-use Rattle.query_normal.specs.Pages.{Page}
 use Rattle.query_normal.specs.declared.key.KeyShape.{KeyShape}
-use Rattle.issued_expiries.specs.Copies.{Copy, latest_where, unexpired, SameCopies, is_active}
+use Rattle.issued_expiries.specs.Copies.{latest_where, unexpired, SameCopies}
 use Rattle.flat_snapshot.specs.PageText.{page_with}
-use Rattle.hub_model.specs.Journal.{result_at}
 use Rattle.hub_model.specs.Lifetime.{ttl_of}
 use Rattle.hub_model.specs.Record.{is_recorded, record_of, bits_of, page_of}
 use Rattle.hub_model.specs.Setting.{Setting}
@@ -18,7 +16,7 @@ use Rattle.hub_model.specs.Until.{until_of_outdated}
 use Rattle.commit_book.specs.declared.change.Change.{Change}
 use Rattle.hub_core.specs.declared.marks.Mark.{Mark}
 use Rattle.hub_core.specs.Marks.{marks_of, marked_until}
-use Rattle.hub_core.specs.Standing.{HubValue, IsAt, copies_of, until_in}
+use Rattle.hub_core.specs.Standing.{HubValue, IsAt, until_in}
 use Rattle.hub_core.specs.Handed.{Handed, lifetime, while_later, marked_keys, AreMarked, IsRoomFor, CanMark}
 use Rattle.hub_core.proofs.HandedLemmas.{active-later}
 use Rattle.hub_core.proofs.MatchLemmas.{ChangesItsOwn, RaisesByCommit, marks-raise, lifetime-at, recorded-at}

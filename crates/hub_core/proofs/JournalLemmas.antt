@@ -1,15 +1,12 @@
 -- What one change more does to a journal.
-use Rattle.std.proofs.Common.{◌≡◌, ℕ, zero, suc, ◌+◌, ◌-◌, ◌<◌, ◌≤◌, ◌==◌, Bool, true, false, not, ◌&&◌, ◌||◌, cond, List, [], ◌∷◌, ◌++◌, length, map, slice_get, is_some, option_and_then, Option, Some, None, IfSome, bytes_eq, if◌then◌else◌, refl, sym, ap, ◌∙◌, subst, arith, inl, inr}
-use Rattle.std.proofs.lemmas.List.{length-append}
-use Rattle.std.proofs.lemmas.Bool.{cases_Bool, ne_eqb}
+use Rattle.std.proofs.Common.{◌≡◌, ℕ, zero, suc, ◌<◌, ◌≤◌, Bool, true, false, ◌&&◌, List, [], ◌∷◌, ◌++◌, length, slice_get, Option, Some, bytes_eq, refl, ap, ◌∙◌, arith}
 use Rattle.q_doc.specs.Tree.{Tree}
 use Rattle.query_normal.specs.Keys.{same_key}
 use Rattle.query_normal.specs.declared.key.KeyShape.{KeyShape}
 use Rattle.query_normal.specs.declared.key.KeyShape.TheVariants.{Record}
 use Rattle.commit_book.specs.declared.change.Change.{Change}
-use Rattle.commit_book.specs.Journal.{is_of, document_at, document_after, put_at}
-use Rattle.hub_model.specs.Journal.{document_finding, result_at, same_finding}
-use Rattle.hub_model.specs.Outdated.{is_changed}
+use Rattle.commit_book.specs.Journal.{is_of, document_at, document_after}
+use Rattle.hub_model.specs.Journal.{document_finding, result_at}
 use Rattle.hub_core.specs.Marks.{key_of}
 
 -- an element keeps its place before others

@@ -1,13 +1,11 @@
 -- The keys of outdated copies, each with the second until which these may be kept.
-use Rattle.std.proofs.Common.{◌≡◌, ℕ, zero, suc, ◌+◌, ◌*◌, ◌^◌, ◌<◌, ◌≤◌, ◌==◌, Bool, true, false, not, ◌&&◌, ◌||◌, ◌⊎◌, cond, max, nat_lt, List, [], ◌∷◌, ◌++◌, length, map, filter, All, sum_by, count_by, if◌then◌else◌, refl, sym, ap, ap₂, ◌∙◌, subst, arith, inl, inr, None}
+use Rattle.std.proofs.Common.{◌≡◌, ℕ, suc, ◌+◌, ◌*◌, ◌^◌, ◌<◌, ◌≤◌, ◌==◌, Bool, true, false, ◌||◌, ◌⊎◌, max, nat_lt, List, [], ◌∷◌, ◌++◌, length, map, filter, All, sum_by, count_by, if◌then◌else◌, refl, sym, ap, ap₂, ◌∙◌, subst, arith, inl, inr}
 use Rattle.std.specs.List.{list_any, range_with_len, AllByRecursion, IsDistinct}
-use Rattle.std.specs.List.Sorted.{IsPermutation}
-use Rattle.std.specs.Map.{lookup}
-use Rattle.std.proofs.lemmas.Bool.{cases_Bool, cases_lt, lt-ltb, le-ltb, or_parts}
+use Rattle.std.proofs.lemmas.Bool.{cases_Bool, lt-ltb, le-ltb}
 use Rattle.std.proofs.lemmas.List.{map-append}
 use Rattle.std.proofs.lemmas.List.Sums.{sum_by-cons}
 use Rattle.std.proofs.lemmas.List.FromFn.{length-map-range_with_len}
-use Rattle.std.proofs.lemmas.List.Sorted.{IsPermutation-map, IsPermutation-sym, IsPermutation-to_front, length_permutation}
+use Rattle.std.proofs.lemmas.List.Sorted.{IsPermutation-map}
 use Rattle.std.proofs.lemmas.Map.Keys.{IsDistinct-IsPermutation, IsDistinct-tail}
 use Rattle.query_normal.specs.Bits.{flat_bits}
 use Rattle.query_normal.specs.Keys.{same_key}
@@ -17,10 +15,10 @@ use Rattle.query_normal.specs.declared.key.KeyShape.{KeyShape}
 use Rattle.query_normal.proofs.BitLemmas.{length-flat_bits}
 use Rattle.expiring_filter.specs.Held.{Expires, put_until, is_among, count_among as held_count}
 use Rattle.expiring_filter.specs.Filter.{Filter, bits_of as filter_bits}
-use Rattle.hub_model.specs.Record.{bits_of, count_among}
+use Rattle.hub_model.specs.Record.{bits_of}
 use Rattle.hub_core.specs.Standing.{until_in}
 use Rattle.hub_core.specs.Handed.{while_later}
-use Rattle.hub_core.proofs.GreatestLemmas.{best, best-cons, best-append, best-le, best-all, best-permuted, any-best}
+use Rattle.hub_core.proofs.GreatestLemmas.{best, best-cons, best-append, best-le, best-permuted, any-best}
 
 -- two keys are told apart in either order
 pub same_key-flips : (a b : KeyShape) → same_key a b ≡ same_key b a

@@ -1,15 +1,14 @@
 -- What a match and the record are, in the hub's words.
-use Rattle.std.proofs.Common.{◌≡◌, ℕ, zero, suc, ◌+◌, ◌-◌, ◌<◌, ◌≤◌, ◌==◌, Bool, true, false, not, ◌&&◌, ◌||◌, ◌⊎◌, cond, max, nat_lt, nat_le, List, [], ◌∷◌, ◌++◌, length, map, filter, All, is_some, Option, Some, None, unwrap_or, slice_get, slice_index_or, get_or, take, option_map, option_and_then, if◌then◌else◌, refl, sym, ap, ap₂, ◌∙◌, subst, arith, inl, inr}
-use Rattle.std.specs.List.{list_any}
-use Rattle.std.proofs.lemmas.Bool.{cases_Bool, cases_lt, lt-ltb, le-ltb, ltb-true, le-leb, lt-leb}
-use Rattle.std.proofs.lemmas.List.Elements.{filter_passes, All-weaker}
+use Rattle.std.proofs.Common.{◌≡◌, ℕ, zero, suc, ◌+◌, ◌<◌, ◌≤◌, Bool, true, false, not, ◌&&◌, ◌||◌, max, nat_lt, nat_le, List, [], ◌∷◌, ◌++◌, length, map, All, is_some, Option, Some, None, unwrap_or, slice_get, slice_index_or, get_or, take, option_map, option_and_then, if◌then◌else◌, refl, sym, ap, ap₂, ◌∙◌, subst, arith, inl, inr}
+use Rattle.std.proofs.lemmas.Bool.{cases_lt, ltb-true, le-leb, lt-leb}
+use Rattle.std.proofs.lemmas.List.Elements.{filter_passes}
 use Rattle.std.proofs.lemmas.Map.Made.{length-from_keys}
 use Rattle.std.proofs.Math.Seq.{take-suc}
 use Rattle.query_normal.specs.Keys.{same_key}
 use Rattle.query_normal.specs.SameKey.{same_key-Decides, same_key_equiv}
 use Rattle.query_normal.specs.declared.key.KeyShape.{KeyShape}
 use Rattle.query_normal.specs.declared.key.KeyShape.TheVariants.{Record}
-use Rattle.issued_expiries.specs.Copies.{Copy, later_of, latest_where, latest_of, is_between, is_active, active_keys, SameCopies}
+use Rattle.issued_expiries.specs.Copies.{Copy, latest_where, is_between, is_active, active_keys, SameCopies}
 use Rattle.hub_model.specs.Copies.{issues, is_live, live, active_keys as active_of, is_active as is_active_in}
 use Rattle.commit_book.specs.Journal.{is_of, document_at}
 use Rattle.hub_model.specs.Lifetime.{ttl_of}
@@ -17,12 +16,12 @@ use Rattle.hub_model.specs.Outdated.{is_changed}
 use Rattle.hub_model.specs.Record.{is_outdated_in, is_recorded}
 use Rattle.hub_model.specs.Setting.{Setting}
 use Rattle.hub_model.specs.State.{Reading, State, until_of}
-use Rattle.hub_model.specs.Until.{greatest, until_among, latest_until, until_of_outdated}
+use Rattle.hub_model.specs.Until.{until_among, latest_until, until_of_outdated}
 use Rattle.commit_book.specs.declared.change.Change.{Change}
 use Rattle.hub_core.specs.declared.marks.Mark.{Mark}
 use Rattle.hub_core.specs.Marks.{key_of, altered_key, mark_of, marks_of, marked_until}
 use Rattle.hub_core.specs.Standing.{HubValue, IsAt, copy_of, copies_of, until_in}
-use Rattle.hub_core.specs.Handed.{Handed, until_below}
+use Rattle.hub_core.specs.Handed.{until_below}
 use Rattle.hub_core.proofs.CopyLemmas.{latest, latest-cons, same-active}
 use Rattle.hub_core.proofs.GreatestLemmas.{best, best-cons, best-append, any-best}
 use Rattle.hub_core.proofs.HandedLemmas.{unique-distinct, among-unique}

@@ -1,8 +1,7 @@
 -- A page written into its room.
-use Rattle.std.proofs.Common.{◌≡◌, ℕ, ◌+◌, ◌*◌, ◌/◌, ◌^◌, ◌<◌, ◌≤◌, List, [], ◌∷◌, ◌++◌, length, take, drop, All, Option, Some, refl, sym, ap, ◌∙◌, subst, arith, append-nil, length-append}
+use Rattle.std.proofs.Common.{◌≡◌, ℕ, ◌*◌, ◌^◌, ◌<◌, ◌≤◌, List, ◌++◌, length, take, drop, All, Option, Some, sym, ap, ◌∙◌, arith, append-nil}
 use Rattle.std.proofs.Math.ListN.{drop_of_length-le}
 use Rattle.query_normal.specs.Bits.{flat_bits}
-use Rattle.query_normal.specs.Pages.{Page}
 use Rattle.query_normal.proofs.BitLemmas.{length-flat_bits}
 use Rattle.flat_snapshot.specs.PageText.{page_text, page_with, head_text, bytes_of}
 use Rattle.flat_snapshot.proofs.ByteLemmas.{bytes_of-flat_bits}

@@ -1,18 +1,18 @@
 -- The copies and the marked keys stay those of one clock.
-use Rattle.std.proofs.Common.{◌≡◌, ℕ, zero, suc, ◌+◌, ◌<◌, ◌≤◌, ◌==◌, Bool, true, false, not, ◌&&◌, ◌||◌, ◌⊎◌, cond, max, nat_lt, nat_le, List, [], ◌∷◌, length, map, All, IsTrue, Option, Some, None, unwrap_or, if◌then◌else◌, refl, sym, ap, ap₂, ◌∙◌, subst, arith, inl, inr}
+use Rattle.std.proofs.Common.{◌≡◌, ℕ, ◌<◌, ◌≤◌, Bool, true, false, not, ◌&&◌, ◌||◌, ◌⊎◌, max, nat_le, List, [], ◌∷◌, length, map, All, IsTrue, Some, if◌then◌else◌, refl, sym, ap, ◌∙◌, subst, arith, inl, inr}
 use Rattle.std.specs.List.{list_any, IsDistinct}
-use Rattle.std.proofs.lemmas.Bool.{cases_Bool, cases_lt, lt-ltb, le-ltb, ltb-true, leb-true, leb-false}
+use Rattle.std.proofs.lemmas.Bool.{cases_Bool, ltb-true, leb-false}
 use Rattle.query_normal.specs.Keys.{same_key}
-use Rattle.query_normal.specs.SameKey.{same_key-Decides, same_key_equiv}
+use Rattle.query_normal.specs.SameKey.{same_key-Decides}
 use Rattle.query_normal.specs.declared.key.KeyShape.{KeyShape}
-use Rattle.issued_expiries.specs.Copies.{Copy, unexpired, latest_where, latest_of, is_active, active_keys, SameCopies, with_copy}
+use Rattle.issued_expiries.specs.Copies.{Copy, unexpired, latest_of, is_active, active_keys, SameCopies, with_copy}
 use Rattle.issued_expiries.specs.Expiries.{Issued}
 use Rattle.expiring_filter.specs.Filter.{Filter}
 use Rattle.expiring_filter.specs.Held.{Expires, put_until, is_among}
 use Rattle.expiring_filter.proofs.FilterLemmas.{unexpired_put}
 use Rattle.hub_model.specs.Setting.{Setting}
 use Rattle.hub_core.specs.Standing.{until_in}
-use Rattle.hub_core.specs.Handed.{IsSound, AreMarked, while_later, last_until}
+use Rattle.hub_core.specs.Handed.{IsSound, AreMarked, last_until}
 use Rattle.hub_core.proofs.MarkLemmas.{until-expired, once-expired, until-put, once-put, held-later, any-map}
 use Rattle.hub_core.proofs.HandedLemmas.{count-less, count-marked, count-with, backed-later, backed-more, late-later, late-more, active-later, same-with, below-last, active-last}
 

@@ -1,28 +1,22 @@
 -- A hub keeps with the state through each step.
-use Rattle.std.proofs.Common.{◌≡◌, ℕ, zero, suc, ◌+◌, ◌-◌, ◌<◌, ◌≤◌, ◌==◌, Bool, true, false, not, ◌&&◌, ◌||◌, ◌⊎◌, cond, max, nat_lt, nat_le, List, [], ◌∷◌, ◌++◌, length, map, filter, All, is_some, Option, Some, None, unwrap_or, slice_get, slice_index_or, if◌then◌else◌, refl, sym, ap, ap₂, ◌∙◌, subst, arith, inl, inr, append-nil}
-use Rattle.std.specs.List.{list_any}
+use Rattle.std.proofs.Common.{◌≡◌, ℕ, zero, suc, ◌+◌, ◌≤◌, Bool, true, false, not, ◌&&◌, ◌||◌, max, nat_lt, List, [], ◌∷◌, ◌++◌, length, map, filter, slice_index_or, if◌then◌else◌, refl, sym, ap, ap₂, ◌∙◌, subst, arith, inl, inr, append-nil}
 use Rattle.std.proofs.lemmas.Bool.{cases_Bool, cases_lt, lt-ltb, le-ltb, ltb-true}
-use Rattle.std.proofs.lemmas.List.{map-append, length-append}
-use Rattle.std.proofs.lemmas.List.Elements.{filter-append, filter_passes}
+use Rattle.std.proofs.lemmas.List.{map-append}
+use Rattle.std.proofs.lemmas.List.Elements.{filter-append}
 use Rattle.query_normal.specs.Keys.{same_key}
-use Rattle.query_normal.specs.SameKey.{same_key-Decides, same_key_equiv}
 use Rattle.query_normal.specs.declared.key.KeyShape.{KeyShape}
-use Rattle.query_normal.specs.declared.key.KeyShape.TheVariants.{Record}
-use Rattle.issued_expiries.specs.Copies.{Copy, unexpired, later_of, latest_where, latest_of, is_between, is_active, active_keys, SameCopies}
-use Rattle.hub_model.specs.Copies.{issues, is_live, live, active_keys as active_of, is_active as is_active_in}
+use Rattle.issued_expiries.specs.Copies.{Copy, unexpired, latest_where, SameCopies}
+use Rattle.hub_model.specs.Copies.{issues, is_live, live}
 use Rattle.hub_model.specs.Journal.{result_at, same_finding}
-use Rattle.hub_model.specs.Lifetime.{ttl_of}
 use Rattle.hub_model.specs.Outdated.{is_outdated}
-use Rattle.hub_model.specs.Record.{is_outdated_in, is_recorded}
-use Rattle.hub_model.specs.Setting.{Setting}
-use Rattle.hub_model.specs.State.{Reading, State, start, at_moment, until_of}
-use Rattle.hub_model.specs.Step.{has_read}
-use Rattle.hub_model.specs.Until.{greatest, until_among, latest_until, until_of_outdated}
+use Rattle.hub_model.specs.Record.{is_outdated_in}
+use Rattle.hub_model.specs.State.{Reading, State, at_moment, until_of}
+use Rattle.hub_model.specs.Until.{until_among, until_of_outdated}
 use Rattle.commit_book.specs.declared.change.Change.{Change}
 use Rattle.hub_core.specs.Standing.{HubValue, IsAt, copy_of, copies_of, until_in}
-use Rattle.hub_core.specs.Handed.{while_later, until_below}
+use Rattle.hub_core.specs.Handed.{while_later}
 use Rattle.hub_core.proofs.CopyLemmas.{same-unexpired, same-more}
-use Rattle.hub_core.proofs.GreatestLemmas.{best, best-cons, best-append, best-agree, best-later, any-best}
+use Rattle.hub_core.proofs.GreatestLemmas.{best, best-cons, best-append, best-agree, best-later}
 use Rattle.hub_core.proofs.JournalLemmas.{result_at-append}
 
 -- ---- the clock

@@ -1,5 +1,5 @@
 -- The copies that reads handed out, and the keys of those that are outdated.
-use Rattle.std.specs.Prelude.{◌≡◌, ◌⊎◌, ℕ, ◌+◌, ◌<◌, ◌≤◌, Bool, true, not, ◌&&◌, nat_lt, nat_le, if◌then◌else◌, List, [], map, filter, All, IsTrue, Option, Some, IfSome, unwrap_or}
+use Rattle.std.specs.Prelude.{◌≡◌, ◌⊎◌, ℕ, ◌<◌, ◌≤◌, Bool, true, not, ◌&&◌, nat_lt, nat_le, if◌then◌else◌, List, [], map, All, IsTrue, Some, unwrap_or}
 use Rattle.std.specs.List.{list_any, IsDistinct}
 use Rattle.issued_expiries.specs.Copies.{Copy, latest_where, latest_of, is_active, active_keys}
 use Rattle.issued_expiries.specs.Expiries.{Issued}

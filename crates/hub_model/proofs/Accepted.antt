@@ -1,11 +1,11 @@
 -- Which writes are accepted, and the journal that they make.
-use Rattle.std.proofs.Common.{◌≡◌, ◌≢◌, ◌↔◌, ◌⊎◌, ℕ, zero, suc, ◌+◌, ◌≤◌, Bool, true, false, ◌&&◌, List, [], ◌∷◌, ◌++◌, length, fold, Option, Some, None, refl, sym, ap, ◌∙◌, subst, inl, inr, arith, Contains}
+use Rattle.std.proofs.Common.{◌≡◌, ◌↔◌, ℕ, zero, suc, ◌≤◌, Bool, true, false, ◌&&◌, List, [], ◌∷◌, ◌++◌, length, fold, Option, Some, None, refl, sym, ap, ◌∙◌, subst, inl, inr, arith}
 use Rattle.std.specs.Prelude.{nat_le, slice_get, if◌then◌else◌, IfSome}
 use Rattle.std.specs.Bool.{Decides}
 use Rattle.std.proofs.lemmas.Bool.{cases_Bool, cases_lt, and_parts, and_from, leb-true, le-leb, both_ways}
 use Rattle.q_doc.specs.Tree.{Tree}
 use Rattle.commit_book.specs.declared.change.Change.{Change}
-use Rattle.commit_book.specs.Journal.{is_of, put_at, document_after, document_at, cost_of, kept}
+use Rattle.commit_book.specs.Journal.{is_of, put_at, document_after, document_at}
 use Rattle.hub_model.specs.declared.entry.Condition.{Condition}
 use Rattle.hub_model.specs.declared.entry.Condition.TheVariants.{Always, Present, Absent, Unchanged}
 use Rattle.hub_model.specs.declared.entry.Entry.{Entry}

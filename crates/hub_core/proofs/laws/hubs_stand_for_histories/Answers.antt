@@ -1,10 +1,10 @@
 -- the state of a longer history is that after its last entry
-use Rattle.std.proofs.Common.{◌≡◌, ◌++◌, ◌∷◌, [], List, sym, ap, ◌∙◌, subst}
+use Rattle.std.proofs.Common.{◌≡◌, ◌++◌, ◌∷◌, [], sym, ap, ◌∙◌, subst}
 use Rattle.hub_model.specs.Legal.{IsLegal}
 use Rattle.hub_model.specs.Setting.{Setting}
-use Rattle.hub_model.specs.State.{State, start}
+use Rattle.hub_model.specs.State.{State}
 use Rattle.hub_model.specs.Step.{after, state_of}
-use Rattle.hub_core.specs.Standing.{HubValue, IsAt, Stands}
+use Rattle.hub_core.specs.Standing.{IsAt}
 use Rattle.hub_core.proofs.laws.hubs_stand_for_histories.Goals as goal
 
 pub returns-clause-begins : goal.returns-clause-begins

@@ -1,5 +1,5 @@
 -- each mark raises its key
-use Rattle.std.proofs.Common.{List, ◌≡◌, ◌∙◌, ap, sym, max, if◌then◌else◌, rules}
+use Rattle.std.proofs.Common.{List, ◌≡◌, ◌∙◌, ap, max, if◌then◌else◌, rules}
 use Rattle.query_normal.specs.Keys.{same_key}
 use Rattle.issued_expiries.specs.Copies.{Copy}
 use Rattle.hub_core.specs.Handed.{Handed, until_below}

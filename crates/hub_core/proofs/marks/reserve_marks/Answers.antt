@@ -1,7 +1,7 @@
 -- the loop goes commit by commit
-use Rattle.std.proofs.Common.{◌≡◌, ◌∙◌, ap, sym, ◌+◌, ◌++◌, List, arith, rules}
+use Rattle.std.proofs.Common.{◌∙◌, ap, sym, ◌+◌, ◌++◌, List, rules}
 use Rattle.hub_core.specs.declared.marks.Mark.{Mark}
-use Rattle.hub_core.specs.Marks.{marks_of, mark_of, altered_key}
+use Rattle.hub_core.specs.Marks.{mark_of, altered_key}
 use Rattle.hub_core.proofs.MatchLemmas.{marks-none, marks-next}
 use Rattle.hub_core.proofs.marks.reserve_marks.Goals as goal
 

@@ -1,6 +1,5 @@
 -- the copies and the marked keys move to the same clock
 use Rattle.std.proofs.Common.{◌≡◌, ℕ, List, max, ap, sym, ◌∙◌, subst}
-use Rattle.query_normal.specs.declared.key.KeyShape.{KeyShape}
 use Rattle.issued_expiries.specs.Copies.{Copy, SameCopies, unexpired}
 use Rattle.issued_expiries.specs.Expiries.{Issued}
 use Rattle.expiring_filter.specs.Filter.{Filter}

@@ -1,6 +1,5 @@
 -- the bits are those of the marked keys
-use Rattle.std.proofs.Common.{◌≡◌, ◌*◌, ◌^◌, ℕ, length, ap, sym, ◌∙◌, subst}
-use Rattle.query_normal.specs.Bits.{flat_bits}
+use Rattle.std.proofs.Common.{◌^◌, ℕ, ap, ◌∙◌, subst}
 use Rattle.hub_model.specs.Record.{bits_of}
 use Rattle.hub_core.specs.Handed.{Handed, AreMarked, marked_keys}
 use Rattle.hub_core.proofs.MarkLemmas.{bits-held, bytes-held}

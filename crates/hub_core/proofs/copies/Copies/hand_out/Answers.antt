@@ -1,5 +1,5 @@
 -- a copy that may be kept at all is later than the clock, and its key was active or one more may be
-use Rattle.std.proofs.Common.{◌≡◌, ◌<◌, ◌+◌, ℕ, ap, sym, ◌∙◌, subst, arith}
+use Rattle.std.proofs.Common.{◌<◌, ◌+◌, ℕ, ap, sym, ◌∙◌, subst, arith}
 use Rattle.issued_expiries.specs.Copies.{is_active, active_keys}
 use Rattle.hub_core.specs.Handed.{Handed, lifetime}
 use Rattle.hub_core.proofs.SoundLemmas.{sound-more, lifetime-room}

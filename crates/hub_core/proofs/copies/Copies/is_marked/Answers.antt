@@ -1,5 +1,5 @@
 -- a key is held where its second is later than the clock
-use Rattle.std.proofs.Common.{◌≡◌, ap, ◌∙◌, subst}
+use Rattle.std.proofs.Common.{ap, ◌∙◌}
 use Rattle.hub_core.specs.Handed.{Handed, is_marked}
 use Rattle.hub_core.proofs.MarkLemmas.{held-later}
 use Rattle.hub_core.proofs.copies.Copies.is_marked.Goals as goal

@@ -1,14 +1,10 @@
 -- the key has a copy of an earlier commit
-use Rattle.std.proofs.Common.{◌≡◌, ◌<◌, ◌≤◌, ◌⊎◌, ℕ, List, Bool, true, false, max, not, ◌&&◌, IsTrue, Some, None, Option, unwrap_or, if◌then◌else◌, ap, sym, ◌∙◌, subst, arith, inl, inr, refl}
+use Rattle.std.proofs.Common.{◌≡◌, ◌⊎◌, ℕ, max, IsTrue, Option, unwrap_or, if◌then◌else◌, ap, sym, ◌∙◌, subst}
 use Rattle.std.specs.List.{list_any}
-use Rattle.std.proofs.lemmas.Bool.{cases_Bool}
 use Rattle.query_normal.specs.Keys.{same_key}
-use Rattle.query_normal.specs.declared.key.KeyShape.{KeyShape}
-use Rattle.issued_expiries.specs.Copies.{is_active, latest_of}
-use Rattle.expiring_filter.specs.Filter.{Filter, is_reserved, is_held}
-use Rattle.expiring_filter.specs.Held.{put_until}
+use Rattle.expiring_filter.specs.Filter.{Filter}
 use Rattle.hub_core.specs.Standing.{until_in}
-use Rattle.hub_core.specs.Handed.{Handed, CanMark, last_until, until_below}
+use Rattle.hub_core.specs.Handed.{Handed, CanMark, until_below}
 use Rattle.hub_core.proofs.HandedLemmas.{below-last}
 use Rattle.hub_core.proofs.MarkLemmas.{until-put}
 use Rattle.hub_core.proofs.SoundLemmas.{mark-few, sound-marked, still-room, copy-active}

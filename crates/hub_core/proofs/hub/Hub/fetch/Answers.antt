@@ -1,13 +1,12 @@
 -- the page is that of one moment
-use Rattle.std.proofs.Common.{◌≡◌, ◌≤◌, ℕ, List, Some, length, option_map, refl, ap, sym, ◌∙◌, subst, arith}
+use Rattle.std.proofs.Common.{◌≡◌, Some, option_map, ap, sym, ◌∙◌, subst}
 use Rattle.query_normal.specs.Pages.{Page}
-use Rattle.hub_model.specs.Record.{page_of}
-use Rattle.hub_model.specs.Reply.{fetched, Replied}
-use Rattle.hub_model.specs.State.{State, at_moment}
+use Rattle.hub_model.specs.Reply.{fetched}
+use Rattle.hub_model.specs.State.{at_moment}
 use Rattle.hub_core.specs.Room.{Fetched}
 use Rattle.hub_core.specs.Standing.{HubValue, IsAt}
 use Rattle.hub_core.specs.Handed.{Handed}
-use Rattle.hub_core.proofs.HubLemmas.{hub_of, hub-moved, page-at}
+use Rattle.hub_core.proofs.HubLemmas.{hub-moved, page-at}
 use Rattle.hub_core.proofs.hub.Hub.fetch.Goals as goal
 
 -- the hub when its clock has moved

@@ -1,5 +1,5 @@
 -- a key is marked where it is in the record
-use Rattle.std.proofs.Common.{◌≡◌, nat_lt, ap, ◌∙◌}
+use Rattle.std.proofs.Common.{nat_lt, ap, ◌∙◌}
 use Rattle.hub_core.specs.Standing.{HubValue, until_in}
 use Rattle.hub_core.proofs.MatchLemmas.{recorded-at}
 use Rattle.hub_core.proofs.hub.Hub.holds.Goals as goal

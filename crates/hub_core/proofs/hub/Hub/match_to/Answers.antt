@@ -1,7 +1,6 @@
 -- the keys that the commits changed are marked
-use Rattle.std.proofs.Common.{◌≡◌, ◌≤◌, ℕ, List, length, All, max, refl, ap, sym, ◌∙◌, subst, arith}
-use Rattle.query_normal.specs.declared.key.KeyShape.{KeyShape}
-use Rattle.hub_model.specs.State.{State, at_moment}
+use Rattle.std.proofs.Common.{◌≤◌, List, length, All, max, ap, sym, ◌∙◌, subst, arith}
+use Rattle.hub_model.specs.State.{at_moment}
 use Rattle.hub_core.specs.declared.marks.Mark.{Mark}
 use Rattle.hub_core.specs.Marks.{marked_until}
 use Rattle.hub_core.specs.Handed.{Handed, CanMark}

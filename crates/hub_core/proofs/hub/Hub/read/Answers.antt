@@ -1,6 +1,5 @@
 -- the answer is that of the moment's clock, and its copy is handed out
-use Rattle.std.proofs.Common.{◌≡◌, ◌≤◌, ℕ, List, max, length, refl, ap, ap₂, sym, ◌∙◌, subst, arith}
-use Rattle.hub_model.specs.declared.entry.Answer.{Answer}
+use Rattle.std.proofs.Common.{◌≡◌, List, max, ap, sym, ◌∙◌, subst, arith}
 use Rattle.commit_book.specs.declared.change.Change.{Change}
 use Rattle.hub_model.specs.Journal.{result_at}
 use Rattle.hub_model.specs.Lifetime.{ttl_of}

@@ -1,5 +1,5 @@
 -- the marked keys are those of the record, each once
-use Rattle.std.proofs.Common.{◌≡◌, nat_lt, map, length, ap, sym, ◌∙◌}
+use Rattle.std.proofs.Common.{nat_lt, ap, ◌∙◌}
 use Rattle.hub_model.specs.Record.{record_of}
 use Rattle.hub_core.specs.Standing.{HubValue, until_in}
 use Rattle.hub_core.specs.Handed.{marked_keys}

@@ -1,5 +1,5 @@
 -- the clock moves, and nothing else
-use Rattle.std.proofs.Common.{refl, ap, sym, ◌∙◌, subst}
+use Rattle.std.proofs.Common.{refl, sym, subst}
 use Rattle.hub_core.specs.Standing.{HubValue, IsAt}
 use Rattle.hub_core.proofs.StateLemmas.{is-moved}
 use Rattle.hub_core.proofs.hub.Hub.tick.Goals as goal

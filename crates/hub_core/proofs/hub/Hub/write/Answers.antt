@@ -1,12 +1,8 @@
 -- the clock moves, and an accepted change is the next commit
-use Rattle.std.proofs.Common.{◌≡◌, ◌≤◌, ◌⊎◌, List, length, Result, Ok, Err, refl, ap, sym, ◌∙◌, subst}
-use Rattle.commit_book.specs.declared.change.Change.{Change}
-use Rattle.commit_book.specs.declared.refusal.BookRefusal.{BookRefusal}
-use Rattle.commit_book.specs.declared.refusal.BookRefusal.TheVariants.{Memory}
-use Rattle.commit_book.specs.Contents.{Contents, added}
+use Rattle.std.proofs.Common.{◌≡◌, Err, refl, ap, sym, ◌∙◌, subst}
+use Rattle.commit_book.specs.Contents.{Contents}
 use Rattle.hub_model.specs.State.{State, at_moment}
 use Rattle.hub_model.specs.Step.{wrote}
-use Rattle.hub_core.specs.Handed.{Handed}
 use Rattle.hub_core.specs.Standing.{HubValue, IsAt}
 use Rattle.hub_core.proofs.HubLemmas.{hub_of, hub-moved}
 use Rattle.hub_core.proofs.StateLemmas.{is-written}

@@ -1,8 +1,8 @@
 -- the page fills the room
-use Rattle.std.proofs.Common.{◌≡◌, ◌+◌, ◌*◌, ◌/◌, ◌≤◌, ◌^◌, ℕ, List, Some, take, drop, ◌++◌, length, ap, ◌∙◌, sym, subst, arith}
+use Rattle.std.proofs.Common.{◌≡◌, ◌+◌, ◌*◌, ◌/◌, ◌^◌, Some, take, drop, ◌++◌, length, ap, ◌∙◌, sym, arith}
 use Rattle.query_normal.specs.Pages.{Page}
 use Rattle.flat_snapshot.proofs.ByteLemmas.{all_small}
-use Rattle.flat_snapshot.specs.PageText.{page_text, page_with}
+use Rattle.flat_snapshot.specs.PageText.{page_with}
 use Rattle.hub_core.specs.Room.{Fetched, IsKept, page_in}
 use Rattle.hub_core.proofs.RoomLemmas.{filled, kept-written}
 use Rattle.hub_core.proofs.room.PageRoom.write.Goals as goal
