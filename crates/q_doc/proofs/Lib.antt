@@ -1,7 +1,9 @@
 pub mod ConvertLemmas
 pub mod PrintedLaws
 pub mod ReadData
+pub mod ReadingLemmas
 pub mod ReadsBack
 pub mod StandardFacts
 pub mod TreeLemmas
+pub mod WholeDocument
 pub mod WholeLemmas

@@ -104,14 +104,14 @@ read_put_at Equal k l d e ms is h g more = (g.0, h, g.2)
 read_put_at Greater k l d e ms is h g more =
     (precedes_put l k d ms (nat_list_cmp_total.antisymm l k ∙ ap ordering_reverse is) g.0, g.1, more)
 
-read_put : (k : List ℕ) (d : json.Data) (ms : json.Members) → IsRead d → MembersAreRead ms → MembersAreRead (put k d ms)
+pub read_put : (k : List ℕ) (d : json.Data) (ms : json.Members) → IsRead d → MembersAreRead ms → MembersAreRead (put k d ms)
 read_put k d json.no_members h g = (tt, h, tt)
 read_put k d (json.member l e ms) h g = read_put_at _ k l d e ms refl h g (read_put k d ms h g.2)
 
 -- ---- values
 
 mutual
-  read_value : (j : grammar.Json) (d : json.Data) → of_json j ≡ Some d → IsRead d
+  pub read_value : (j : grammar.Json) (d : json.Data) → of_json j ≡ Some d → IsRead d
   read_value grammar.null d e = subst IsRead (ap (λ o. unwrap_or o d) e) tt
   read_value (grammar.boolean b) d e = subst IsRead (ap (λ o. unwrap_or o d) e) tt
   read_value (grammar.number s) d e = let n = of_option_map json.number (number_of s) d e in subst IsRead n.2 (number_of-fits s n.0 n.1)

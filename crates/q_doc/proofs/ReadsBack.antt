@@ -124,7 +124,7 @@ read_back t bytes value shallow same =
     (ap (grammar.value 127) (same ∙ sym (append-nil (grammar_tree.json_tokens j))) ∙ value-json_tokens j 127 [] fits)
     ∙ of_json-outline t value
 
-not_above : (m n : ℕ) → n ≤ m → nat_lt m n ≡ false
+pub not_above : (m n : ℕ) → n ≤ m → nat_lt m n ≡ false
 not_above m n h = grind (arith, nat_tests)
 
 judged_back : (t : Tree) → IsPlainDocument t → judged_found (Some (data_of t)) ≡ Ok t

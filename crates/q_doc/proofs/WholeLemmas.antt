@@ -30,7 +30,7 @@ precedes_whole k (json.member l d ms) ts e h =
     subst (PrecedesMembers k) rest.2 h
 
 mutual
-  value_whole : (d : json.Data) (t : Tree) → IsRead d → whole d ≡ Some t → IsValue t
+  pub value_whole : (d : json.Data) (t : Tree) → IsRead d → whole d ≡ Some t → IsValue t
   value_whole json.null t h e = subst IsValue (ap (λ o. unwrap_or o t) e) tt
   value_whole (json.boolean b) t h e = subst IsValue (ap (λ o. unwrap_or o t) e) tt
   value_whole (json.number n) t h e = let z = of_option_map number (as_i64 n) t e in subst IsValue z.2 (number_value n z.0 h z.1)
@@ -45,7 +45,7 @@ mutual
       let rest = of_option_map (item first.0) (whole_items ds) ts first.2 in
       subst AreValues rest.2 (value_whole d first.0 h.0 first.1, values_whole ds rest.0 h.1 rest.1)
 
-  members_whole : (ms : json.Members) (ts : Members) → MembersAreRead ms → whole_members ms ≡ Some ts → AreMembers ts
+  pub members_whole : (ms : json.Members) (ts : Members) → MembersAreRead ms → whole_members ms ≡ Some ts → AreMembers ts
   members_whole json.no_members ts h e = subst AreMembers (ap (λ o. unwrap_or o ts) e) tt
   members_whole (json.member k d ms) ts h e =
       let first = of_and_then (λ t. option_map (member k t) (whole_members ms)) (whole d) ts e in
@@ -53,7 +53,7 @@ mutual
       subst AreMembers rest.2 (precedes_whole k ms rest.0 rest.1 h.0, value_whole d first.0 h.1 first.1, members_whole ms rest.0 h.2 rest.1)
 
 mutual
-  depth_whole : (d : json.Data) (t : Tree) → whole d ≡ Some t → json.depth d ≡ depth t
+  pub depth_whole : (d : json.Data) (t : Tree) → whole d ≡ Some t → json.depth d ≡ depth t
   depth_whole json.null t e = ap (λ o. depth (unwrap_or o t)) e
   depth_whole (json.boolean b) t e = ap (λ o. depth (unwrap_or o t)) e
   depth_whole (json.number n) t e = let z = of_option_map number (as_i64 n) t e in ap depth z.2

@@ -8,6 +8,7 @@ pub mod OrderLaws
 pub mod Path
 pub mod PathLength
 pub mod Printed
+pub mod Reading
 pub mod Shape
 pub mod ShapeFalls
 pub mod TextOrder

@@ -1,12 +1,14 @@
 //! A document: an object within the limits, whose keys are in order.
 ghost use Rattle.std.specs.Prelude.{◌≡◌, ◌⊎◌, ◌≤◌, length, IfOk};
 ghost use Rattle.q_doc.specs.Document.{IsPlainDocument, HasTexts};
-ghost use Rattle.q_doc.specs.Judged.{judged};
+ghost use Rattle.q_doc.specs.Found.{found};
+ghost use Rattle.q_doc.specs.Judged.{judged, judged_found};
 ghost use Rattle.q_doc.specs.Printed.{printed};
 
 use crate::convert::{depth_of, node_of, value_of};
 use crate::node::Node;
 use crate::print::write_node;
+use crate::reading::{Halt, ReadRoom, object_in};
 use crate::refusal::{DocRefusal, Memory};
 use crate::text::Text;
 use json::Writer;
@@ -18,6 +20,9 @@ pub const MAX_LENGTH: usize = 65_536;
 
 /// The greatest depth of a document. An object of plain values has depth 1.
 pub const MAX_DEPTH: usize = 32;
+
+/// The room that a text is printed into at first, in bytes. Most texts fit.
+const FIRST_ROOM: usize = 256;
 
 /// A document. Contracts see its value, a `Tree`.
 #[derive(Drop)]
@@ -45,9 +50,28 @@ impl Doc {
     pub fn read(alloc: Global, text: &[u8]) -> Result<Doc, DocRefusal>
         ensures { (result ≡ Err DocRefusal.Memory) ⊎ (result ≡ judged text.now) }
     {
+        Doc::read_with(alloc, text, &mut ReadRoom::new(alloc))
+    }
+
+    /// Reads a document as `read` does, in a room that is lent to one read after another.
+    pub fn read_with(alloc: Global, text: &[u8], room: &mut ReadRoom) -> Result<Doc, DocRefusal>
+        ensures { (result ≡ Err DocRefusal.Memory) ⊎ (result ≡ judged text.now) }
+    {
         if text.len() > MAX_LENGTH {
             return Err(DocRefusal::TooLong { length: text.len() });
         }
+        match object_in(alloc, text, room) {
+            Ok(root) => Ok(Doc { root }),
+            Err(Halt::Unsure) => Doc::read_any(alloc, text),
+            Err(Halt::Memory) => Err(DocRefusal::Memory),
+        }
+    }
+
+    /// Reads a document the long way, by its JSON value, which tells each cause of refusal.
+    #[cold]
+    fn read_any(alloc: Global, text: &[u8]) -> Result<Doc, DocRefusal>
+        ensures { (result ≡ Err DocRefusal.Memory) ⊎ (result ≡ judged_found (found text.now)) }
+    {
         let value = match value_of(alloc, text) {
             Ok(value) => value,
             Err(refusal) => return Err(refusal),
@@ -70,9 +94,11 @@ impl Doc {
         ensures text { IfOk result (λ s. s ≡ printed self.now) }
         ensures reads_back { IfOk result (λ s. length s ≤ MAX_LENGTH → judged s ≡ Ok self.now) }
     {
-        let mut out = Writer::new(Vec::new(alloc));
+        let mut out = Writer::new(Vec::with_capacity(alloc, FIRST_ROOM)?);
         write_node(&self.root, &mut out)?;
-        Ok(Text::of(out.into_inner()))
+        let mut bytes = out.into_inner();
+        bytes.shrink_to_fit();
+        Ok(Text::of(bytes))
     }
 
     /// The document's value, which is an object.

@@ -10,6 +10,7 @@ mod node;
 mod order;
 mod path;
 mod print;
+mod reading;
 mod refusal;
 #[cfg(test)]
 mod tests;
@@ -19,5 +20,6 @@ pub use doc::{Doc, MAX_DEPTH, MAX_LENGTH};
 pub use node::{Node, Shape};
 pub use order::compare;
 pub use path::{MAX_SEGMENTS, Path};
+pub use reading::ReadRoom;
 pub use refusal::{DocRefusal, Memory};
 pub use text::Text;

@@ -1,5 +1,5 @@
 //! What no clause says: that the answers are those of outside vectors, and that calls succeed.
-use crate::{Doc, DocRefusal, Node, Path, Shape, Text, compare};
+use crate::{Doc, DocRefusal, Node, Path, ReadRoom, Shape, Text, compare};
 use std::alloc::Global;
 use std::cmp::Ordering;
 use std::test::Fail;
@@ -60,6 +60,30 @@ fn answer(alloc: Global, text: &[u8]) -> Result<Vec<u8>, Fail> {
     }
 }
 
+/// The same, where the room is lent.
+fn answer_with(alloc: Global, text: &[u8], room: &mut ReadRoom) -> Result<Vec<u8>, Fail> {
+    match Doc::read_with(alloc, text, room) {
+        Ok(doc) => Ok(doc.print(alloc)?.into_vec()),
+        Err(refusal) => Ok(refusal.word().to_vec(alloc)?),
+    }
+}
+
+/// An object with these letters as keys, each twice in a row, and null as values.
+fn of_keys(alloc: Global, keys: &[u8]) -> Result<Vec<u8>, Fail> {
+    let mut text = b"{".to_vec(alloc)?;
+    for key in keys {
+        if text.len() > 1 {
+            text.push(b',')?;
+        }
+        text.push(b'"')?;
+        text.push(*key)?;
+        text.push(*key)?;
+        text.extend_from_slice(b"\":null")?;
+    }
+    text.push(b'}')?;
+    Ok(text)
+}
+
 /// An object with one member, of arrays in one another, so that it nests this deep.
 fn nested(alloc: Global, depth: usize) -> Result<Vec<u8>, Fail> {
     let mut text = b"{\"a\":".to_vec(alloc)?;
@@ -97,6 +121,33 @@ fn texts_are_judged(rt: HostRuntime) -> Result<(), Fail> {
     }
     let bad = answer(rt.alloc(), b"{\"a\":\"\xff\"}")?;
     assert!(rt; bad.as_slice() == b"not_json".as_slice());
+    Ok(())
+}
+
+#[test]
+fn a_room_is_lent_again(rt: HostRuntime) -> Result<(), Fail> {
+    let mut room = ReadRoom::new(rt.alloc());
+    for case in &CASES {
+        let found = answer_with(rt.alloc(), case.0.as_bytes(), &mut room)?;
+        assert!(rt; found.as_slice() == case.1.as_bytes(), "at {}", case.0);
+    }
+    Ok(())
+}
+
+#[test]
+fn keys_are_put_in_order(rt: HostRuntime) -> Result<(), Fail> {
+    let mut keys = b"#$%&'()*+,-./0123456789:;<=>?@ABCDEFGHIJKLMNOPQRSTUVWXYZ[".to_vec(rt.alloc())?;
+    let few = of_keys(rt.alloc(), &keys)?;
+    keys.reverse();
+    let few_back = of_keys(rt.alloc(), &keys)?;
+    assert!(rt; answer(rt.alloc(), &few_back)? == few);
+    keys.reverse();
+    keys.extend_from_slice(b"]^_`abcdefghijklmnopqrstuvwxyz{|}~")?;
+    let many = of_keys(rt.alloc(), &keys)?;
+    keys.reverse();
+    let many_back = of_keys(rt.alloc(), &keys)?;
+    assert!(rt; answer(rt.alloc(), &many_back)? == many);
+    assert!(rt; answer(rt.alloc(), &many)? == many);
     Ok(())
 }
 

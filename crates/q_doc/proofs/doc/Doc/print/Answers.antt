@@ -10,16 +10,16 @@ use Rattle.q_doc.proofs.doc.Doc.print.Goals as goal
 -- the tokens that were written are those of the document
 pub returns-clause-text : goal.returns-clause-text
 returns-clause-text c =
-    let nothing : c.write_node.new.out.before ≡ [] = c.in_ok-write_node.ensures.before ∙ c.new-out.ensures.before ∙ c.new.ensures.items in
+    let nothing : c.write_node.new.out.before ≡ [] = c.in_ok-write_node.ensures.before ∙ c.new-out.ensures.before ∙ c.in_ok-with_capacity.ensures.items in
     let written : c.write_node.new.out.tokens ≡ tokens_of c.self.inside.root = c.in_ok-write_node.ensures.ok ∙ ap (λ ts. ts ++ tokens_of c.self.inside.root) c.new-out.ensures.tokens in
-    c.of.ensures ∙ c.into_inner.ensures.items ∙ ap (λ b. b ++ print c.write_node.new.out.tokens) nothing ∙ ap print written
+    c.of.ensures ∙ c.shrink_to_fit.ensures.items ∙ c.into_inner-bytes.ensures.items ∙ ap (λ b. b ++ print c.write_node.new.out.tokens) nothing ∙ ap print written
     ∙ print-outline (data_of c.self.inside.root) ∙ ap printed c.self.view_is
 
 -- a reader finds these tokens in the text, which is UTF-8
 pub returns-clause-reads_back : goal.returns-clause-reads_back
 returns-clause-reads_back c short =
-    let nothing : c.write_node.new.out.before ≡ [] = c.in_ok-write_node.ensures.before ∙ c.new-out.ensures.before ∙ c.new.ensures.items in
+    let nothing : c.write_node.new.out.before ≡ [] = c.in_ok-write_node.ensures.before ∙ c.new-out.ensures.before ∙ c.in_ok-with_capacity.ensures.items in
     let written : c.write_node.new.out.tokens ≡ tokens_of c.self.inside.root = c.in_ok-write_node.ensures.ok ∙ ap (λ ts. ts ++ tokens_of c.self.inside.root) c.new-out.ensures.tokens in
-    let text : c.of.result ≡ print c.write_node.new.out.tokens = c.of.ensures ∙ c.into_inner.ensures.items ∙ ap (λ b. b ++ print c.write_node.new.out.tokens) nothing in
-    let utf8 : IsUtf8 c.of.result = subst IsUtf8 (sym text) c.into_inner.ensures.utf8 in
-    reads_back c.self.inside.root c.of.result c.self.invariant.0 utf8 (ap tokens text ∙ c.into_inner.ensures.reads_back ∙ written) short ∙ ap Ok c.self.view_is
+    let text : c.of.result ≡ print c.write_node.new.out.tokens = c.of.ensures ∙ c.shrink_to_fit.ensures.items ∙ c.into_inner-bytes.ensures.items ∙ ap (λ b. b ++ print c.write_node.new.out.tokens) nothing in
+    let utf8 : IsUtf8 c.of.result = subst IsUtf8 (sym text) c.into_inner-bytes.ensures.utf8 in
+    reads_back c.self.inside.root c.of.result c.self.invariant.0 utf8 (ap tokens text ∙ c.into_inner-bytes.ensures.reads_back ∙ written) short ∙ ap Ok c.self.view_is

@@ -2,7 +2,7 @@ use Rattle.std.proofs.Common.{arith, rules}
 use Rattle.serde_json.specs.View.{view}
 use Rattle.q_doc.proofs.ReadData.{found-IsRead}
 use Rattle.q_doc.proofs.WholeLemmas.{document_whole}
-use Rattle.q_doc.proofs.doc.Doc.read.Goals as goal
+use Rattle.q_doc.proofs.doc.Doc.read_any.Goals as goal
 
 -- an object that was read, is not too deep and has whole numbers
 pub invariant_of-result : goal.invariant_of-result

@@ -1,0 +1,228 @@
+//! Reading the tokens of a text straight into nodes, where nothing in the text is out of the way.
+ghost use Rattle.std.specs.Prelude.{◌≡◌, ◌+◌, ◌<◌, ◌≤◌, length, slice_index, ◌==◌, true, false, IsTrue, IfOk, IfSome, OnOk, Some, option_and_then};
+ghost use Rattle.json.specs.Json.{items, members as members_in_grammar, value};
+ghost use Rattle.serde_json.specs.Find.{as_i64};
+ghost use Rattle.serde_json.specs.Read.{number_from};
+ghost use Rattle.q_doc.specs.Tree.{items_of, members_of, is_object, depth as depth_of_tree, items_depth, members_depth};
+ghost use Rattle.q_doc.specs.Document.{AreMembers, HasTexts, ItemsHaveTexts, MembersHaveTexts};
+ghost use Rattle.q_doc.specs.Reading.{BEYOND, whole_in, tree_in, items_in, members_in, Reads, HoldsWhole, IsPlace};
+
+use crate::doc::MAX_DEPTH;
+use crate::node::{Node, Shape};
+use crate::text::Text;
+use fast_float::Numeral;
+use json::{Reader, Scratch, Token};
+use std::alloc::{AllocError, AllocFailed, Global};
+use std::cmp::Ordering;
+
+/// How many members a key may pass on its way to its place, so that no object takes quadratic time.
+const MAX_PASSED: usize = 64;
+
+/// What reading documents needs. One is made and lent to each read. It is 16 KiB large, so keep it
+/// where it is not moved. It grows to the longest text that was read.
+#[derive(Drop)]
+pub struct ReadRoom {
+    scratch: Scratch,
+}
+
+impl ReadRoom {
+    /// A room, which takes no memory until it is lent.
+    pub fn new(alloc: Global) -> ReadRoom {
+        ReadRoom {
+            scratch: Scratch::new(alloc),
+        }
+    }
+}
+
+/// Why no object was read. The long way, by the text's JSON value, tells the cause.
+#[derive(Clone, Copy, Drop)]
+pub(crate) enum Halt {
+    /// The text is no document, or has a number that is not whole, equal keys in one object, or an
+    /// object of many members out of order.
+    Unsure,
+    /// There was no memory.
+    Memory,
+}
+
+impl From<AllocError> for Halt {
+    fn from(_error: AllocError) -> Halt {
+        Halt::Memory
+    }
+}
+
+impl<T: Drop> From<AllocFailed<T>> for Halt {
+    fn from(_error: AllocFailed<T>) -> Halt {
+        Halt::Memory
+    }
+}
+
+/// The object that a text holds, if it nests no deeper than a document may.
+pub(crate) fn object_in(alloc: Global, bytes: &[u8], room: &mut ReadRoom) -> Result<Node, Halt>
+    ensures ok { IfOk result (HoldsWhole bytes.now) }
+    ensures texts { IfOk result HasTexts }
+    ensures object { IfOk result (λ t. is_object t ≡ true) }
+    ensures nests { IfOk result (λ t. depth_of_tree t ≤ MAX_DEPTH) }
+{
+    let Ok(text) = simdutf8::compat::from_utf8(bytes) else {
+        return Err(Halt::Unsure);
+    };
+    let Ok(mut reader) = Reader::new(text, &mut room.scratch) else {
+        return Err(Halt::Memory);
+    };
+    let node = read_node(alloc, &mut reader, MAX_DEPTH)?;
+    if reader.next().is_some() {
+        return Err(Halt::Unsure);
+    }
+    match &node.shape {
+        Shape::Object(_) => Ok(node),
+        _ => Err(Halt::Unsure),
+    }
+}
+
+/// The next value, if it nests at most this deep.
+#[cycle(read_node)]
+#[inline(always)]
+fn read_node(alloc: Global, reader: &mut Reader<'_>, depth: usize) -> Result<Node, Halt>
+    ensures ok { IfOk result (λ t. Reads tree_in (value (depth + BEYOND) reader.old) t reader.new) }
+    ensures texts { IfOk result HasTexts }
+    ensures nests { IfOk result (λ t. depth_of_tree t ≤ depth) }
+    ensures shorter { OnOk result (length reader.new < length reader.old) }
+{
+    let token = reader.next().ok_or(Halt::Unsure)?;
+    match token {
+        Token::String(text) => {
+            let owned = Text::from_string(String::from_str(alloc, text)?);
+            Ok(Node {
+                shape: Shape::Text(owned),
+            })
+        }
+        Token::Number(text) => match whole_number(text.as_bytes()) {
+            Some(number) => Ok(Node {
+                shape: Shape::Number(number),
+            }),
+            None => Err(Halt::Unsure),
+        },
+        Token::Bool(value) => Ok(Node {
+            shape: Shape::Bool(value),
+        }),
+        Token::Null => Ok(Node { shape: Shape::Null }),
+        Token::EndObject | Token::EndArray | Token::Key(_) | Token::Bad => Err(Halt::Unsure),
+        Token::BeginArray => {
+            if depth == 0 {
+                return Err(Halt::Unsure);
+            }
+            let items = read_items(alloc, reader, depth - 1)?;
+            Ok(Node {
+                shape: Shape::Array(items),
+            })
+        }
+        Token::BeginObject => {
+            if depth == 0 {
+                return Err(Halt::Unsure);
+            }
+            let members = read_members(alloc, reader, depth - 1)?;
+            Ok(Node {
+                shape: Shape::Object(members),
+            })
+        }
+    }
+}
+
+#[cycle(read_node)]
+#[inline(never)]
+fn read_items(alloc: Global, reader: &mut Reader<'_>, depth: usize) -> Result<Vec<Node>, Halt>
+    ensures ok { IfOk result
+        (λ v. Reads items_in (items (value (depth + BEYOND)) (length reader.old) reader.old)
+        (items_of v.items) reader.new) }
+    ensures texts { IfOk result (λ v. ItemsHaveTexts (items_of v.items)) }
+    ensures nests { IfOk result (λ v. items_depth (items_of v.items) ≤ depth) }
+    ensures shorter { OnOk result (length reader.new < length reader.old) }
+{
+    let mut found = Vec::new(alloc);
+    'items: while !reader.take_end_array() {
+        let item = read_node(alloc, reader, depth)?;
+        found.push(item)?;
+    }
+    found.shrink_to_fit();
+    Ok(found)
+}
+
+#[cycle(read_node)]
+#[inline(never)]
+fn read_members(
+    alloc: Global,
+    reader: &mut Reader<'_>,
+    depth: usize,
+) -> Result<Vec<(Text, Node)>, Halt>
+    ensures ok { IfOk result
+        (λ v. Reads members_in
+        (members_in_grammar (value (depth + BEYOND)) (length reader.old) reader.old)
+        (members_of v.items) reader.new) }
+    ensures texts { IfOk result (λ v. MembersHaveTexts (members_of v.items)) }
+    ensures nests { IfOk result (λ v. members_depth (members_of v.items) ≤ depth) }
+    ensures shorter { OnOk result (length reader.new < length reader.old) }
+{
+    let mut found = Vec::new(alloc);
+    'members: while let Some(name) = reader.next_key().or(Err(Halt::Unsure))? {
+        let place = place_of(&found, name.as_bytes()).ok_or(Halt::Unsure)?;
+        let key = Text::from_string(String::from_str(alloc, name)?);
+        let node = read_node(alloc, reader, depth)?;
+        found.insert(place, (key, node))?;
+    }
+    found.shrink_to_fit();
+    Ok(found)
+}
+
+/// Where a key goes among members in order, if it is none of theirs and passes few.
+fn place_of(members: &[(Text, Node)], name: &[u8]) -> Option<usize>
+    requires { AreMembers (members_of members.now) }
+    ensures place { IfSome result (λ place. IsPlace name.now place members.now) }
+    ensures within { IfSome result (λ place. place ≤ length members.now) }
+{
+    let count = members.len();
+    for passed in 0..count.min(MAX_PASSED) {
+        let place = count - passed;
+        match name.cmp(members[place - 1].0.as_slice()) {
+            Ordering::Greater => return Some(place),
+            Ordering::Equal => return None,
+            Ordering::Less => {}
+        }
+    }
+    if count <= MAX_PASSED { Some(0) } else { None }
+}
+
+/// The number that a token of JSON writes, where it is whole and fits.
+#[inline(always)]
+fn whole_number(text: &[u8]) -> Option<i64>
+    ensures { IfSome result (λ z. whole_in text.now ≡ Some z) }
+{
+    if has_minus(text) {
+        negative(&Numeral::scan(&text[1..]))
+    } else {
+        positive(&Numeral::scan(text))
+    }
+}
+
+#[inline(always)]
+fn has_minus(text: &[u8]) -> bool
+    ensures value { result ≡ (slice_index text.now 0 == 45) }
+    ensures len { IsTrue result → 0 < length text.now }
+{
+    !text.is_empty() && text[0] == b'-'
+}
+
+#[inline(always)]
+fn positive(numeral: &Numeral<'_>) -> Option<i64>
+    ensures { IfSome result (λ z. option_and_then as_i64 (number_from false numeral.now) ≡ Some z) }
+{
+    numeral.to_i64(false)
+}
+
+/// Zero with a minus is a fraction.
+#[inline(always)]
+fn negative(numeral: &Numeral<'_>) -> Option<i64>
+    ensures { IfSome result (λ z. option_and_then as_i64 (number_from true numeral.now) ≡ Some z) }
+{
+    let number = numeral.to_i64(true)?;
+    if number < 0 { Some(number) } else { None }
+}
