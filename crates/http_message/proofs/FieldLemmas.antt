@@ -1,53 +1,44 @@
--- One field more, and one digit more.
-use Rattle.std.proofs.Common.{◌≡◌, ℕ, ◌+◌, ◌*◌, ◌<◌, ◌≤◌, min, List, [], ◌∷◌, ◌++◌, length, take, map, filter, get_or, true, false, if◌then◌else◌, refl, sym, ◌∙◌, ap, arith, inl, inr, Some, None, nat_le}
-use Rattle.std.proofs.lemmas.List.{take_more, map-append, map_more}
+-- One field more among the fields of a name.
+use Rattle.std.proofs.Common.{◌≡◌, ℕ, ◌+◌, ◌<◌, Bool, List, [], ◌∷◌, ◌++◌, ◌||◌, ◌&&◌, length, take, drop, map, filter, get_or, true, false, if◌then◌else◌, refl, sym, ◌∙◌, ap, inl, inr}
+use Rattle.std.proofs.lemmas.List.{map-append, map_more, take-append-drop}
 use Rattle.std.proofs.lemmas.List.Elements.{filter-append}
-use Rattle.std.proofs.lemmas.List.Folds.{list_all_at}
-use Rattle.std.proofs.lemmas.Bool.{cases_Bool, true≢false, lt-leb, le-leb}
-use Rattle.std.proofs.lemmas.Int.Digits.{digits_value_push}
-use Rattle.std.specs.Char.{is_ascii_digit, digit_value}
-use Rattle.std.specs.List.{list_all}
-use Rattle.std.specs.Str.Parse.{digits_value}
+use Rattle.std.proofs.lemmas.Option.{slice_get-map}
+use Rattle.std.specs.Prelude.{slice_get, option_map, Some}
+use Rattle.std.proofs.lemmas.List.Folds.{list_any-append}
+use Rattle.std.proofs.lemmas.Bool.{cases_Bool}
+use Rattle.std.specs.List.{list_any}
 use Rattle.httparse.specs.Spans.{header_bytes, span_bytes}
 use Rattle.httparse.specs.declared.spans.HeaderSpan.{HeaderSpan}
-use Rattle.httparse.specs.declared.spans.Span.{Span}
-use Rattle.http_message.specs.Named.{IsNamed}
-use Rattle.http_message.specs.declared.fields.Named.TheVariants.{Once, Twice}
-use Rattle.http_message.specs.Fields.{Pair, values, is_named, is_number, stated_length}
+use Rattle.http_message.specs.Fields.{Pair, values, is_named}
 
--- the values of a name, with one more field behind the others
-pub values-push : (name : List ℕ) (pairs : List Pair) (pair : Pair)
-    → values name (pairs ++ pair ∷ []) ≡ values name pairs ++ (if is_named name pair then pair.1 ∷ [] else [])
+-- no field has a name
+pub values-nil : (name : List ℕ) → values name [] ≡ []
 unfolding values
-values-push name pairs pair =
-    let last : map (λ (p : Pair). p.1) (filter (is_named name) (pair ∷ [])) ≡ (if is_named name pair then pair.1 ∷ [] else []) =
-    elim (cases_Bool (is_named name pair)) [ inl e ↦ rw e refl | inr e ↦ rw e refl ] in
-    ap (map (λ (p : Pair). p.1)) (filter-append (is_named name) pairs (pair ∷ []))
-    ∙ map-append (λ (p : Pair). p.1) (filter (is_named name) pairs) (filter (is_named name) (pair ∷ []))
-    ∙ ap (λ ys. map (λ (p : Pair). p.1) (filter (is_named name) pairs) ++ ys) last
+values-nil name = refl
 
--- each of some digits is one
-pub digit_at : (digits : List ℕ) (i : ℕ) → list_all is_ascii_digit digits ≡ true → i < length digits
-    → is_ascii_digit (get_or digits i 0) ≡ true
-digit_at digits i all below =
-    elim (cases_Bool (is_ascii_digit (get_or digits i 0))) [
-      | inl e ↦ e
-      | inr e ↦ absurd (true≢false (sym all ∙ list_all_at is_ascii_digit digits i 0 below e))
-    ]
+-- the values of a name in two parts of the fields
+pub values-append : (name : List ℕ) (pairs others : List Pair)
+    → values name (pairs ++ others) ≡ values name pairs ++ values name others
+unfolding values
+values-append name pairs others =
+    ap (map (λ (p : Pair). p.1)) (filter-append (is_named name) pairs others)
+    ∙ map-append (λ (p : Pair). p.1) (filter (is_named name) pairs) (filter (is_named name) others)
 
--- a number that is capped, with one digit more
-pub capped_step : (value digit most : ℕ) → 0 < most
-    → min (min value most * 10 + digit) most ≡ min (value * 10 + digit) most
-capped_step value digit most some = omega arith
+-- the values of a name in one field
+pub values-one : (name : List ℕ) (pair : Pair)
+    → values name (pair ∷ []) ≡ (if is_named name pair then pair.1 ∷ [] else [])
+unfolding values
+values-one name pair =
+    elim (cases_Bool (is_named name pair)) [ inl e ↦ rw e refl | inr e ↦ rw e refl ]
 
--- the capped number that digits write, with one more
-pub number_more : (digits : List ℕ) (i number digit most : ℕ) → i < length digits → 0 < most
-    → number ≡ min (digits_value 10 (take i digits)) most → digit ≡ digit_value (get_or digits i 0)
-    → min (number * 10 + digit) most ≡ min (digits_value 10 (take (i + 1) digits)) most
-number_more digits i number digit most below some is value =
-    let more : digits_value 10 (take (i + 1) digits) ≡ digits_value 10 (take i digits) * 10 + digit_value (get_or digits i 0) =
-    ap (digits_value 10) (take_more digits i 0 below) ∙ digits_value_push 10 (take i digits) (get_or digits i 0) in
-    rw (is, value, more) (capped_step (digits_value 10 (take i digits)) (digit_value (get_or digits i 0)) most some)
+-- the first fields, with the next one
+fields_more : (text : List ℕ) (fields : List HeaderSpan) (i : ℕ) (field : HeaderSpan)
+    → i < length fields → field ≡ get_or fields i field
+    → map (header_bytes text) (take (i + 1) fields)
+    ≡ map (header_bytes text) (take i fields) ++ header_bytes text field ∷ []
+fields_more text fields i field below is =
+    map_more (header_bytes text) fields i field below
+    ∙ ap (λ (f : HeaderSpan). map (header_bytes text) (take i fields) ++ header_bytes text f ∷ []) (sym is)
 
 -- the values of a name among the first fields, with the next one
 pub values_more : (text name : List ℕ) (fields : List HeaderSpan) (i : ℕ) (field : HeaderSpan)
@@ -56,44 +47,62 @@ pub values_more : (text name : List ℕ) (fields : List HeaderSpan) (i : ℕ) (f
     ≡ values name (map (header_bytes text) (take i fields))
     ++ (if is_named name (header_bytes text field) then span_bytes text field.value ∷ [] else [])
 values_more text name fields i field below is =
-    let more : map (header_bytes text) (take (i + 1) fields)
-    ≡ map (header_bytes text) (take i fields) ++ header_bytes text field ∷ [] =
-    map_more (header_bytes text) fields i field below
-    ∙ ap (λ (f : HeaderSpan). map (header_bytes text) (take i fields) ++ header_bytes text f ∷ []) (sym is) in
-    ap (values name) more ∙ values-push name (map (header_bytes text) (take i fields)) (header_bytes text field)
+    ap (values name) (fields_more text fields i field below is)
+    ∙ values-append name (map (header_bytes text) (take i fields)) (header_bytes text field ∷ [])
+    ∙ ap (λ ys. values name (map (header_bytes text) (take i fields)) ++ ys) (values-one name (header_bytes text field))
 
--- no field has a name
-pub values-nil : (name : List ℕ) → values name [] ≡ []
-unfolding values
-values-nil name = refl
+-- a test of the values of a name in one field
+any_one : (test : List ℕ → Bool) (name : List ℕ) (pair : Pair)
+    → list_any test (values name (pair ∷ [])) ≡ (is_named name pair && test pair.1)
+any_one test name pair =
+    rw values-one (elim (cases_Bool (is_named name pair)) [
+      | inl e ↦ rw e (elim (cases_Bool (test pair.1)) [ inl t ↦ rw t refl | inr t ↦ rw t refl ])
+      | inr e ↦ rw e refl
+    ])
 
--- what a text states that is no number, or a number above the limit, or within it
-pub stated_no_number : (text : List ℕ) → is_number text ≡ false → stated_length text ≡ None
-unfolding stated_length
-stated_no_number text other = rw other refl
+-- a test of the values of a name among the first fields, with the next one
+pub any_more : (test : List ℕ → Bool) (text name : List ℕ) (fields : List HeaderSpan) (i : ℕ) (field : HeaderSpan)
+    → i < length fields → field ≡ get_or fields i field
+    → list_any test (values name (map (header_bytes text) (take (i + 1) fields)))
+    ≡ (list_any test (values name (map (header_bytes text) (take i fields)))
+    || (is_named name (header_bytes text field) && test (span_bytes text field.value)))
+any_more test text name fields i field below is =
+    ap (λ ps. list_any test (values name ps)) (fields_more text fields i field below is)
+    ∙ ap (list_any test) (values-append name (map (header_bytes text) (take i fields)) (header_bytes text field ∷ []))
+    ∙ list_any-append test (values name (map (header_bytes text) (take i fields))) (values name (header_bytes text field ∷ []))
+    ∙ ap (λ b. list_any test (values name (map (header_bytes text) (take i fields))) || b) (any_one test name (header_bytes text field))
 
-pub stated_above : (text : List ℕ) (number : ℕ) → is_number text ≡ true
-    → number ≡ min (digits_value 10 text) 65537 → 65536 < number → stated_length text ≡ None
-unfolding stated_length
-stated_above text number digits is above =
-    let not_fits : nat_le (digits_value 10 text) 65536 ≡ false = lt-leb (digits_value 10 text) 65536 (omega arith) in
-    rw (digits, not_fits) refl
-
-pub stated_within : (text : List ℕ) (number : ℕ) → is_number text ≡ true
-    → number ≡ min (digits_value 10 text) 65537 → number ≤ 65536 → stated_length text ≡ Some number
-unfolding stated_length
-stated_within text number digits is within =
-    let fits : nat_le (digits_value 10 text) 65536 ≡ true = le-leb (digits_value 10 text) 65536 (omega arith) in
-    let value : digits_value 10 text ≡ number = omega arith in
-    rw (digits, fits) (ap Some value)
+-- a test that some value passes among the first fields passes among all
+pub any_kept : (test : List ℕ → Bool) (text name : List ℕ) (fields : List HeaderSpan) (i : ℕ)
+    → list_any test (values name (map (header_bytes text) (take i fields))) ≡ true
+    → list_any test (values name (map (header_bytes text) fields)) ≡ true
+any_kept test text name fields i some =
+    let whole : list_any test (values name (map (header_bytes text) (take i fields ++ drop i fields)))
+    ≡ (list_any test (values name (map (header_bytes text) (take i fields)))
+    || list_any test (values name (map (header_bytes text) (drop i fields)))) =
+    ap (λ ps. list_any test (values name ps)) (map-append (header_bytes text) (take i fields) (drop i fields))
+    ∙ ap (list_any test) (values-append name (map (header_bytes text) (take i fields)) (map (header_bytes text) (drop i fields)))
+    ∙ list_any-append test (values name (map (header_bytes text) (take i fields))) (values name (map (header_bytes text) (drop i fields))) in
+    let joined : take i fields ++ drop i fields ≡ fields = take-append-drop i fields in
+    rw joined at (whole ∙ ap (λ b. b || list_any test (values name (map (header_bytes text) (drop i fields)))) some)
 
 -- a second value, and one behind two
-pub named_second : (text : List ℕ) (found : List (List ℕ)) (value : Span) (bytes : List ℕ)
-    → IsNamed text found (Once value) → IsNamed text (found ++ bytes ∷ []) Twice
-named_second text found value bytes is =
-    (span_bytes text value, bytes, [], ap (λ (vs : List (List ℕ)). vs ++ bytes ∷ []) is)
+pub named_second : (found : List (List ℕ)) (value bytes : List ℕ)
+    → found ≡ value ∷ []
+    → (first second : List ℕ) × (others : List (List ℕ)) × (found ++ bytes ∷ [] ≡ first ∷ second ∷ others)
+named_second found value bytes is = (value, bytes, [], ap (λ (vs : List (List ℕ)). vs ++ bytes ∷ []) is)
 
-pub named_more : (text : List ℕ) (found : List (List ℕ)) (bytes : List ℕ)
-    → IsNamed text found Twice → IsNamed text (found ++ bytes ∷ []) Twice
-named_more text found bytes (first, second, others, is) =
+pub named_more : (found : List (List ℕ)) (bytes : List ℕ)
+    → ((first second : List ℕ) × (others : List (List ℕ)) × (found ≡ first ∷ second ∷ others))
+    → (first second : List ℕ) × (others : List (List ℕ)) × (found ++ bytes ∷ [] ≡ first ∷ second ∷ others)
+named_more found bytes (first, second, others, is) =
     (first, second, others ++ bytes ∷ [], ap (λ (vs : List (List ℕ)). vs ++ bytes ∷ []) is)
+
+-- a part of the field at a place
+pub part_at : (part : Pair → List ℕ) (fields : List Pair) (place : ℕ) (pair : Pair)
+    → slice_get fields place ≡ Some pair → slice_get (map part fields) place ≡ Some (part pair)
+part_at part fields place pair is = slice_get-map part fields place ∙ ap (option_map part) is
+
+-- no field passes a test
+pub any_nil : (test : List ℕ → Bool) (name : List ℕ) → list_any test (values name []) ≡ false
+any_nil test name = rw values-nil refl

@@ -1,172 +1,245 @@
--- From what stands at the front of the bytes that are held to the item that they begin with.
-use Rattle.std.proofs.Common.{◌≡◌, ℕ, ◌+◌, ◌-◌, ◌<◌, ◌≤◌, List, ◌++◌, length, take, drop, true, refl, sym, ◌∙◌, ap, subst, arith, lit≤, if◌then◌else◌, inl, inr}
-use Rattle.std.proofs.Math.Seq.{take-add}
-use Rattle.std.proofs.lemmas.Bool.{cases_Bool}
-use Rattle.std.proofs.lemmas.List.{drop-take, drop-drop, drop-append-le, take-append-le, length-take-le, length-drop, length-append}
-use Rattle.httparse.specs.Spans.{span_bytes}
-use Rattle.http_message.specs.Built.{Target, AreNames, fits}
-use Rattle.http_message.specs.Found.{IsReturnAt, IsTextAt, IsTooLarge, IsUnfinished}
+-- From the bytes at the front of a stream to the item that they are.
+use Rattle.std.proofs.Common.{◌≡◌, ℕ, ◌+◌, ◌-◌, ◌<◌, ◌≤◌, List, [], ◌∷◌, ◌++◌, length, map, take, drop, Bool, true, false, nat_lt, nat_le, nat_eq, refl, sym, ◌∙◌, ap, subst, arith, lit≤, inl, inr}
+use Rattle.std.specs.Prelude.{Option, Result, Ok, codes}
+use Rattle.std.specs.Str.Parse.{digits_value}
+use Rattle.std.specs.Str.{str_eq_ignore_ascii_case}
+use Rattle.std.proofs.lemmas.Bool.{cases_Bool, leb-true, lt-ltb}
+use Rattle.std.proofs.lemmas.List.{append-nil, drop-take, drop-append-le, take-append-drop, length-take-le, length-drop, length-append, take_at}
+use Rattle.httparse.specs.Grammar.{RequestHead}
+use Rattle.httparse.specs.Spans.{name_and_value}
+use Rattle.httparse.specs.declared.spans.HeaderSpan.{HeaderSpan}
+use Rattle.httparse.specs.declared.spans.RequestSpans.{RequestSpans}
+use Rattle.http_message.specs.Fields.{values}
+use Rattle.http_message.specs.Found.{IsReturnAt, IsTextAt, IsTooLarge}
+use Rattle.http_message.specs.Framing.{framing_of, framing_by, framing_by_length, framing_by_codings, is_length, calls}
 use Rattle.http_message.specs.Head.{IsNoHead}
-use Rattle.http_message.specs.Item.{Item, bad_head, not_built, request, IsItemOf, no_head, unbuilt, whole, IsItemBy, IsOpen, no_text, cut_short}
-use Rattle.http_message.specs.Parts.{ArePartsOf, request_in, IsItemAt, IsRequestHeld, IsTaken}
-use Rattle.http_message.specs.Shape.{target_in, built_in, IsTargetWithin, IsBuiltFrom, IsUnbuilt}
-use Rattle.http_message.specs.Text.{Front, BareReturn, Text, TooLarge, front_of, lead_length, is_blank}
-use Rattle.http_message.specs.declared.build.Shape.{Shape}
-use Rattle.http_message.specs.declared.parts.Parts.{Parts}
-use Rattle.http_message.specs.declared.parts.Taken.{Taken}
-use Rattle.http_message.specs.declared.parts.Taken.TheVariants.{Request, BadHead, NotBuilt, InputEnd, Truncated, ReadFault}
-use Rattle.http_message.proofs.BuildLemmas.{built_parts}
-use Rattle.http_message.proofs.FrontLemmas.{settled_text, settled_return, settled_large, settles_take, settles_grow}
-use Rattle.http_message.proofs.TargetLemmas.{target_front, target_wider}
+use Rattle.http_message.specs.Headed.{HasRoom, BeginsFramed, BeginsBad, IsHeaded, Heads}
+use Rattle.http_message.specs.Input.{Grows}
+use Rattle.http_message.specs.Item.{Item, request, unframed, continues, IsFramed, sized, chunked, broken, IsItemOf, no_head, bad_head, IsItemBy, IsItem}
+use Rattle.http_message.specs.Judged.{IsRefusedHead, IsFramedHead}
+use Rattle.http_message.specs.Text.{Front, BareReturn, Text, TooLarge, front_of, lead_length}
+use Rattle.http_message.specs.declared.framing.Framing.{Framing}
+use Rattle.http_message.specs.declared.framing.Framing.TheVariants.{Sized, Chunked}
+use Rattle.http_message.specs.declared.headed.Headed.{Headed}
+use Rattle.http_message.specs.declared.headed.Headed.TheVariants.{Bad}
+use Rattle.http_message.specs.declared.refused.Refused.{Refused}
+use Rattle.http_message.specs.declared.refused.Refused.TheVariants.{BadHead, HeadTooLarge}
+use Rattle.http_message.proofs.FrontLemmas.{settled_text, settled_return, settled_large, settles_take}
 
 -- the length of the text
 pub text_size : (held : List ℕ) (lead size : ℕ) → IsTextAt held lead size → length (take size (drop lead held)) ≡ size
 text_size held lead size at =
     length-take-le size (drop lead held) (omega (arith, at.within, length-drop lead held))
 
--- the text of a head, with the bytes behind it that are its body, is an item
-pub text_item : (held : List ℕ) (lead size k n : ℕ) (item : Item) → IsTextAt held lead size
-    → n ≡ (lead + size) + k → n ≤ length held → k ≤ 65536
-    → IsItemOf (take size (drop lead held)) (take k (drop (lead + size) held)) item → IsItemAt held n item
-text_item held lead size k n item at sum fits small is =
+-- the empty lines and the text of a head decide what stands at the front, whatever follows them
+pub record Fronts (first text : List ℕ) : Type 0 where
+  pub front : (more : List ℕ) → front_of (first ++ more) ≡ Text text
+  pub behind : (more : List ℕ) → drop (lead_length (first ++ more)) (first ++ more) ≡ text ++ more
+
+pub text_fronts : (held : List ℕ) (lead size : ℕ) → IsTextAt held lead size
+    → Fronts (take (lead + size) held) (take size (drop lead held))
+text_fronts held lead size at =
     let text = take size (drop lead held) in
-    let body = take k (drop (lead + size) held) in
+    let first = take (lead + size) held in
     let settled = settled_text held text at.front in
-    let enough : lead_length held + length text ≤ n =
-    omega (arith, text_size held lead size at, at.lead_is, sum) in
-    let cut = settles_take held (lead_length held + length text) n (Text text) enough settled.settles in
-    let lead_cut : lead_length (take n held) ≡ lead = cut.1 ∙ sym at.lead_is in
-    let total : n ≡ lead + (size + k) = omega arith in
-    let behind : drop lead (take n held) ≡ text ++ body =
-    ap (λ m. drop lead (take m held)) total ∙ drop-take lead (size + k) held
-    ∙ take-add size k (drop lead held) ∙ ap (λ xs. text ++ take k xs) (drop-drop size lead held) in
-    let split : drop (lead_length (take n held)) (take n held) ≡ text ++ body =
-    ap (λ m. drop m (take n held)) lead_cut ∙ behind in
-    let P : Front → Type 0 = λ front. IsItemBy front (take n held) item in
+    let whole : lead_length held + length text ≡ lead + size = omega (arith, text_size held lead size at, at.lead_is) in
+    let long : length first ≡ lead + size = length-take-le (lead + size) held at.within in
     record {
-      is = record { is = subst P (sym cut.0) (body, split, is) };
-      some = omega (arith, at.some, sum);
-      within = fits;
-      limit = omega (arith, at.limit, sum, small);
+      front = λ more. ap (λ n. front_of (take n held ++ more)) (sym whole) ∙ settled.settles.all more;
+      behind = λ more.
+          let leads : lead_length (first ++ more) ≡ lead =
+          ap (λ n. lead_length (take n held ++ more)) (sym whole) ∙ settled.settles.leads more ∙ sym at.lead_is in
+          ap (λ n. drop n (first ++ more)) leads
+          ∙ drop-append-le lead first more (omega (arith, long))
+          ∙ ap (λ xs. xs ++ more) (drop-take lead size held);
     }
 
--- a text that is no head, and a head of which nothing is built
-pub item_bad : (held : List ℕ) (lead size : ℕ) → IsTextAt held lead size → IsNoHead (take size (drop lead held))
-    → IsItemAt held (lead + size) bad_head
-item_bad held lead size at none =
-    text_item held lead size 0 (lead + size) bad_head at (omega arith) at.within (lit≤ tt) (no_head none refl refl)
+-- the text of a head, with what it frames behind it
+pub item_behind : (first text coded : List ℕ) (item : Item) → Fronts first text → IsItemOf text coded item
+    → IsItem (first ++ coded) item
+item_behind first text coded item fronts is =
+    let P : Front → Type 0 = λ front. IsItemBy front (first ++ coded) item in
+    record { is = subst P (sym (fronts.front coded)) (coded, fronts.behind coded, is) }
 
-pub item_unbuilt : (held : List ℕ) (lead size : ℕ) → IsTextAt held lead size → IsUnbuilt (take size (drop lead held))
-    → IsItemAt held (lead + size) not_built
-item_unbuilt held lead size at is =
-    text_item held lead size 0 (lead + size) not_built at (omega arith) at.within (lit≤ tt)
-    (unbuilt is.head is.is is.built refl refl)
+-- and without
+pub item_alone : (held : List ℕ) (lead size : ℕ) (item : Item) → IsTextAt held lead size
+    → IsItemOf (take size (drop lead held)) [] item → IsItem (take (lead + size) held) item
+item_alone held lead size item at is =
+    let P : List ℕ → Type 0 = λ bytes. IsItem bytes item in
+    subst P (append-nil (take (lead + size) held))
+    (item_behind (take (lead + size) held) (take size (drop lead held)) [] item (text_fronts held lead size at) is)
 
 -- a bare CR, and a window without a head
-pub item_return : (held : List ℕ) (lead : ℕ) → IsReturnAt held lead → IsItemAt held (lead + 2) bad_head
+pub item_return : (held : List ℕ) (lead : ℕ) → IsReturnAt held lead
+    → IsItem (take (lead + 2) held) (unframed BadHead false false)
 item_return held lead at =
     let enough : lead_length held + 2 ≤ lead + 2 = omega (arith, at.lead_is) in
     let cut = settles_take held (lead_length held + 2) (lead + 2) BareReturn enough (settled_return held at.front) in
-    let P : Front → Type 0 = λ front. IsItemBy front (take (lead + 2) held) bad_head in
+    let P : Front → Type 0 = λ front. IsItemBy front (take (lead + 2) held) (unframed BadHead false false) in
     let size : length (take (lead + 2) held) ≡ lead_length (take (lead + 2) held) + 2 =
     omega (arith, length-take-le (lead + 2) held at.within, cut.1, at.lead_is) in
-    record {
-      is = record { is = subst P (sym cut.0) (size, refl) };
-      some = omega arith;
-      within = at.within;
-      limit = omega (arith, at.limit);
-    }
+    record { is = subst P (sym cut.0) (size, refl) }
 
-pub item_large : (held : List ℕ) → IsTooLarge held → IsItemAt held 16384 not_built
+pub item_large : (held : List ℕ) → IsTooLarge held → IsItem (take 16384 held) (unframed HeadTooLarge false false)
 item_large held at =
     let cut = settles_take held 16384 16384 TooLarge (lit≤ tt) (settled_large held at.front) in
-    let P : Front → Type 0 = λ front. IsItemBy front (take 16384 held) not_built in
-    record {
-      is = record { is = subst P (sym cut.0) (length-take-le 16384 held at.full, refl) };
-      some = omega arith;
-      within = at.full;
-      limit = lit≤ tt;
-    }
+    let P : Front → Type 0 = λ front. IsItemBy front (take 16384 held) (unframed HeadTooLarge false false) in
+    record { is = subst P (sym cut.0) (length-take-le 16384 held at.full, refl) }
 
--- a built head with its body is a request
-pub item_request : (held : List ℕ) (lead size : ℕ) (shape : Shape) (parts : Parts) → IsTextAt held lead size
-    → IsBuiltFrom (take size (drop lead held)) shape → ArePartsOf lead (lead + size) shape parts
-    → (lead + size) + shape.size ≤ length held → IsRequestHeld held parts
-item_request held lead size shape parts at built are complete =
-    let text = take size (drop lead held) in
-    let body = take shape.size (drop (lead + size) held) in
-    let body_size : length body ≡ shape.size =
-    length-take-le shape.size (drop (lead + size) held) (omega (arith, complete, length-drop (lead + size) held)) in
-    let wide : IsTargetWithin size shape.target =
-    target_wider (length text) size shape.target (omega (arith, text_size held lead size at)) built.within.target in
-    let target : target_in held parts.target ≡ target_in text shape.target =
-    are.target held ∙ sym (target_front size (drop lead held) shape.target wide) in
-    let count : (lead + size) + shape.size - (lead + size) ≡ shape.size = omega arith in
-    let bytes : span_bytes held parts.body ≡ body =
-    rw (are.first, are.last) (ap (λ n. take n (drop (lead + size) held)) count) in
-    let item : request_in held parts ≡ request shape.method (target_in text shape.target) body =
-    rw (are.method, target, bytes) refl in
-    let made = built_parts built.head (built_in text shape) built.built in
-    let P : Target → Type 0 = λ named. fits shape.method named ≡ true in
-    record {
-      item = text_item held lead size shape.size parts.length (request_in held parts) at are.size
-          (omega (arith, are.size, complete)) built.within.body
-          (whole built.head (built_in text shape) built.is built.built body_size item);
-      target = target_wider (lead + size) parts.length parts.target (omega (arith, are.size)) are.target_within;
-      body = (omega (arith, are.first, are.last), omega (arith, are.size, are.last));
-      names = subst AreNames (sym target) made.0;
-      fit = rw are.method (subst P (sym target) made.1);
-      body_fits = rw bytes (omega (arith, body_size, built.within.body));
-    }
+-- the first bytes are dropped, as an item that has no body
+pub bad_first : (held rest : List ℕ) (refused : Refused) (used : ℕ) → IsItem (take used held) (unframed refused false false)
+    → rest ≡ drop used held → 0 < used → used ≤ 16384 → used ≤ length held → BeginsBad held rest refused used
+bad_first held rest refused used is rest_is some limit within = record {
+  first = take used held;
+  splits = sym (take-append-drop used held) ∙ ap (λ xs. take used held ++ xs) (sym rest_is);
+  is = is;
+  size_is = length-take-le used held within;
+  some = some;
+  limit = limit;
+}
 
--- the text of a head stays where more bytes have come
-pub text_grows : (before after got : List ℕ) (lead size : ℕ) → IsTextAt before lead size → after ≡ before ++ got
-    → (take size (drop lead after) ≡ take size (drop lead before)) × IsTextAt after lead size
-text_grows before after got lead size at adds =
-    let text = take size (drop lead before) in
-    let settled = settled_text before text at.front in
-    let grown = settles_grow before (lead_length before + length text) (Text text) got settled.settles in
-    let fits : size ≤ length (drop lead before) = omega (arith, at.within, length-drop lead before) in
-    let same : take size (drop lead after) ≡ text =
-    ap (λ xs. take size (drop lead xs)) adds
-    ∙ ap (take size) (drop-append-le lead before got (omega (arith, at.within)))
-    ∙ take-append-le size (drop lead before) got fits in (
-      same,
-      record {
-        front = ap front_of adds ∙ grown.0 ∙ ap Text (sym same);
-        lead_is = at.lead_is ∙ sym grown.1 ∙ ap lead_length (sym adds);
-        some = at.some;
-        within = omega (arith, at.within, ap length adds, length-append before got);
-        limit = at.limit;
-      },
-    )
+pub bad_text : (held rest : List ℕ) (refused : Refused) (lead size : ℕ) → IsTextAt held lead size
+    → IsItemOf (take size (drop lead held)) [] (unframed refused false false) → rest ≡ drop (lead + size) held
+    → BeginsBad held rest refused (lead + size)
+bad_text held rest refused lead size at is rest_is =
+    bad_first held rest refused (lead + size) (item_alone held lead size (unframed refused false false) at is) rest_is
+    (omega (arith, at.some)) at.limit at.within
 
--- the bytes hold no item, and may become one
-pub open_unfinished : (held : List ℕ) → IsUnfinished held → IsOpen held
-open_unfinished held at = no_text at.front
+-- a text that is no head, and a head that is refused
+pub bad_none : (held rest : List ℕ) (lead size : ℕ) → IsTextAt held lead size → IsNoHead (take size (drop lead held))
+    → rest ≡ drop (lead + size) held → BeginsBad held rest BadHead (lead + size)
+bad_none held rest lead size at none rest_is = bad_text held rest BadHead lead size at (no_head none refl refl) rest_is
 
-pub open_cut : (held : List ℕ) (lead size : ℕ) (shape : Shape) → IsTextAt held lead size
-    → IsBuiltFrom (take size (drop lead held)) shape → length held < (lead + size) + shape.size → IsOpen held
-open_cut held lead size shape at built short =
-    cut_short (take size (drop lead held)) built.head (built_in (take size (drop lead held)) shape) at.front built.is built.built
-    (omega (arith, short, at.lead_is, text_size held lead size at))
+pub bad_refused : (held rest : List ℕ) (refused : Refused) (lead size : ℕ) → IsTextAt held lead size
+    → IsRefusedHead (take size (drop lead held)) refused → rest ≡ drop (lead + size) held
+    → BeginsBad held rest refused (lead + size)
+bad_refused held rest refused lead size at is rest_is =
+    bad_text held rest refused lead size at (bad_head is.head refused is.is is.framing_is refl refl) rest_is
 
--- what the end of the source makes of them
-pub end_is : (ended failed : Type 0) (held : List ℕ) (answer : Taken)
-    → answer ≡ (if is_blank held then InputEnd else Truncated) → ended → IsOpen held → IsTaken ended failed held answer
-end_is ended failed held answer is end rest =
-    let P : Taken → Type 0 = λ taken. IsTaken ended failed held taken in
-    elim (cases_Bool (is_blank held)) [
-      | inl blank ↦ let here : answer ≡ InputEnd = rw blank at is in subst P (sym here) (end, rest, blank)
-      | inr other ↦ let here : answer ≡ Truncated = rw other at is in subst P (sym here) (end, rest, other)
+pub headed_bad : (ended failed : Type 0) (all rest text : List ℕ) (spans : List HeaderSpan) (headed : Headed)
+    (refused : Refused) (used : ℕ) → headed ≡ Bad refused used → BeginsBad all rest refused used
+    → IsHeaded ended failed all rest text spans headed
+headed_bad ended failed all rest text spans headed refused used is bad =
+    let P : Headed → Type 0 = λ answer. IsHeaded ended failed all rest text spans answer in subst P (sym is) bad
+
+-- how the values of two fields frame a body, and what follows
+pub length_room : (text : List ℕ) (framing : Framing) → framing_by_length text ≡ Ok framing
+    → (size : ℕ) × (framing ≡ Sized size) × (size ≤ 65536)
+length_room text framing is =
+    elim (cases_Bool (is_length text)) [
+      | inl digits ↦ elim (cases_Bool (nat_le (digits_value 10 text) 65536)) [
+        | inl small ↦
+            let e : ◌≡◌ {A = Result Framing Refused} (Ok (Sized (digits_value 10 text))) (Ok framing) = rw (digits, small) at is in
+            (digits_value 10 text, cc, leb-true (digits_value 10 text) 65536 small)
+        | inr great ↦ let e = rw (digits, great) at is in absurd (cc)
+      ]
+      | inr other ↦ let e = rw other at is in absurd (cc)
     ]
 
--- a fault in a later part of a call is one of the call
-pub taken_wider : (ended failed failed' : Type 0) (held : List ℕ) (answer : Taken) → (failed → failed')
-    → IsTaken ended failed held answer → IsTaken ended failed' held answer
-taken_wider ended failed failed' held (Request parts) wider is = is
-taken_wider ended failed failed' held (BadHead size) wider is = is
-taken_wider ended failed failed' held (NotBuilt size) wider is = is
-taken_wider ended failed failed' held InputEnd wider is = is
-taken_wider ended failed failed' held Truncated wider is = is
-taken_wider ended failed failed' held ReadFault wider is = (wider is.0, is.1)
+pub codings_room : (coding : List ℕ) (codings : List (List ℕ)) (framing : Framing)
+    → framing_by_codings coding codings ≡ Ok framing → framing ≡ Chunked
+codings_room coding [] framing is =
+    elim (cases_Bool (str_eq_ignore_ascii_case coding (codes "chunked"))) [
+      | inl same ↦ let e : ◌≡◌ {A = Result Framing Refused} (Ok Chunked) (Ok framing) = rw same at is in cc
+      | inr other ↦ let e = rw other at is in absurd (cc)
+    ]
+codings_room coding (other ∷ codings) framing is = absurd (cc)
+
+-- a body of a stated length has no coding, and the other has one
+abbrev pub Frames : Framing → List (List ℕ) → Type 0
+Frames (Sized size) codings = (size ≤ 65536) × (nat_lt 0 (length codings) ≡ false)
+Frames Chunked codings = nat_lt 0 (length codings) ≡ true
+
+pub frames_by : (minor : ℕ) (lengths codings : List (List ℕ)) (framing : Framing)
+    → framing_by minor lengths codings ≡ Ok framing → Frames framing codings
+frames_by minor [] [] framing is =
+    let e : Sized 0 ≡ framing = cc in
+    let P : Framing → Type 0 = λ f. Frames f [] in
+    subst P e (omega arith, refl)
+frames_by minor (text ∷ []) [] framing is =
+    let (size, e, small) = length_room text framing is in
+    let P : Framing → Type 0 = λ f. Frames f [] in
+    subst P (sym e) (small, refl)
+frames_by minor (text ∷ other ∷ texts) [] framing is = absurd (cc)
+frames_by minor [] (coding ∷ codings) framing is =
+    elim (cases_Bool (nat_eq minor 0)) [
+      | inl old ↦ let e = rw old at is in absurd (cc)
+      | inr new ↦
+          let e : framing ≡ Chunked = codings_room coding codings framing (rw new at is) in
+          let P : Framing → Type 0 = λ f. Frames f (coding ∷ codings) in
+          subst P (sym e) (lt-ltb 0 (length (coding ∷ codings)) (omega arith))
+    ]
+frames_by minor (text ∷ texts) (coding ∷ codings) framing is = absurd (cc)
+
+pub frames : (head : RequestHead) (framing : Framing) → framing_of head ≡ Ok framing
+    → Frames framing (values (codes "transfer-encoding") (map name_and_value head.fields))
+unfolding framing_of
+frames head framing is =
+    let fields = map name_and_value head.fields in
+    elim (cases_Bool (nat_lt 64 (length fields))) [
+      | inl many ↦ let e = rw many at is in absurd (cc)
+      | inr few ↦
+          frames_by head.minor (values (codes "content-length") fields) (values (codes "transfer-encoding") fields) framing
+          (rw few at is)
+    ]
+
+-- a body that is framed has room
+pub frames_room : (framing : Framing) (codings : List (List ℕ)) → Frames framing codings → HasRoom framing
+frames_room (Sized size) codings is = is.0
+frames_room Chunked codings is = tt
+
+-- an item calls for `100 Continue` where its head does
+pub framed_continues : (head : RequestHead) (framing : Framing) (coded : List ℕ) (item : Item)
+    → framing_of head ≡ Ok framing → IsFramed head framing coded item → continues item ≡ calls head framing
+unfolding calls
+framed_continues head (Sized size) coded (request m) is (sized n body long) =
+    let f = frames head (Sized n) is in rw (f.1, long) refl
+framed_continues head (Sized size) coded (unframed refused called heads) is how = elim how [ ]
+framed_continues head Chunked coded (request m) is (chunked bytes body decodes) =
+    let f = frames head Chunked is in rw f refl
+framed_continues head Chunked coded item is (broken bytes refused decodes) = refl
+
+-- the text that was copied
+pub text_copied : (held bytes copied rest : List ℕ) (lead size : ℕ) → IsTextAt held lead size → bytes ≡ held
+    → copied ≡ take (lead + size - lead) (drop lead bytes)
+    → (take size (copied ++ rest) ≡ take size (drop lead held)) × (size ≤ length (copied ++ rest))
+text_copied held bytes copied rest lead size at same is =
+    let count : lead + size - lead ≡ size = omega arith in
+    let text : copied ≡ take size (drop lead held) = is ∙ ap (λ xs. take (lead + size - lead) (drop lead xs)) same
+    ∙ ap (λ n. take n (drop lead held)) count in
+    let long : length copied ≡ size = ap length text ∙ text_size held lead size at in
+    (take_at copied rest size long ∙ text, omega (arith, length-append copied rest, long))
+
+-- the head that was judged is at the front
+pub framed_first :
+    (held rest room : List ℕ) (spans : List HeaderSpan) (lead size : ℕ) (parts : RequestSpans) (framing : Framing)
+    (called heads : Bool) → IsTextAt held lead size → take size room ≡ take size (drop lead held) → size ≤ length room
+    → rest ≡ drop (lead + size) held → IsFramedHead (take size (drop lead held)) spans parts framing called heads
+    → BeginsFramed held rest room spans
+    (record { used = lead + size; text = size; parts = parts; framing = framing; calls = called; head = heads })
+framed_first held rest room spans lead size parts framing called heads at same fits rest_is is =
+    let fronts = text_fronts held lead size at in
+    record {
+      first = take (lead + size) held;
+      head = is.head;
+      splits = sym (take-append-drop (lead + size) held) ∙ ap (λ xs. take (lead + size) held ++ xs) (sym rest_is);
+      size_is = length-take-le (lead + size) held at.within;
+      some = omega (arith, at.some);
+      limit = at.limit;
+      text_within = fits;
+      at = rw same is.at;
+      framing_is = is.framing_is;
+      room = frames_room framing (values (codes "transfer-encoding") (map name_and_value is.head.fields)) (frames is.head framing is.framing_is);
+      calls_is = is.called_is;
+      head_is = is.heads_is;
+      front = λ more. fronts.front more ∙ ap Text (sym same);
+      behind = λ more. fronts.behind more ∙ ap (λ xs. xs ++ more) (sym same);
+    }
+
+-- what comes of all bytes that are held comes of those before with those that were taken
+pub heads_grow : (left left' : Option (List ℕ)) (ended failed : Type 0) (before after rest text : List ℕ)
+    (spans : List HeaderSpan) (headed : Headed) → Grows left left' before after
+    → IsHeaded ended failed after rest text spans headed → Heads left left' ended failed before rest text spans headed
+heads_grow left left' ended failed before after rest text spans headed grows is =
+    let P : List ℕ → Type 0 = λ bytes. IsHeaded ended failed bytes rest text spans headed in
+    record { got = grows.got; taken = grows.taken; is = subst P grows.adds is }

@@ -1,10 +1,19 @@
-mod BuildLemmas
+mod BlankLemmas
+mod BodyLemmas
+mod ChunkLemmas
+mod CodingFacts
+mod CodingLemmas
 mod FieldLemmas
+mod FramingLemmas
 mod FrontLemmas
+mod HeadLemmas
 mod InputLemmas
 mod ItemLemmas
+mod LineLemmas
 mod LookLemmas
+mod OptionLemmas
 mod ScanLemmas
-mod StandardFacts
 pub mod SplitLemmas
-mod TargetLemmas
+mod StandardFacts
+mod StepLemmas
+mod TakenLemmas

@@ -1,23 +1,31 @@
 -- The items of a byte string are determined by it.
-use Rattle.std.proofs.Common.{◌≡◌, ℕ, suc, ◌+◌, ◌-◌, ◌<◌, List, [], ◌∷◌, ◌++◌, length, take, drop, Option, Some, None, true, false, refl, sym, ◌∙◌, ap, subst, arith, inl, inr}
+use Rattle.std.proofs.Common.{◌≡◌, ◌≢◌, ℕ, suc, ◌+◌, ◌-◌, ◌<◌, List, [], ◌∷◌, ◌++◌, length, take, drop, Bool, true, false, refl, sym, ◌∙◌, ap, subst, arith, inl, inr}
+use Rattle.std.specs.Prelude.{Result, Ok, Err}
 use Rattle.std.proofs.lemmas.Bool.{cases_Bool, true≢false, false≢true}
 use Rattle.std.proofs.lemmas.List.{append_assoc, append_cancel_left, take_at, drop-append-le, length-drop, length-append}
 use Rattle.httparse.specs.Grammar.{RequestHead}
 use Rattle.httparse.proofs.GrammarLemmas.{request_unique}
-use Rattle.http_message.specs.Built.{Built, built_of}
+use Rattle.http_message.specs.Coding.{Decoded, Broken, Unfinished as Pending}
+use Rattle.http_message.specs.Framing.{framing_of, calls}
 use Rattle.http_message.specs.Head.{IsHead}
-use Rattle.http_message.specs.Item.{Item, bad_head, not_built, request, closes, IsItemOf, no_head, unbuilt, whole, IsItemBy, IsItem, IsOpen, no_text, cut_short}
+use Rattle.http_message.specs.Item.{Item, request, unframed, closes, is_head, IsFramed, sized, chunked, broken, IsItemOf, no_head, bad_head, framed, IsItemBy, IsItem, IsCut, IsOpen, no_text, cut_short, IsCalled}
+use Rattle.http_message.specs.Message.{message_of}
 use Rattle.http_message.specs.Split.{Piece, bytes_of, OnlyLastCloses, last_closes, IsSplit}
 use Rattle.http_message.specs.Text.{Front, BareReturn, Text, TooLarge, Unfinished, front_of, lead_length}
+use Rattle.http_message.specs.declared.framing.Framing.{Framing}
+use Rattle.http_message.specs.declared.framing.Framing.TheVariants.{Sized, Chunked}
+use Rattle.http_message.specs.declared.refused.Refused.{Refused}
+use Rattle.http_message.specs.declared.refused.Refused.TheVariants.{BadHead, HeadTooLarge}
+use Rattle.http_message.proofs.CodingLemmas.{one_outcome, none_in_unfinished}
 use Rattle.http_message.proofs.FrontLemmas.{settled_text, settled_return, settled_large, settles_grow}
 
 -- the bytes begin with this item, of so many bytes, by what stands at their front
 abbrev pub BeginsBy : Front → List ℕ → ℕ → Item → Type 0
-BeginsBy BareReturn bytes n item = (n ≡ lead_length bytes + 2) × (item ≡ bad_head)
+BeginsBy BareReturn bytes n item = (n ≡ lead_length bytes + 2) × (item ≡ unframed BadHead false false)
 BeginsBy (Text text) bytes n item =
-    (body : List ℕ) × (rest : List ℕ) × (drop (lead_length bytes) bytes ≡ text ++ (body ++ rest))
-    × (n ≡ lead_length bytes + (length text + length body)) × IsItemOf text body item
-BeginsBy TooLarge bytes n item = (n ≡ 16384) × (item ≡ not_built)
+    (coded : List ℕ) × (rest : List ℕ) × (drop (lead_length bytes) bytes ≡ text ++ (coded ++ rest))
+    × (n ≡ lead_length bytes + (length text + length coded)) × IsItemOf text coded item
+BeginsBy TooLarge bytes n item = (n ≡ 16384) × (item ≡ unframed HeadTooLarge false false)
 BeginsBy Unfinished bytes n item = ⊥
 
 -- bytes that are an item begin with it, whatever follows
@@ -27,19 +35,19 @@ pub begins_by : (front : Front) (piece more : List ℕ) (item : Item) → front_
 begins_by BareReturn piece more item at is =
     let grown = settles_grow piece (lead_length piece + 2) BareReturn more (settled_return piece at) in
     (grown.0, (omega (arith, is.0, grown.1), is.1))
-begins_by (Text text) piece more item at (body, split, is) =
+begins_by (Text text) piece more item at (coded, split, is) =
     let settled = settled_text piece text at in
     let grown = settles_grow piece (lead_length piece + length text) (Text text) more settled.settles in
-    let rest : drop (lead_length (piece ++ more)) (piece ++ more) ≡ text ++ (body ++ more) =
+    let rest : drop (lead_length (piece ++ more)) (piece ++ more) ≡ text ++ (coded ++ more) =
     ap (λ n. drop n (piece ++ more)) grown.1
     ∙ drop-append-le (lead_length piece) piece more (omega (arith, settled.within))
-    ∙ ap (λ xs. xs ++ more) split ∙ append_assoc text body more in (
+    ∙ ap (λ xs. xs ++ more) split ∙ append_assoc text coded more in (
       grown.0,
       (
-        body,
+        coded,
         more,
         rest,
-        omega (arith, grown.1, settled.within, ap length split, length-drop (lead_length piece) piece, length-append text body),
+        omega (arith, grown.1, settled.within, ap length split, length-drop (lead_length piece) piece, length-append text coded),
         is,
       ),
     )
@@ -51,49 +59,93 @@ begins_by Unfinished piece more item at is = absurd is
 pub one_head : (text : List ℕ) (head other : RequestHead) → IsHead text head → IsHead text other → head ≡ other
 one_head text head other a b = (request_unique text head other [] [] a.reads b.reads).0
 
--- what two options are that are one
-pub clash_option : {X : Type 0} (o : Option X) (x : X) → o ≡ None → o ≡ Some x → ⊥
-clash_option {X = X} o x none some = let e : ◌≡◌ {A = Option X} None (Some x) = sym none ∙ some in cc
+-- a head frames its body in one way, or is refused for one reason
+pub no_clash : (framing : Framing) (refused : Refused) (r : Result Framing Refused) → r ≡ Ok framing → r ≡ Err refused → ⊥
+no_clash framing refused r good bad = let e : ◌≡◌ {A = Result Framing Refused} (Ok framing) (Err refused) = sym good ∙ bad in cc
+
+pub one_refused : (a b : Refused) (r : Result Framing Refused) → r ≡ Err a → r ≡ Err b → a ≡ b
+one_refused a b r first second = let e : ◌≡◌ {A = Result Framing Refused} (Err a) (Err b) = sym first ∙ second in cc
+
+pub one_framing : (a b : Framing) (r : Result Framing Refused) → r ≡ Ok a → r ≡ Ok b → a ≡ b
+one_framing a b r first second = let e : ◌≡◌ {A = Result Framing Refused} (Ok a) (Ok b) = sym first ∙ second in cc
+
+-- an outcome that has come is not pending
+pub decoded_done : (body : List ℕ) → Decoded body ≢ Pending
+decoded_done body e = cc
+
+pub broken_done : (refused : Refused) → Broken refused ≢ Pending
+broken_done refused e = cc
+
+-- the bytes behind a head that are framed are one item
+pub one_framed : (head : RequestHead) (framing : Framing) (coded rest other others : List ℕ) (item item' : Item)
+    → IsFramed head framing coded item → IsFramed head framing other item' → coded ++ rest ≡ other ++ others
+    → (coded ≡ other) × (item ≡ item')
+one_framed head (Sized n) coded rest other others item item' (sized size body long) (sized size' body' long') same =
+    let bodies : coded ≡ other =
+    sym (take_at coded rest (length coded) refl) ∙ ap (take (length coded)) same
+    ∙ take_at other others (length coded) (omega (arith, long, long')) in
+    (bodies, ap (λ (b : List ℕ). request (message_of head b)) bodies)
+one_framed head Chunked coded rest other others item item' (chunked bytes body how) (chunked bytes' body' how') same =
+    let one = one_outcome 0 0 coded rest other others (Decoded body) (Decoded body') how how' (decoded_done body) (decoded_done body') same in
+    let outcomes = one.1 in
+    let bodies : body ≡ body' = cc in
+    (one.0, ap (λ (b : List ℕ). request (message_of head b)) bodies)
+one_framed head Chunked coded rest other others item item' (chunked bytes body how) (broken bytes' refused' how') same =
+    let one = one_outcome 0 0 coded rest other others (Decoded body) (Broken refused') how how' (decoded_done body) (broken_done refused') same in
+    let outcomes = one.1 in absurd (cc)
+one_framed head Chunked coded rest other others item item' (broken bytes refused how) (chunked bytes' body' how') same =
+    let one = one_outcome 0 0 coded rest other others (Broken refused) (Decoded body') how how' (broken_done refused) (decoded_done body') same in
+    let outcomes = one.1 in absurd (cc)
+one_framed head Chunked coded rest other others item item' (broken bytes refused how) (broken bytes' refused' how') same =
+    let one = one_outcome 0 0 coded rest other others (Broken refused) (Broken refused') how how' (broken_done refused) (broken_done refused') same in
+    let outcomes = one.1 in
+    let refusals : refused ≡ refused' = cc in
+    (one.0, ap (λ (r : Refused). unframed r (calls head Chunked) (is_head head)) refusals)
+
+-- what is framed behind one head, of another that is the same
+pub framed_same : (text : List ℕ) (head other : RequestHead) (framing framing' : Framing) (coded : List ℕ) (item : Item)
+    → IsHead text head → IsHead text other → framing_of head ≡ Ok framing → framing_of other ≡ Ok framing'
+    → IsFramed other framing' coded item → IsFramed head framing coded item
+framed_same text head other framing framing' coded item at at' is is' how =
+    let heads : other ≡ head = one_head text other head at' at in
+    let framings : framing' ≡ framing = one_framing framing' framing (framing_of head) (ap framing_of (sym heads) ∙ is') is in
+    let P : RequestHead → Type 0 = λ h. IsFramed h framing coded item in
+    let Q : Framing → Type 0 = λ f. IsFramed other f coded item in
+    subst P heads (subst Q framings how)
 
 -- a text with the bytes behind it is one item
-pub one_of_text : (text body rest body' rest' : List ℕ) (item other : Item) → body ++ rest ≡ body' ++ rest'
-    → IsItemOf text body item → IsItemOf text body' other → (body ≡ body') × (item ≡ other)
-one_of_text text body rest body' rest' item other same (no_head none nil is) (no_head none' nil' is') =
+pub one_of_text : (text coded rest coded' rest' : List ℕ) (item other : Item) → coded ++ rest ≡ coded' ++ rest'
+    → IsItemOf text coded item → IsItemOf text coded' other → (coded ≡ coded') × (item ≡ other)
+one_of_text text coded rest coded' rest' item other same (no_head none nil is) (no_head none' nil' is') =
     (nil ∙ sym nil', is ∙ sym is')
-one_of_text text body rest body' rest' item other same (no_head none nil is) (unbuilt head' at' built' nil' is') =
+one_of_text text coded rest coded' rest' item other same (no_head none nil is) (bad_head head' refused' at' bad' nil' is') =
     absurd (none.none head' at')
-one_of_text text body rest body' rest' item other same (no_head none nil is) (whole head' built' at' some' size' is') =
+one_of_text text coded rest coded' rest' item other same (no_head none nil is) (framed head' framing' at' good' how') =
     absurd (none.none head' at')
-one_of_text text body rest body' rest' item other same (unbuilt head at built nil is) (no_head none' nil' is') =
+one_of_text text coded rest coded' rest' item other same (bad_head head refused at bad nil is) (no_head none' nil' is') =
     absurd (none'.none head at)
-one_of_text text body rest body' rest' item other same (unbuilt head at built nil is) (unbuilt head' at' built' nil' is') =
-    (nil ∙ sym nil', is ∙ sym is')
-one_of_text text body rest body' rest' item other same (unbuilt head at none nil is) (whole head' built' at' some' size' is') =
-    absurd (clash_option (built_of head) built' none (ap built_of (one_head text head head' at at') ∙ some'))
-one_of_text text body rest body' rest' item other same (whole head built at some size is) (no_head none' nil' is') =
+one_of_text text coded rest coded' rest' item other same (bad_head head refused at bad nil is) (bad_head head' refused' at' bad' nil' is') =
+    let refusals : refused ≡ refused' =
+    one_refused refused refused' (framing_of head) bad (ap framing_of (one_head text head head' at at') ∙ bad') in
+    (nil ∙ sym nil', is ∙ ap (λ (r : Refused). unframed r false false) refusals ∙ sym is')
+one_of_text text coded rest coded' rest' item other same (bad_head head refused at bad nil is) (framed head' framing' at' good' how') =
+    absurd (no_clash framing' refused (framing_of head') good' (ap framing_of (one_head text head' head at' at) ∙ bad))
+one_of_text text coded rest coded' rest' item other same (framed head framing at good how) (no_head none' nil' is') =
     absurd (none'.none head at)
-one_of_text text body rest body' rest' item other same (whole head built at some size is) (unbuilt head' at' none' nil' is') =
-    absurd (clash_option (built_of head') built none' (ap built_of (one_head text head' head at' at) ∙ some))
-one_of_text text body rest body' rest' item other same (whole head built at some size is) (whole head' built' at' some' size' is') =
-    let heads : Some built ≡ Some built' = sym some ∙ ap built_of (one_head text head head' at at') ∙ some' in
-    let builts : built ≡ built' = cc in
-    let sizes : length body ≡ length body' = size ∙ ap (λ (b : Built). b.size) builts ∙ sym size' in
-    let bodies : body ≡ body' =
-    sym (take_at body rest (length body) refl) ∙ ap (take (length body)) same
-    ∙ take_at body' rest' (length body) (sym sizes) in (
-      bodies,
-      is ∙ ap (λ (b : Built). request b.method b.target body) builts
-          ∙ ap (request built'.method built'.target) bodies ∙ sym is',
-    )
+one_of_text text coded rest coded' rest' item other same (framed head framing at good how) (bad_head head' refused' at' bad' nil' is') =
+    absurd (no_clash framing refused' (framing_of head) good (ap framing_of (one_head text head head' at at') ∙ bad'))
+one_of_text text coded rest coded' rest' item other same (framed head framing at good how) (framed head' framing' at' good' how') =
+    one_framed head framing coded rest coded' rest' item other how
+    (framed_same text head head' framing framing' coded' other at at' good good' how') same
 
 -- bytes begin with one item
 pub one_by : (front : Front) (bytes : List ℕ) (n m : ℕ) (item other : Item) → BeginsBy front bytes n item
     → BeginsBy front bytes m other → (n ≡ m) × (item ≡ other)
 one_by BareReturn bytes n m item other a b = (a.0 ∙ sym b.0, a.1 ∙ sym b.1)
-one_by (Text text) bytes n m item other (body, rest, split, size, is) (body', rest', split', size', is') =
-    let same : body ++ rest ≡ body' ++ rest' =
-    append_cancel_left text (body ++ rest) (body' ++ rest') (sym split ∙ split') in
-    let one = one_of_text text body rest body' rest' item other same is is' in
+one_by (Text text) bytes n m item other (coded, rest, split, size, is) (coded', rest', split', size', is') =
+    let same : coded ++ rest ≡ coded' ++ rest' =
+    append_cancel_left text (coded ++ rest) (coded' ++ rest') (sym split ∙ split') in
+    let one = one_of_text text coded rest coded' rest' item other same is is' in
     (omega (arith, size, size', ap length one.0), one.1)
 one_by TooLarge bytes n m item other a b = (a.0 ∙ sym b.0, a.1 ∙ sym b.1)
 one_by Unfinished bytes n m item other a b = absurd a
@@ -116,29 +168,77 @@ item_unique first second rest others item other a b same =
       one.1,
     )
 
--- a text whose request is cut short is no item
-pub no_item_of_cut : (text body : List ℕ) (item : Item) (head : RequestHead) (built : Built) → IsHead text head
-    → built_of head ≡ Some built → IsItemOf text body item → length body ≡ built.size
-no_item_of_cut text body item head built at some (no_head none nil is) = absurd (none.none head at)
-no_item_of_cut text body item head built at some (unbuilt head' at' none' nil is) =
-    absurd (clash_option (built_of head') built none' (ap built_of (one_head text head' head at' at) ∙ some))
-no_item_of_cut text body item head built at some (whole head' built' at' some' size is) =
-    let heads : Some built' ≡ Some built = sym some' ∙ ap built_of (one_head text head' head at' at) ∙ some in
-    let builts : built' ≡ built = cc in
-    size ∙ ap (λ (b : Built). b.size) builts
+-- bytes that are cut short begin with no framed ones
+pub no_framed_in_cut : (head : RequestHead) (framing : Framing) (coded rest : List ℕ) (item : Item)
+    → IsFramed head framing coded item → IsCut framing (coded ++ rest) → ⊥
+no_framed_in_cut head (Sized n) coded rest item (sized size body long) (sized size' bytes short) =
+    absurd (omega (arith, long, short, length-append coded rest))
+no_framed_in_cut head Chunked coded rest item (chunked bytes body how) (chunked bytes' cut) =
+    none_in_unfinished 0 0 coded rest (Decoded body) how (decoded_done body) cut
+no_framed_in_cut head Chunked coded rest item (broken bytes refused how) (chunked bytes' cut) =
+    none_in_unfinished 0 0 coded rest (Broken refused) how (broken_done refused) cut
+
+-- and so no item stands behind the text
+pub no_item_in_cut : (text coded rest : List ℕ) (item : Item) (head : RequestHead) (framing : Framing) → IsHead text head
+    → framing_of head ≡ Ok framing → IsItemOf text coded item → IsCut framing (coded ++ rest) → ⊥
+no_item_in_cut text coded rest item head framing at good (no_head none nil is) cut = none.none head at
+no_item_in_cut text coded rest item head framing at good (bad_head head' refused' at' bad' nil is) cut =
+    no_clash framing refused' (framing_of head) good (ap framing_of (one_head text head head' at at') ∙ bad')
+no_item_in_cut text coded rest item head framing at good (framed head' framing' at' good' how) cut =
+    no_framed_in_cut head framing coded rest item
+    (framed_same text head head' framing framing' coded item at at' good good' how) cut
 
 -- bytes in which no item is whole begin with none
-pub open_no_item : (first rest : List ℕ) (item : Item) → IsItem first item → IsOpen (first ++ rest) → ⊥
-open_no_item first rest item is (no_text unfinished) =
+pub open_no_item : (first rest : List ℕ) (item : Item) (called : Bool) → IsItem first item → IsOpen (first ++ rest) called → ⊥
+open_no_item first rest item called is (no_text unfinished quiet) =
     let begins = begins_by (front_of first) first rest item refl is.is in
     let front : front_of first ≡ Unfinished = sym begins.0 ∙ unfinished in
     subst (λ f. BeginsBy f (first ++ rest) (length first) item) front begins.1
-open_no_item first rest item is (cut_short text head built front at some short) =
+open_no_item first rest item called is (cut_short text coded head framing front behind at good cut calling) =
     let begins = begins_by (front_of first) first rest item refl is.is in
     let same : front_of first ≡ Text text = sym begins.0 ∙ front in
-    let (body, others, split, size, here) = subst (λ f. BeginsBy f (first ++ rest) (length first) item) same begins.1 in
-    let whole_size = no_item_of_cut text body item head built at some here in
-    absurd (omega (arith, whole_size, size, short, length-append first rest))
+    let (used, others, split, size, here) = subst (λ f. BeginsBy f (first ++ rest) (length first) item) same begins.1 in
+    let coded_is : coded ≡ used ++ others = append_cancel_left text coded (used ++ others) (sym behind ∙ split) in
+    let P : List ℕ → Type 0 = λ bytes. IsCut framing bytes in
+    no_item_in_cut text used others item head framing at good here (subst P coded_is cut)
+
+-- a text of a head is not there where more bytes decide
+pub no_text_pending : (rest text : List ℕ) → front_of rest ≡ Unfinished → front_of rest ≡ Text text → ⊥
+no_text_pending rest text unfinished front = let e : Unfinished ≡ Text text = sym unfinished ∙ front in cc
+
+-- whether a head calls for `100 Continue`, of a text that is another
+pub calls_same : (text other : List ℕ) (head head' : RequestHead) (framing framing' : Framing) → text ≡ other
+    → IsHead text head → IsHead other head' → framing_of head ≡ Ok framing → framing_of head' ≡ Ok framing'
+    → calls head framing ≡ calls head' framing'
+calls_same text other head head' framing framing' same at at' good good' =
+    let P : List ℕ → Type 0 = λ t. IsHead t head' in
+    let heads : head ≡ head' = one_head text head head' at (subst P (sym same) at') in
+    let framings : framing ≡ framing' = one_framing framing framing' (framing_of head) good (ap framing_of heads ∙ good') in
+    ap (λ (h : RequestHead). calls h framing) heads ∙ ap (λ (f : Framing). calls head' f) framings
+
+pub one_text : (rest text other : List ℕ) → front_of rest ≡ Text text → front_of rest ≡ Text other → text ≡ other
+one_text rest text other front front' = let e : Text text ≡ Text other = sym front ∙ front' in cc
+
+-- bytes in which no item is whole call for `100 Continue` or do not
+pub one_called : (rest : List ℕ) (called other : Bool) → IsOpen rest called → IsOpen rest other → called ≡ other
+one_called rest called other (no_text front quiet) (no_text front' quiet') = quiet ∙ sym quiet'
+one_called rest called other (no_text front quiet) (cut_short text coded head framing front' behind at good cut calling) =
+    absurd (no_text_pending rest text front front')
+one_called rest called other (cut_short text coded head framing front behind at good cut calling) (no_text front' quiet) =
+    absurd (no_text_pending rest text front' front)
+one_called rest called other (cut_short text coded head framing front behind at good cut calling) (cut_short text' coded' head' framing' front' behind' at' good' cut' calling') =
+    calling ∙ calls_same text text' head head' framing framing' (one_text rest text text' front front') at at' good good'
+    ∙ sym calling'
+
+pub called_there : (rest : List ℕ) (called : Bool) → IsOpen rest called → IsCalled rest → called ≡ true
+called_there rest called (no_text front quiet) is = absurd (no_text_pending rest is.text front is.front)
+called_there rest called (cut_short text coded head framing front behind at good cut calling) is =
+    calling ∙ calls_same text is.text head is.head framing is.framing (one_text rest text is.text front is.front) at is.is good is.framed
+    ∙ is.called
+
+pub one_call : (rest : List ℕ) (called other : Bool) → IsOpen rest called
+    → (IsOpen rest other → called ≡ other) × (IsCalled rest → called ≡ true)
+one_call rest called other is = (one_called rest called other is, called_there rest called is)
 
 -- the pieces behind the first
 pub going_tail : (piece : Piece) (pieces : List Piece) → OnlyLastCloses (piece ∷ pieces) → OnlyLastCloses pieces
@@ -191,7 +291,8 @@ no_more limit bytes piece pieces rest left a b =
             let same : rest ≡ piece.bytes ++ (bytes_of pieces ++ left) =
             sym a.all ∙ b.all ∙ bytes_behind piece pieces left in
             let first : 0 < length (piece ∷ pieces) = omega arith in
-            open_no_item piece.bytes (bytes_of pieces ++ left) piece.item (b.each 0 piece first) (subst IsOpen same more)
+            open_no_item piece.bytes (bytes_of pieces ++ left) piece.item more.0 (b.each 0 piece first)
+            (let P : List ℕ → Type 0 = λ bytes. IsOpen bytes more.0 in subst P same more.1)
       ]
     ]
 

@@ -1,9 +1,13 @@
--- Rules of RFC 9112 and of this server's targets, said of the specs, so that a slip does not check.
-use Rattle.std.proofs.Common.{◌≡◌, [], ◌∷◌, Some, None, refl, codes, true, false}
-use Rattle.http_message.specs.Built.{target_of, record_of, match_path, filter_path, elsewhere, method_of, built}
-use Rattle.http_message.specs.Fields.{size_of, values, is_number, stated_length}
+-- Rules of RFC 9110 and RFC 9112, said of the specs, so that a slip does not check.
+use Rattle.std.proofs.Common.{◌≡◌, ℕ, List, [], ◌∷◌, refl, codes, replicate, true, false}
+use Rattle.std.specs.Prelude.{Ok, Err}
+use Rattle.httparse.specs.Grammar.{trim_ows}
+use Rattle.http_message.specs.Fields.{Pair, values, has_option}
+use Rattle.http_message.specs.Framing.{framing_in, is_length}
+use Rattle.http_message.specs.Message.{Message, asks_to_close, calls_for_continue, expects}
 use Rattle.http_message.specs.Text.{front_of, lead_length, window, Text, BareReturn, Unfinished, is_blank}
-use Rattle.http_message.specs.declared.method.Method.TheVariants.{Get, Put, Post}
+use Rattle.http_message.specs.declared.framing.Framing.TheVariants.{Sized, Chunked}
+use Rattle.http_message.specs.declared.refused.Refused.TheVariants.{HeadTooLarge, BadLength, BadCoding, BodyTooLarge}
 
 -- RFC 9112, section 2.2: empty lines before the request line are passed over, and LF may end a line
 pub lines : (front_of (codes "\r\n\nGET / HTTP/1.1\n\r\nx") ≡ Text (codes "GET / HTTP/1.1\n\r\n"))
@@ -20,64 +24,75 @@ pub returns : (front_of (codes "\n\rx") ≡ BareReturn) × (front_of (codes "\n\
 unfolding front_of lead_length window
 returns = (refl, refl, refl, refl, refl, refl)
 
--- the targets of records, of the match and of the page, and others
-pub targets : (target_of (codes "/v1/d/shop/p1") ≡ Some (record_of (codes "shop") (codes "p1")))
-    × (target_of (codes "/v2/d/shop/p1") ≡ Some elsewhere)
-    × (target_of (codes "/v1/d/shop/p1/x") ≡ None)
-    × (target_of (codes "/v1/d/Shop/p1") ≡ None)
-    × (target_of (codes "/v1/d/shop/") ≡ None)
-    × (target_of (codes "/v1/d/shop") ≡ None)
-    × (target_of (codes "/v1/match") ≡ Some match_path)
-    × (target_of (codes "/v1/filter") ≡ Some filter_path)
-    × (target_of (codes "/v1/match/") ≡ None)
-    × (target_of (codes "/v1/filter?") ≡ None)
-    × (target_of (codes "/v1/Match") ≡ None)
-    × (target_of (codes "/v1/stats") ≡ None)
-    × (target_of (codes "/v1/") ≡ None)
-    × (target_of (codes "/a%20") ≡ None)
-    × (target_of (codes "/a?b") ≡ None)
-    × (target_of (codes "http://a/") ≡ None)
-unfolding target_of
-targets = (refl, refl, refl, refl, refl, refl, refl, refl, refl, refl, refl, refl, refl, refl, refl, refl)
+-- RFC 9110, section 8.6: a length is digits, leading zeros included
+pub lengths : (framing_in 1 [] ≡ Ok (Sized 0))
+    × (framing_in 1 ((codes "Content-Length", codes "0") ∷ []) ≡ Ok (Sized 0))
+    × (framing_in 1 ((codes "CONTENT-length", codes "007") ∷ []) ≡ Ok (Sized 7))
+    × (framing_in 0 ((codes "Content-Length", codes "7") ∷ []) ≡ Ok (Sized 7))
+    × (framing_in 1 ((codes "Content-Length", codes "65536") ∷ []) ≡ Ok (Sized 65536))
+    × (framing_in 1 ((codes "Content-Length", codes "65537") ∷ []) ≡ Err BodyTooLarge)
+    × (framing_in 1 ((codes "Content-Length", codes "0000000000000000007") ∷ []) ≡ Ok (Sized 7))
+    × (framing_in 1 ((codes "Content-Length", codes "9999999999999999999") ∷ []) ≡ Err BodyTooLarge)
+    × (framing_in 1 ((codes "Content-Length", codes "00000000000000000007") ∷ []) ≡ Err BadLength)
+    × (framing_in 1 ((codes "Content-Length", codes "") ∷ []) ≡ Err BadLength)
+    × (framing_in 1 ((codes "Content-Length", codes "+1") ∷ []) ≡ Err BadLength)
+    × (framing_in 1 ((codes "Content-Length", codes "1, 1") ∷ []) ≡ Err BadLength)
+    × (framing_in 1 ((codes "Content-Length", codes "1") ∷ (codes "Content-Length", codes "1") ∷ []) ≡ Err BadLength)
+unfolding values is_length
+lengths = (refl, refl, refl, refl, refl, refl, refl, refl, refl, refl, refl, refl, refl)
 
--- RFC 9110, section 5.1: names of fields are compared without regard to case
-pub sizes : (size_of Get ((codes "hOsT", codes "a") ∷ []) ≡ Some 0)
-    × (size_of Put ((codes "Content-Length", codes "007") ∷ (codes "Host", codes "a") ∷ []) ≡ Some 7)
-    × (size_of Put ((codes "Host", codes "a") ∷ []) ≡ None)
-    × (size_of Put ((codes "Host", codes "a") ∷ (codes "Content-Length", codes "65537") ∷ []) ≡ None)
-    × (size_of Put ((codes "Host", codes "a") ∷ (codes "Content-Length", codes "65536") ∷ []) ≡ Some 65536)
-    × (size_of Put ((codes "Host", codes "a") ∷ (codes "Content-Length", codes "000001") ∷ []) ≡ None)
-    × (size_of Put ((codes "Host", codes "a") ∷ (codes "Content-Length", codes "+1") ∷ []) ≡ None)
-    × (size_of Put ((codes "Host", codes "a") ∷ (codes "Content-Length", codes "") ∷ []) ≡ None)
-    × (size_of Get ((codes "Host", codes "a") ∷ (codes "Content-Length", codes "0") ∷ []) ≡ None)
-    × (size_of Get ((codes "Host", codes "a") ∷ (codes "Accept", codes "*/*") ∷ []) ≡ None)
-    × (size_of Get ((codes "Host", codes "a") ∷ (codes "Host", codes "a") ∷ []) ≡ None)
-    × (size_of Get [] ≡ None)
-    × (size_of Post ((codes "Host", codes "a") ∷ []) ≡ Some 0)
-    × (size_of Post ((codes "Host", codes "a") ∷ (codes "Content-Length", codes "0") ∷ []) ≡ None)
-    × (size_of Post ((codes "Content-Length", codes "0") ∷ []) ≡ None)
-unfolding values is_number stated_length
-sizes = (refl, refl, refl, refl, refl, refl, refl, refl, refl, refl, refl, refl, refl, refl, refl)
+-- RFC 9112, sections 6.1 and 7: the names of codings have no case, and a coding stands in HTTP/1.1 alone
+-- and without a length
+pub codings : (framing_in 1 ((codes "Transfer-Encoding", codes "chunked") ∷ []) ≡ Ok Chunked)
+    × (framing_in 1 ((codes "transfer-encoding", codes "Chunked") ∷ []) ≡ Ok Chunked)
+    × (framing_in 1 ((codes "Transfer-Encoding", codes "gzip, chunked") ∷ []) ≡ Err BadCoding)
+    × (framing_in 1 ((codes "Transfer-Encoding", codes "chunked, chunked") ∷ []) ≡ Err BadCoding)
+    × (framing_in 1 ((codes "Transfer-Encoding", codes "") ∷ []) ≡ Err BadCoding)
+    × (framing_in 1 ((codes "Transfer-Encoding", codes "gzip") ∷ (codes "Transfer-Encoding", codes "chunked") ∷ []) ≡ Err BadCoding)
+    × (framing_in 1 ((codes "Transfer-Encoding", codes "chunked") ∷ (codes "Content-Length", codes "3") ∷ []) ≡ Err BadLength)
+    × (framing_in 0 ((codes "Transfer-Encoding", codes "chunked") ∷ []) ≡ Err BadLength)
+    × (framing_in 0 ((codes "Transfer-Encoding", codes "gzip") ∷ []) ≡ Err BadLength)
+unfolding values is_length
+codings = (refl, refl, refl, refl, refl, refl, refl, refl, refl)
 
--- RFC 9110, section 9.1: methods are compared with regard to case
-pub methods : (method_of (codes "GET") ≡ Some Get) × (method_of (codes "PUT") ≡ Some Put)
-    × (method_of (codes "POST") ≡ Some Post) × (method_of (codes "get") ≡ None)
-    × (method_of (codes "HEAD") ≡ None) × (method_of (codes "DELETE") ≡ None)
-methods = (refl, refl, refl, refl, refl, refl)
+-- a head has at most 64 fields
+pub counts : (framing_in 1 (replicate 64 (codes "a", codes "b")) ≡ Ok (Sized 0))
+    × (framing_in 1 (replicate 65 (codes "a", codes "b")) ≡ Err HeadTooLarge)
+unfolding values
+counts = (refl, refl)
 
--- which methods are built at which targets, in HTTP/1.1 alone
-pub fitting : (built 1 (codes "POST") (codes "/v1/match") ((codes "Host", codes "a") ∷ [])
-    ≡ Some (record { method = Post; target = match_path; size = 0 }))
-    × (built 1 (codes "GET") (codes "/v1/filter") ((codes "Host", codes "a") ∷ [])
-    ≡ Some (record { method = Get; target = filter_path; size = 0 }))
-    × (built 1 (codes "PUT") (codes "/v2") ((codes "Host", codes "a") ∷ (codes "Content-Length", codes "2") ∷ [])
-    ≡ Some (record { method = Put; target = elsewhere; size = 2 }))
-    × (built 1 (codes "GET") (codes "/v1/match") ((codes "Host", codes "a") ∷ []) ≡ None)
-    × (built 1 (codes "PUT") (codes "/v1/match") ((codes "Host", codes "a") ∷ (codes "Content-Length", codes "2") ∷ []) ≡ None)
-    × (built 1 (codes "PUT") (codes "/v1/filter") ((codes "Host", codes "a") ∷ (codes "Content-Length", codes "2") ∷ []) ≡ None)
-    × (built 1 (codes "POST") (codes "/v1/filter") ((codes "Host", codes "a") ∷ []) ≡ None)
-    × (built 1 (codes "POST") (codes "/v1/d/a/b") ((codes "Host", codes "a") ∷ []) ≡ None)
-    × (built 1 (codes "POST") (codes "/v2") ((codes "Host", codes "a") ∷ []) ≡ None)
-    × (built 0 (codes "POST") (codes "/v1/match") ((codes "Host", codes "a") ∷ []) ≡ None)
-unfolding target_of values is_number stated_length
-fitting = (refl, refl, refl, refl, refl, refl, refl, refl, refl, refl)
+-- a request of this minor version with these fields
+abbrev request_with : ℕ → List Pair → Message
+request_with minor fields = record {
+  method = codes "GET";
+  target = codes "/";
+  minor = minor;
+  fields = fields;
+  body = [];
+}
+
+-- RFC 9110, section 7.6.1, and RFC 9112, section 9.3: options of a connection have no case
+pub connections : (asks_to_close (request_with 1 []) ≡ false)
+    × (asks_to_close (request_with 1 ((codes "Connection", codes "Keep-Alive, CLOSE") ∷ [])) ≡ true)
+    × (asks_to_close (request_with 1 ((codes "connection", codes ",close\t, x") ∷ [])) ≡ true)
+    × (asks_to_close (request_with 1 ((codes "Connection", codes "x") ∷ (codes "Connection", codes "close") ∷ [])) ≡ true)
+    × (asks_to_close (request_with 1 ((codes "Connection", codes "closed") ∷ [])) ≡ false)
+    × (asks_to_close (request_with 1 ((codes "Connection", codes "x close") ∷ [])) ≡ false)
+    × (asks_to_close (request_with 1 ((codes "Connection", codes "") ∷ [])) ≡ false)
+    × (asks_to_close (request_with 0 []) ≡ true)
+    × (asks_to_close (request_with 0 ((codes "Connection", codes "keep-alive") ∷ [])) ≡ true)
+unfolding values has_option trim_ows
+connections = (refl, refl, refl, refl, refl, refl, refl, refl, refl)
+
+-- RFC 9110, section 10.1.1: the expectation has no case, HTTP/1.0 has none, and no body needs none
+pub expectations : (expects ((codes "Expect", codes "100-continue") ∷ []) ≡ true)
+    × (expects ((codes "expect", codes "100-Continue") ∷ []) ≡ true)
+    × (expects ((codes "Expect", codes "x") ∷ (codes "Expect", codes "100-continue") ∷ []) ≡ true)
+    × (expects ((codes "Expect", codes "100-continue, x") ∷ []) ≡ false)
+    × (expects ((codes "Expect", codes "") ∷ []) ≡ false)
+    × (expects [] ≡ false)
+    × (calls_for_continue 1 ((codes "Expect", codes "100-continue") ∷ []) true ≡ true)
+    × (calls_for_continue 1 ((codes "Expect", codes "100-continue") ∷ []) false ≡ false)
+    × (calls_for_continue 0 ((codes "Expect", codes "100-continue") ∷ []) true ≡ false)
+unfolding values
+expectations = (refl, refl, refl, refl, refl, refl, refl, refl, refl)

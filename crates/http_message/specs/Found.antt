@@ -4,8 +4,8 @@ use Rattle.http_message.specs.Scan.{IsScanned}
 use Rattle.http_message.specs.Text.{BareReturn, Text, TooLarge, Unfinished, front_of, lead_length, head_limit, window}
 use Rattle.http_message.specs.declared.front.Seen.{Seen}
 use Rattle.http_message.specs.declared.front.Seen.TheVariants as seen
-use Rattle.http_message.specs.declared.request.Found.{Found}
-use Rattle.http_message.specs.declared.request.Found.TheVariants as found
+use Rattle.http_message.specs.declared.find.Found.{Found}
+use Rattle.http_message.specs.declared.find.Found.TheVariants as found
 
 -- a CR stands behind the empty lines, which another byte than LF follows
 pub record IsReturnAt (held : List ℕ) (lead : ℕ) : Type 0 where

@@ -1,55 +1,91 @@
--- The items of a stream of bytes: its requests, and what is refused because no request can be told.
-use Rattle.std.specs.Prelude.{◌≡◌, ℕ, ◌+◌, ◌<◌, Bool, true, false, List, [], ◌++◌, length, drop, Some, None}
+-- The items of a stream of bytes: its requests, and those whose end cannot be told.
+use Rattle.std.specs.Prelude.{◌≡◌, ℕ, ◌+◌, ◌<◌, Bool, true, false, nat_lt, ◌||◌, List, [], ◌++◌, length, drop, Ok, Err, codes}
+use Rattle.std.specs.Str.{bytes_eq}
 use Rattle.httparse.specs.Grammar.{RequestHead}
-use Rattle.http_message.specs.Built.{Target, Built, built_of}
+use Rattle.http_message.specs.Coding.{Decodes, Decoded, Broken, Unfinished}
+use Rattle.http_message.specs.Framing.{framing_of, calls}
 use Rattle.http_message.specs.Head.{IsHead, IsNoHead}
-use Rattle.http_message.specs.Text.{Front, BareReturn, Text, TooLarge, Unfinished, front_of, lead_length, head_limit}
-use Rattle.http_message.specs.declared.method.Method.{Method}
+use Rattle.http_message.specs.Message.{Message, message_of, is_coded, calls_for_continue, asks_to_close}
+use Rattle.http_message.specs.Text.{Front, BareReturn, Text, TooLarge, Unfinished as Undecided, front_of, lead_length, head_limit}
+use Rattle.http_message.specs.declared.framing.Framing.{Framing}
+use Rattle.http_message.specs.declared.framing.Framing.TheVariants.{Sized, Chunked}
+use Rattle.http_message.specs.declared.refused.Refused.{Refused}
+use Rattle.http_message.specs.declared.refused.Refused.TheVariants.{BadHead, HeadTooLarge}
 
 -- What the bytes of an item are.
 pub data Item : Type 0 where
-  -- no head of a request
-  bad_head : Item
-  -- a head of which this server builds no request, or none in the room for one
-  not_built : Item
   -- a request, with all of its body
-  request : (method : Method) (target : Target) (body : List ℕ) → Item
+  request : (message : Message) → Item
+  -- A request whose end cannot be told. Its head was not refused and called for `100 Continue` where
+  -- `called` says so, and was not refused and has the method HEAD where `head` does.
+  unframed : (refused : Refused) (called head : Bool) → Item
 
--- nothing is read behind the item: where the next one begins cannot be told
+-- `100 Continue` begins the item's text
+abbrev pub continues : Item → Bool
+continues (request m) = calls_for_continue m.minor m.fields (is_coded m.fields || nat_lt 0 (length m.body))
+continues (unframed refused called head) = called
+
+-- the connection ends after the item
 abbrev pub closes : Item → Bool
-closes bad_head = true
-closes not_built = true
-closes (request method target body) = false
+closes (request m) = asks_to_close m
+closes (unframed refused called head) = true
+
+-- the method is HEAD
+abbrev pub is_head : RequestHead → Bool
+is_head head = bytes_eq head.method (codes "HEAD")
+
+-- The bytes behind a head are the body that it frames so, and come out as this item.
+pub data IsFramed (head : RequestHead) : Framing → (coded : List ℕ) → Item → Type 0 where
+  sized : (size : ℕ) (body : List ℕ) → length body ≡ size → IsFramed head (Sized size) body (request (message_of head body))
+  chunked : (coded body : List ℕ) → Decodes 0 0 coded (Decoded body)
+      → IsFramed head Chunked coded (request (message_of head body))
+  broken : (coded : List ℕ) (refused : Refused) → Decodes 0 0 coded (Broken refused)
+      → IsFramed head Chunked coded (unframed refused (calls head Chunked) (is_head head))
 
 -- The text of a head, and the bytes behind it, are this item.
-pub data IsItemOf (text body : List ℕ) (item : Item) : Type 0 where
+pub data IsItemOf (text coded : List ℕ) (item : Item) : Type 0 where
   -- no head is just this text
-  no_head : IsNoHead text → body ≡ [] → item ≡ bad_head → IsItemOf text body item
-  -- one is, and no request is built of it
-  unbuilt : (head : RequestHead) → IsHead text head → built_of head ≡ None → body ≡ []
-      → item ≡ not_built → IsItemOf text body item
-  -- one is, and its request has just this body
-  whole : (head : RequestHead) (built : Built) → IsHead text head → built_of head ≡ Some built
-      → length body ≡ built.size → item ≡ request built.method built.target body
-      → IsItemOf text body item
+  no_head : IsNoHead text → coded ≡ [] → item ≡ unframed BadHead false false → IsItemOf text coded item
+  -- one is, and it is refused
+  bad_head : (head : RequestHead) (refused : Refused) → IsHead text head → framing_of head ≡ Err refused
+      → coded ≡ [] → item ≡ unframed refused false false → IsItemOf text coded item
+  -- one is, and it frames the bytes behind it
+  framed : (head : RequestHead) (framing : Framing) → IsHead text head → framing_of head ≡ Ok framing
+      → IsFramed head framing coded item → IsItemOf text coded item
 
 -- the bytes are this item, by what stands at their front
 abbrev pub IsItemBy : Front → List ℕ → Item → Type 0
-IsItemBy BareReturn piece item = (length piece ≡ lead_length piece + 2) × (item ≡ bad_head)
+IsItemBy BareReturn piece item = (length piece ≡ lead_length piece + 2) × (item ≡ unframed BadHead false false)
 IsItemBy (Text text) piece item =
-    (body : List ℕ) × (drop (lead_length piece) piece ≡ text ++ body) × IsItemOf text body item
-IsItemBy TooLarge piece item = (length piece ≡ head_limit) × (item ≡ not_built)
-IsItemBy Unfinished piece item = ⊥
+    (coded : List ℕ) × (drop (lead_length piece) piece ≡ text ++ coded) × IsItemOf text coded item
+IsItemBy TooLarge piece item = (length piece ≡ head_limit) × (item ≡ unframed HeadTooLarge false false)
+IsItemBy Undecided piece item = ⊥
 
 -- The bytes are one item, whole and no more.
 pub record IsItem (piece : List ℕ) (item : Item) : Type 0 where
   pub is : IsItemBy (front_of piece) piece item
 
--- No item is whole in the bytes, and more bytes may make one.
-pub data IsOpen (rest : List ℕ) : Type 0 where
+-- The bytes behind a head are not yet all of the body that it frames so.
+pub data IsCut : Framing → (coded : List ℕ) → Type 0 where
+  sized : (size : ℕ) (coded : List ℕ) → length coded < size → IsCut (Sized size) coded
+  chunked : (coded : List ℕ) → Decodes 0 0 coded Unfinished → IsCut Chunked coded
+
+-- No item is whole in the bytes, and more bytes may make one. Its head has come and calls for
+-- `100 Continue` where `called` says so.
+pub data IsOpen (rest : List ℕ) (called : Bool) : Type 0 where
   -- no head is complete
-  no_text : front_of rest ≡ Unfinished → IsOpen rest
-  -- a request is built, and its body is cut short
-  cut_short : (text : List ℕ) (head : RequestHead) (built : Built) → front_of rest ≡ Text text
-      → IsHead text head → built_of head ≡ Some built
-      → length rest < lead_length rest + (length text + built.size) → IsOpen rest
+  no_text : front_of rest ≡ Undecided → called ≡ false → IsOpen rest called
+  -- one is, and its body is cut short
+  cut_short : (text coded : List ℕ) (head : RequestHead) (framing : Framing) → front_of rest ≡ Text text
+      → drop (lead_length rest) rest ≡ text ++ coded → IsHead text head → framing_of head ≡ Ok framing
+      → IsCut framing coded → called ≡ calls head framing → IsOpen rest called
+
+-- The bytes begin with a head that calls for `100 Continue`.
+pub record IsCalled (bytes : List ℕ) : Type 0 where
+  pub text : List ℕ
+  pub head : RequestHead
+  pub framing : Framing
+  pub front : front_of bytes ≡ Text text
+  pub is : IsHead text head
+  pub framed : framing_of head ≡ Ok framing
+  pub called : calls head framing ≡ true

@@ -1,47 +1,65 @@
 //! The fields of a head, found by their names.
-ghost use Rattle.std.specs.Prelude.{◌≡◌, ℕ, ◌+◌, ◌<◌, ◌≤◌, List, ◌++◌, [], ◌∷◌, length, map, min, true, All, IsTrue, IfSome, if◌then◌else◌};
-ghost use Rattle.std.specs.Char.{is_ascii_digit, digit_value};
-ghost use Rattle.std.specs.List.{list_all};
-ghost use Rattle.std.specs.Str.Parse.{digits_value};
-ghost use Rattle.httparse.specs.Spans.{header_bytes, span_bytes, IsHeaderWithin, IsWithin};
-ghost use Rattle.http_message.specs.Fields.{values, is_named, is_number, stated_length, body_size, size_of, body_limit};
-ghost use Rattle.http_message.specs.Named.{IsNamed, IsNamedWithin};
+ghost use Rattle.std.specs.Prelude.{◌≡◌, ℕ, List, ◌++◌, [], ◌∷◌, ◌&&◌, ◌<◌, length, map, slice_get, All, codes};
+ghost use Rattle.std.specs.List.{list_any};
+ghost use Rattle.std.specs.Str.{str_eq_ignore_ascii_case};
+ghost use Rattle.httparse.specs.Spans.{header_bytes, span_bytes, IsHeaderWithin};
+ghost use Rattle.http_message.specs.Fields.{values, is_named, has_option};
+ghost use Rattle.http_message.specs.Message.{expects};
+ghost use Rattle.http_message.specs.Named.{IsNamed};
 
-use crate::method::Method;
-use httparse::spans::{HeaderSpan, Span};
+use crate::options::has_option;
+use httparse::spans::HeaderSpan;
 
-/// The most bytes that a body has.
-pub const BODY_LIMIT: usize = 65_536;
-
-/// How often a name stands among the fields.
+/// How often a name stands among the fields of a head.
 #[derive(Clone, Copy, Debug, PartialEq, Eq)]
-pub enum Named {
+pub enum Named<'a> {
+    /// No field has it.
     Absent,
-    /// Once, and where its value is.
-    Once(Span),
-    Twice,
+    /// One field has it, with this value.
+    Once(&'a [u8]),
+    /// Several fields have it.
+    Repeated,
 }
 
-impl Named {
-    /// With one more field, whose value counts where it has the name.
-    fn with(self, has_name: bool, value: Span) -> Named
-        ensures named { (text : List ℕ) (found : List (List ℕ)) → IsNamed text found self
-            → IsNamed text (found ++ (if has_name then span_bytes text value ∷ [] else [])) result }
-        ensures within { (size : ℕ) → IsNamedWithin size self → IsWithin size value
-            → IsNamedWithin size result }
+impl<'a> Named<'a> {
+    /// With one more field that has the name.
+    fn with(self, value: &'a [u8]) -> Named<'a>
+        ensures { (found : List (List ℕ)) → IsNamed found self.entry → IsNamed (found ++ value.now ∷ []) result }
     {
-        if !has_name {
-            return self;
-        }
         match self {
             Named::Absent => Named::Once(value),
-            Named::Once(_) => Named::Twice,
-            Named::Twice => Named::Twice,
+            Named::Once(_) => Named::Repeated,
+            Named::Repeated => Named::Repeated,
         }
     }
 }
 
-/// Whether the field has this name, without regard to ASCII case.
+/// The field at this place.
+pub fn field_at(text: &[u8], fields: &[HeaderSpan], place: usize) -> HeaderSpan
+    requires within { All (IsHeaderWithin (length text.now)) fields.now }
+    requires place { place < length fields.now }
+    ensures within { IsHeaderWithin (length text.now) result }
+    ensures is { slice_get (map (header_bytes text.now) fields.now) place ≡ Some (header_bytes text.now result) }
+{
+    fields[place]
+}
+
+/// How often this name stands among the fields, and its value where it stands once.
+pub fn find_named<'a>(text: &'a [u8], fields: &[HeaderSpan], name: &[u8]) -> Named<'a>
+    requires { All (IsHeaderWithin (length text.now)) fields.now }
+    ensures { IsNamed (values name.now (map (header_bytes text.now) fields.now)) result }
+{
+    let mut found = Named::Absent;
+    for field in fields {
+        if !is_named(text, *field, name) {
+            continue;
+        }
+        found = found.with(field.value.of(text));
+    }
+    found
+}
+
+/// Whether the field has this name.
 fn is_named(text: &[u8], field: HeaderSpan, name: &[u8]) -> bool
     requires { IsHeaderWithin (length text.now) field }
     ensures { result ≡ is_named name.now (header_bytes text.now field) }
@@ -49,100 +67,44 @@ fn is_named(text: &[u8], field: HeaderSpan, name: &[u8]) -> bool
     field.name.of(text).eq_ignore_ascii_case(name)
 }
 
-/// How often this name stands among the fields, and where its value is.
-pub fn find_named(text: &[u8], fields: &[HeaderSpan], name: &[u8]) -> Named
+/// Whether some field of Connection has the option `close`.
+pub fn closes(text: &[u8], fields: &[HeaderSpan]) -> bool
     requires { All (IsHeaderWithin (length text.now)) fields.now }
-    ensures found { IsNamed text.now (values name.now (map (header_bytes text.now) fields.now)) result }
-    ensures within { IsNamedWithin (length text.now) result }
+    ensures { result ≡ list_any (has_option (codes "close")) (values (codes "connection") (map (header_bytes text.now) fields.now)) }
 {
-    let mut found = Named::Absent;
     for field in fields {
-        let has_name = is_named(text, *field, name);
-        found = found.with(has_name, field.value);
-    }
-    found
-}
-
-/// The length of the body that the fields of a built request state.
-pub fn size_of(text: &[u8], method: Method, fields: &[HeaderSpan]) -> Option<usize>
-    requires { All (IsHeaderWithin (length text.now)) fields.now }
-    ensures size { result ≡ size_of method (map (header_bytes text.now) fields.now) }
-    ensures limit { IfSome result (λ size. size ≤ body_limit) }
-{
-    let hosts = find_named(text, fields, b"host");
-    let lengths = find_named(text, fields, b"content-length");
-    body_size(text, method, hosts, lengths, fields.len())
-}
-
-/// The length of the body, of the fields of two names and of the number of all fields.
-fn body_size(
-    text: &[u8],
-    method: Method,
-    hosts: Named,
-    lengths: Named,
-    count: usize,
-) -> Option<usize>
-    requires { IsNamedWithin (length text.now) lengths }
-    ensures size { (named stated : List (List ℕ)) → IsNamed text.now named hosts → IsNamed text.now stated lengths
-        → result ≡ body_size method named stated count }
-    ensures limit { IfSome result (λ size. size ≤ body_limit) }
-{
-    match (method, hosts, lengths) {
-        (Method::Get | Method::Post, Named::Once(_), Named::Absent) if count == 1 => Some(0),
-        (Method::Put, Named::Once(_), Named::Once(value)) if count == 2 => {
-            stated_length(value.of(text))
+        if is_close(text, *field) {
+            return true;
         }
-        _ => None,
     }
+    false
 }
 
-/// The length that a value of Content-Length states.
-fn stated_length(text: &[u8]) -> Option<usize>
-    ensures size { result ≡ stated_length text.now }
-    ensures limit { IfSome result (λ size. size ≤ body_limit) }
+/// Whether this field does.
+fn is_close(text: &[u8], field: HeaderSpan) -> bool
+    requires { IsHeaderWithin (length text.now) field }
+    ensures { result ≡ (is_named (codes "connection") (header_bytes text.now field) && has_option (codes "close") (span_bytes text.now field.value)) }
 {
-    if !is_number(text) {
-        return None;
+    is_named(text, field, b"connection") && has_option(field.value.of(text), b"close")
+}
+
+/// Whether some field of Expect asks for `100 Continue`.
+pub fn expects(text: &[u8], fields: &[HeaderSpan]) -> bool
+    requires { All (IsHeaderWithin (length text.now)) fields.now }
+    ensures { result ≡ expects (map (header_bytes text.now) fields.now) }
+{
+    for field in fields {
+        if is_expectation(text, *field) {
+            return true;
+        }
     }
-    let size = number(text);
-    if size > BODY_LIMIT {
-        return None;
-    }
-    Some(size)
+    false
 }
 
-/// Whether the text is 1 to 5 digits.
-#[tactic(auto, unfolding(crate::specs::Fields::is_number))]
-fn is_number(text: &[u8]) -> bool
-    ensures value { result ≡ is_number text.now }
-    ensures digits { IsTrue result → list_all is_ascii_digit text.now ≡ true }
+/// Whether this field does.
+fn is_expectation(text: &[u8], field: HeaderSpan) -> bool
+    requires { IsHeaderWithin (length text.now) field }
+    ensures { result ≡ (is_named (codes "expect") (header_bytes text.now field) && str_eq_ignore_ascii_case (span_bytes text.now field.value) (codes "100-continue")) }
 {
-    !text.is_empty() && text.len() <= 5 && are_digits(text)
-}
-
-/// Whether each byte is a digit.
-fn are_digits(text: &[u8]) -> bool
-    ensures { result ≡ list_all is_ascii_digit text.now }
-{
-    text.iter().all(|byte| byte.is_ascii_digit())
-}
-
-/// The number that the digits write, or one more than the limit where it is above this.
-fn number(digits: &[u8]) -> usize
-    requires { list_all is_ascii_digit digits.now ≡ true }
-    ensures { result ≡ min (digits_value 10 digits.now) (body_limit + 1) }
-{
-    let mut number: usize = 0;
-    for byte in digits {
-        number = (number * 10 + digit(*byte)).min(BODY_LIMIT + 1);
-    }
-    number
-}
-
-/// The number that a digit writes.
-fn digit(byte: u8) -> usize
-    ensures value { is_ascii_digit byte ≡ true → result ≡ digit_value byte }
-    ensures small { result < 256 }
-{
-    byte.wrapping_sub(b'0') as usize
+    is_named(text, field, b"expect") && field.value.of(text).eq_ignore_ascii_case(b"100-continue")
 }

@@ -2,7 +2,7 @@
 ghost use Rattle.std.specs.Prelude.{◌≡◌, ℕ, ◌+◌, ◌-◌, ◌<◌, ◌≤◌, List, [], length, take, drop, slice_range, vec_len, IfOk, OnErr};
 ghost use Rattle.httparse.specs.Spans.{span_bytes};
 ghost use Rattle.q_outside.specs.Told.{Takes, IsEnded, Counts};
-ghost use Rattle.http_message.specs.Input.{Grows, IsFilled, IsReached, room_size};
+ghost use Rattle.http_message.specs.Input.{Grows, IsFilled, input_size};
 
 use httparse::spans::Span;
 use q_base::Memory;
@@ -10,8 +10,8 @@ use q_outside::{Failed, Source};
 use std::alloc::Global;
 use std::marker::Model;
 
-/// The bytes of the longest head and of the longest body.
-pub const ROOM_SIZE: usize = 81_920;
+/// The buffer has room for the longest head.
+pub const INPUT_SIZE: usize = 16_384;
 
 /// Bytes in a buffer of a fixed size. Contracts see them as a list.
 #[derive(Drop)]
@@ -43,10 +43,10 @@ pub enum Filled {
     Failed,
 }
 
-/// Whether so many bytes are held.
+/// Whether all bytes came that were asked for.
 #[derive(Clone, Copy, Debug, PartialEq, Eq)]
 pub enum Reached {
-    /// They are.
+    /// They did.
     Whole,
     /// The source had ended.
     Ended,
@@ -59,7 +59,7 @@ impl Input {
     pub fn new(alloc: Global) -> Result<Input, Memory>
         ensures { IfOk result (λ input. input ≡ []) }
     {
-        let buffer = vec![in alloc; 0; ROOM_SIZE]?;
+        let buffer = vec![in alloc; 0; INPUT_SIZE]?;
         Ok(Input {
             buffer,
             start: 0,
@@ -105,7 +105,7 @@ impl Input {
     /// Takes more bytes behind these. They are moved to the front where the room behind them is used
     /// up.
     pub fn fill<S: Source>(&mut self, source: &mut S) -> Filled
-        requires { length self.old < room_size }
+        requires { length self.old < input_size }
         ensures grows { Grows (S.left source.old) (S.left source.new) self.old self.new }
         ensures filled { IsFilled (IsEnded (S.left source.new)) (S.faults source.old < S.faults source.new) self.old self.new result }
         ensures count { S.faults source.old ≤ S.faults source.new }
@@ -121,23 +121,6 @@ impl Input {
             }
             Err(Failed) => Filled::Failed,
         }
-    }
-
-    /// Takes more bytes until so many are held.
-    pub fn fill_to<S: Source>(&mut self, source: &mut S, size: usize) -> Reached
-        requires { size ≤ room_size }
-        ensures grows { Grows (S.left source.old) (S.left source.new) self.old self.new }
-        ensures reached { IsReached (IsEnded (S.left source.new)) (S.faults source.old < S.faults source.new) size self.new result }
-        ensures count { S.faults source.old ≤ S.faults source.new }
-    {
-        while self.len() < size {
-            match self.fill(source) {
-                Filled::More => {}
-                Filled::Ended => return Reached::Ended,
-                Filled::Failed => return Reached::Failed,
-            }
-        }
-        Reached::Whole
     }
 }
 

@@ -1,24 +1,39 @@
-//! The requests of a stream of bytes: where each ends, what it asks for, and which are refused.
+//! The requests of a stream of bytes: where each ends, what it says, and which cannot be framed.
 #![tactic(auto)]
 
-mod build;
+mod body;
+mod chunk;
+mod coding;
 mod fields;
+mod find;
+mod framing;
 mod front;
 mod head;
+mod headed;
 mod input;
+mod judge;
+mod kept;
 mod laws;
-mod method;
-mod parts;
+mod limits;
+mod line;
+mod message;
+mod next;
+mod options;
+mod refused;
 mod request;
 mod room;
 mod scan;
-mod target;
+mod taken;
 #[cfg(test)]
 mod tests;
+mod trailers;
 
-pub use httparse::spans::Span;
-pub use laws::{no_item_is_in_open_bytes, one_item_is_first, one_split_is_there};
-pub use method::Method;
-pub use parts::{Parts, Taken};
+pub use fields::Named;
+pub use framing::Framing;
+pub use laws::{
+    no_item_is_in_open_bytes, one_call_is_there, one_item_is_first, one_split_is_there,
+};
+pub use message::Request;
+pub use refused::{Allow, DocumentReason, Refused};
 pub use room::{RequestRoom, next_request};
-pub use target::TargetParts;
+pub use taken::Taken;

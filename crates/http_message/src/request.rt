@@ -1,131 +1,115 @@
 //! The next item of a source's bytes.
-ghost use Rattle.std.specs.Prelude.{◌≡◌, ℕ, ◌+◌, ◌<◌, ◌≤◌, length, take, drop, if◌then◌else◌};
-ghost use Rattle.q_outside.specs.Told.{IsEnded};
-ghost use Rattle.http_message.specs.Found.{IsFound, IsTextAt};
+ghost use Rattle.std.specs.Prelude.{◌≡◌, ◌+◌, ◌<◌, ◌≤◌, ◌^◌, length, OnOk, OnErr, true};
+ghost use Rattle.q_outside.specs.Told.{IsEnded, Gives, GivesPart, Counts};
+ghost use Rattle.http_message.specs.Bodied.{IsBody};
+ghost use Rattle.http_message.specs.Coding.{trailer_room};
+ghost use Rattle.http_message.specs.Framing.{body_limit};
 ghost use Rattle.http_message.specs.Head.{field_room};
-ghost use Rattle.http_message.specs.Input.{Grows, IsReached};
-ghost use Rattle.http_message.specs.Parts.{IsTaken};
-ghost use Rattle.http_message.specs.Placed.{room_size};
-ghost use Rattle.http_message.specs.Shape.{IsBuiltFrom};
-ghost use Rattle.http_message.specs.Text.{is_blank};
+ghost use Rattle.http_message.specs.Headed.{HasRoom};
+ghost use Rattle.http_message.specs.Message.{Message};
+ghost use Rattle.http_message.specs.Room.{message_kept, IsKept, held_of};
+ghost use Rattle.http_message.specs.Taken.{IsTaken, item_limit, continue_text, continue_where};
+ghost use Rattle.http_message.specs.Text.{head_limit};
 
-use crate::build::{Judged, Shape, judge};
-use crate::front::{HEAD_LIMIT, Seen, look_in};
-use crate::input::{Filled, Input, Reached};
-use crate::parts::{Taken, parts_of};
-use crate::scan::Scan;
+use crate::body::take_exact;
+use crate::coding::{Coded, take_coded};
+use crate::framing::Framing;
+use crate::headed::{Headed, next_head};
+use crate::input::{Input, Reached};
+use crate::kept::Kept;
+use crate::next::Next;
+use crate::taken::Taken;
 use httparse::spans::HeaderSpan;
-use q_outside::Source;
+use q_outside::{Failed, Sink, Source, give_all};
 
-/// What was found at the front, or why no more bytes came.
-#[derive(Clone, Copy, Debug, PartialEq, Eq)]
-pub enum Found {
-    /// Behind the empty lines a CR that no LF follows.
-    BareReturn { lead: usize },
-    /// Behind the empty lines the text of a head, of this length.
-    Text { lead: usize, size: usize },
-    /// So many bytes that a head had to end among them, and none does.
-    TooLarge,
-    /// The source had ended.
-    Ended,
-    /// The source failed.
-    Failed,
-}
+/// What begins the text of an item that calls for it (RFC 9110, section 15.2.1).
+const CONTINUE: &[u8] = b"HTTP/1.1 100 Continue\r\n\r\n";
 
-/// Takes the next item, into the bytes that are held.
-pub fn next_in<S: Source>(source: &mut S, input: &mut Input, spans: &mut [HeaderSpan]) -> Taken
-    requires { length spans.old ≡ field_room }
-    ensures grows { Grows (S.left source.old) (S.left source.new) input.old input.new }
-    ensures taken { IsTaken (IsEnded (S.left source.new)) (S.faults source.old < S.faults source.new) input.new result }
-    ensures count { S.faults source.old ≤ S.faults source.new }
+/// Takes the next item, which begins at this place. Its head's text, its fields' places and its body
+/// are put to the front of the rooms for them.
+pub fn next_in<S: Source, K: Sink>(
+    source: &mut S,
+    sink: &mut K,
+    input: &mut Input,
+    text: &mut [u8],
+    spans: &mut [HeaderSpan],
+    spare: &mut [HeaderSpan],
+    body: &mut [u8],
+    place: usize,
+) -> Next
+    requires text { length text.old ≡ head_limit }
+    requires spans { length spans.old ≡ field_room }
+    requires spare { length spare.old ≡ trailer_room }
+    requires body { length body.old ≡ body_limit }
+    requires place { place + item_limit < 2 ^ 64 }
+    ensures taken { (message : Message) → IsTaken (S.left source.old) (S.left source.new) (K.held sink.old) (K.held sink.new) (IsEnded (S.left source.new)) (S.faults source.old < S.faults source.new) (K.faults sink.old < K.faults sink.new) (held_of input.old place message) (held_of input.new result.place (message_kept text.new spans.new body.new result.kept)) result.taken }
+    ensures kept { IsKept text.new spans.new body.new result.kept }
+    ensures source_count { S.faults source.old ≤ S.faults source.new }
+    ensures sink_count { K.faults sink.old ≤ K.faults sink.new }
 {
-    match find_head(source, input) {
-        Found::BareReturn { lead } => Taken::BadHead { length: lead + 2 },
-        Found::Text { lead, size } => take_text(source, input, spans, lead, size),
-        Found::TooLarge => Taken::NotBuilt { length: HEAD_LIMIT },
-        Found::Ended => ended(input.bytes()),
-        Found::Failed => Taken::ReadFault,
-    }
-}
-
-/// Takes bytes until the head of the next item is there.
-fn find_head<S: Source>(source: &mut S, input: &mut Input) -> Found
-    ensures grows { Grows (S.left source.old) (S.left source.new) input.old input.new }
-    ensures found { IsFound (IsEnded (S.left source.new)) (S.faults source.old < S.faults source.new) input.new result }
-    ensures count { S.faults source.old ≤ S.faults source.new }
-{
-    let mut scan = Scan::START;
-    loop {
-        match look_in(input.bytes(), scan) {
-            Seen::BareReturn { lead } => return Found::BareReturn { lead },
-            Seen::Text { lead, size } => return Found::Text { lead, size },
-            Seen::TooLarge => return Found::TooLarge,
-            Seen::Unfinished(further) => match input.fill(source) {
-                Filled::More => scan = further,
-                Filled::Ended => return Found::Ended,
-                Filled::Failed => return Found::Failed,
-            },
+    match next_head(source, input, text, spans) {
+        Headed::Bad { refused, used } => Next::unframed(refused, place, place + used, false),
+        Headed::Ended { blank: true } => Next::halt(Taken::InputEnd, place),
+        Headed::Ended { blank: false } => Next::halt(Taken::Truncated, place),
+        Headed::Failed => Next::halt(Taken::ReadFault, place),
+        Headed::Framed(head) => {
+            if give_continue(sink, head.calls).is_err() {
+                return Next::halt(Taken::WriteFault, place);
+            }
+            let behind = place + head.used;
+            match take_body(source, input, head.framing, body, spare) {
+                Coded::Whole { size, used } => Next {
+                    taken: Taken::Request { place },
+                    place: behind + used,
+                    kept: Kept {
+                        text: head.text,
+                        parts: head.parts,
+                        body: size,
+                    },
+                },
+                Coded::Broken { refused, used } => {
+                    Next::unframed(refused, place, behind + used, head.head)
+                }
+                Coded::Ended => Next::halt(Taken::Truncated, place),
+                Coded::Failed => Next::halt(Taken::ReadFault, place),
+            }
         }
     }
 }
 
-/// Takes the item whose head's text is there.
-fn take_text<S: Source>(
-    source: &mut S,
-    input: &mut Input,
-    spans: &mut [HeaderSpan],
-    lead: usize,
-    size: usize,
-) -> Taken
-    requires spans { length spans.old ≡ field_room }
-    requires text { IsTextAt input.old lead size }
-    ensures grows { Grows (S.left source.old) (S.left source.new) input.old input.new }
-    ensures taken { IsTaken (IsEnded (S.left source.new)) (S.faults source.old < S.faults source.new) input.new result }
-    ensures count { S.faults source.old ≤ S.faults source.new }
+/// Gives `100 Continue` where it is called for.
+fn give_continue<K: Sink>(sink: &mut K, called: bool) -> Result<(), Failed>
+    ensures ok { OnOk result (Gives (K.held sink.old) (K.held sink.new) (continue_where called)) }
+    ensures called { OnErr result (called ≡ true) }
+    ensures part { OnErr result (GivesPart (K.held sink.old) (K.held sink.new) continue_text) }
+    ensures count { Counts (K.faults sink.old) (K.faults sink.new) result }
 {
-    let head = lead + size;
-    match judge(&input.bytes()[lead..head], spans) {
-        Judged::NoHead => Taken::BadHead { length: head },
-        Judged::Unbuilt => Taken::NotBuilt { length: head },
-        Judged::Whole(shape) => take_body(source, input, lead, size, shape),
+    if called {
+        return give_all(sink, CONTINUE);
     }
+    Ok(())
 }
 
-/// Takes the request whose head is there.
+/// Takes the body of this framing into the front of the room for it.
 fn take_body<S: Source>(
     source: &mut S,
     input: &mut Input,
-    lead: usize,
-    size: usize,
-    shape: Shape,
-) -> Taken
-    requires text { IsTextAt input.old lead size }
-    requires built { IsBuiltFrom (take size (drop lead input.old)) shape }
-    ensures grows { Grows (S.left source.old) (S.left source.new) input.old input.new }
-    ensures taken { IsTaken (IsEnded (S.left source.new)) (S.faults source.old < S.faults source.new) input.new result }
+    framing: Framing,
+    body: &mut [u8],
+    spare: &mut [HeaderSpan],
+) -> Coded
+    requires room { HasRoom framing }
+    requires body { length body.old ≡ body_limit }
+    requires spare { length spare.old ≡ trailer_room }
+    ensures body { IsBody (S.left source.old) (S.left source.new) (IsEnded (S.left source.new)) (S.faults source.old < S.faults source.new) framing input.old input.new body.new result }
     ensures count { S.faults source.old ≤ S.faults source.new }
 {
-    let head = lead + size;
-    match input.fill_to(source, head + shape.size) {
-        Reached::Whole => Taken::Request(parts_of(lead, head, shape)),
-        Reached::Ended => ended(input.bytes()),
-        Reached::Failed => Taken::ReadFault,
+    match framing {
+        Framing::Sized(size) => match take_exact(source, input, &mut body[..size]) {
+            Reached::Whole => Coded::Whole { size, used: size },
+            Reached::Ended => Coded::Ended,
+            Reached::Failed => Coded::Failed,
+        },
+        Framing::Chunked => take_coded(source, input, body, spare),
     }
-}
-
-/// What the end of the source makes of bytes in which no item is whole.
-fn ended(held: &[u8]) -> Taken
-    ensures { result ≡ (if is_blank held.now then Taken.InputEnd else Taken.Truncated) }
-{
-    if is_blank(held) {
-        return Taken::InputEnd;
-    }
-    Taken::Truncated
-}
-
-/// Whether there is nothing but CR and LF.
-fn is_blank(bytes: &[u8]) -> bool
-    ensures { result ≡ is_blank bytes.now }
-{
-    bytes.iter().all(|byte| *byte == b'\r' || *byte == b'\n')
 }

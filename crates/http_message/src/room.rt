@@ -1,76 +1,114 @@
 //! The room for a connection's requests, and the requests that are taken into it.
-ghost use Rattle.std.specs.Prelude.{◌≡◌, ◌<◌, ◌≤◌, [], length, drop, IfOk};
+ghost use Rattle.std.specs.Prelude.{◌≡◌, ◌+◌, ◌<◌, ◌≤◌, ◌^◌, [], IfOk};
 ghost use Rattle.q_outside.specs.Told.{IsEnded};
-ghost use Rattle.http_message.specs.Input.{Grows};
-ghost use Rattle.http_message.specs.Parts.{IsTaken};
+ghost use Rattle.http_message.specs.Taken.{IsTaken, item_limit};
 
+use crate::coding::TRAILER_ROOM;
+use crate::framing::BODY_LIMIT;
+use crate::front::HEAD_LIMIT;
 use crate::head::FIELD_ROOM;
 use crate::input::Input;
-use crate::parts::Taken;
+use crate::kept::Kept;
+use crate::message::Request;
 use crate::request::next_in;
+use crate::taken::Taken;
 use httparse::spans::{EMPTY_HEADER_SPAN, HeaderSpan};
 use q_base::Memory;
-use q_outside::Source;
+use q_outside::{Sink, Source};
 use std::alloc::Global;
 use std::marker::Model;
 
-/// The bytes that were taken from a source and are not used yet. All memory is taken by `new`.
+/// The room for the requests of a connection: the bytes that were taken from its source and are not
+/// used yet, and the last request. All memory is taken by `new`.
 #[derive(Drop)]
 pub struct RequestRoom {
     input: Input,
+    text: Vec<u8>,
     spans: Vec<HeaderSpan>,
+    spare: Vec<HeaderSpan>,
+    body: Vec<u8>,
+    kept: Kept,
+    place: usize,
 }
 
 impl Model for RequestRoom {
-    ghost use Rattle.std.specs.Prelude.{◌≡◌, ℕ, List, length};
-    ghost use Rattle.http_message.specs.Head.{field_room};
+    ghost use Rattle.http_message.specs.Room.{IsRoom, message_kept, held_of};
+    ghost use Rattle.http_message.specs.Taken.{Held};
 
-    ghost Value = { List ℕ };
+    ghost Value = { Held };
 
-    ghost view = { λ r. r.input };
+    ghost view = { λ r. held_of r.input r.place (message_kept r.text.items r.spans.items r.body.items r.kept) };
 
-    ghost invariant = { λ r. length r.spans.items ≡ field_room };
+    ghost invariant = { λ r. IsRoom r.text.items r.spans.items r.spare.items r.body.items r.kept };
 }
 
 impl RequestRoom {
-    /// The room for a head and a body, which holds no byte.
+    /// The room, which holds no byte.
     pub fn new(alloc: Global) -> Result<RequestRoom, Memory>
-        ensures { IfOk result (λ room. room ≡ []) }
+        ensures { IfOk result (λ room. (room.bytes ≡ []) × (room.place ≡ 0)) }
     {
         let input = Input::new(alloc)?;
+        let text = vec![in alloc; 0; HEAD_LIMIT]?;
         let spans = vec![in alloc; EMPTY_HEADER_SPAN; FIELD_ROOM]?;
-        Ok(RequestRoom { input, spans })
+        let spare = vec![in alloc; EMPTY_HEADER_SPAN; TRAILER_ROOM]?;
+        let body = vec![in alloc; 0; BODY_LIMIT]?;
+        Ok(RequestRoom {
+            input,
+            text,
+            spans,
+            spare,
+            body,
+            kept: Kept::NONE,
+            place: 0,
+        })
     }
 
-    /// The bytes that are held.
-    pub fn bytes(&self) -> &[u8]
-        ensures { result.now ≡ self.now }
+    /// The last request that was taken.
+    pub fn request(&self) -> Request<'_>
+        ensures { result ≡ self.now.message }
     {
-        self.input.bytes()
+        Request {
+            text: &self.text[..self.kept.text],
+            spans: &self.spans,
+            parts: self.kept.parts,
+            body: &self.body[..self.kept.body],
+        }
     }
 
-    /// Drops the bytes of a former connection.
+    /// Drops what is left of a former connection.
     pub fn clear(&mut self)
-        ensures { self.new ≡ [] }
+        ensures bytes { self.new.bytes ≡ [] }
+        ensures place { self.new.place ≡ 0 }
     {
         self.input.clear();
-    }
-
-    /// Drops the first bytes, so many: those of an item that is done. None is moved.
-    pub fn skip(&mut self, count: usize)
-        requires { count ≤ length self.old }
-        ensures { self.new ≡ drop count self.old }
-    {
-        self.input.skip(count);
+        self.place = 0;
     }
 }
 
-/// Takes the bytes of the next item, behind those that are held, and says what it is. The item stays
-/// in the room until it is skipped.
-pub fn next_request<S: Source>(source: &mut S, room: &mut RequestRoom) -> Taken
-    ensures grows { Grows (S.left source.old) (S.left source.new) room.old room.new }
-    ensures taken { IsTaken (IsEnded (S.left source.new)) (S.faults source.old < S.faults source.new) room.new result }
-    ensures count { S.faults source.old ≤ S.faults source.new }
+/// Takes the next item of the source's bytes, of those first that the room holds, and says what it is.
+/// `100 Continue` is given to the sink where the item's head calls for it, before its body is taken.
+/// It takes no memory.
+pub fn next_request<S: Source, K: Sink>(
+    source: &mut S,
+    sink: &mut K,
+    room: &mut RequestRoom,
+) -> Taken
+    requires { room.old.place + item_limit < 2 ^ 64 }
+    ensures taken { IsTaken (S.left source.old) (S.left source.new) (K.held sink.old) (K.held sink.new) (IsEnded (S.left source.new)) (S.faults source.old < S.faults source.new) (K.faults sink.old < K.faults sink.new) room.old room.new result }
+    ensures source_count { S.faults source.old ≤ S.faults source.new }
+    ensures sink_count { K.faults sink.old ≤ K.faults sink.new }
 {
-    next_in(source, &mut room.input, &mut room.spans)
+    let next = next_in(
+        source,
+        sink,
+        &mut room.input,
+        &mut room.text,
+        &mut room.spans,
+        &mut room.spare,
+        &mut room.body,
+        room.place,
+    );
+    room.place = next.place;
+    room.kept = next.kept;
+    next.taken
 }

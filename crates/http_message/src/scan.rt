@@ -95,7 +95,7 @@ fn skip_blank(bytes: &[u8], known: usize) -> usize
 
 /// The length of the empty line at the front, 0 where none is there, or nothing where the next byte
 /// decides.
-fn empty_line(rest: &[u8]) -> Option<usize>
+pub fn empty_line(rest: &[u8]) -> Option<usize>
     ensures some { IfSome result (IsLine rest.now) }
     ensures none { IfNone result (IsCut rest.now) }
 {
@@ -125,7 +125,7 @@ fn begins_bare_return(rest: &[u8]) -> bool
 }
 
 /// Where the head ends, which it does not in the bytes that were passed.
-fn find_end(rest: &[u8], passed: usize) -> End
+pub fn find_end(rest: &[u8], passed: usize) -> End
     requires { Passes rest.now passed }
     ensures { IsEnd rest.now result }
 {

@@ -1,10 +1,8 @@
-use Rattle.std.proofs.Common.{take, map, length}
+use Rattle.std.proofs.Common.{take, map}
 use Rattle.httparse.specs.Spans.{header_bytes}
 use Rattle.http_message.specs.Fields.{values}
-use Rattle.http_message.specs.Named.{IsNamed, IsNamedWithin}
+use Rattle.http_message.specs.Named.{IsNamed}
 use Rattle.http_message.proofs.fields.find_named.Given as goal
 
 abbrev pub invariant-loop-field : goal.invariant-loop-field
-invariant-loop-field l =
-    IsNamed l.text (values l.name (map (header_bytes l.text) (take l.field-index l.fields))) l.found
-    × IsNamedWithin (length l.text) l.found
+invariant-loop-field l = IsNamed (values l.name (map (header_bytes l.text) (take l.field-index l.fields))) l.found

@@ -1,0 +1,149 @@
+-- The chunked coding of a body (RFC 9112, section 7.1), in a stream of bytes.
+use Rattle.std.specs.Prelude.{◌≡◌, ◌≢◌, ℕ, ◌+◌, ◌-◌, ◌<◌, ◌≤◌, min, Bool, true, false, nat_le, nat_lt, if◌then◌else◌, ◌==◌, ◌&&◌, List, [], ◌∷◌, ◌++◌, length, take, Option, Some, None, option_map, suc}
+use Rattle.httparse.specs.Ascii.{line_feed, crlf_bytes}
+use Rattle.httparse.specs.Grammar.{ChunkLine, ReadsChunkLine, chunk_size, Field, LineEnd, ReadsSection}
+use Rattle.http_message.specs.Framing.{body_limit}
+use Rattle.http_message.specs.Text.{empty_line, head_length}
+use Rattle.http_message.specs.declared.refused.Refused.{Refused}
+use Rattle.http_message.specs.declared.refused.Refused.TheVariants.{BadLength, BodyTooLarge}
+
+-- a chunk's line has at most so many bytes with its end, and so have the trailers with their empty line
+abbrev pub line_limit : ℕ
+line_limit = 4096
+
+-- the whole coding has at most so many bytes
+abbrev pub coding_limit : ℕ
+coding_limit = 524288
+
+-- there is room for so many fields in the trailers: a field has three bytes at least
+abbrev pub trailer_room : ℕ
+trailer_room = 1366
+
+-- the length up to and with the first LF
+abbrev pub line_length : List ℕ → Option ℕ
+line_length [] = None
+line_length (byte ∷ bytes) = if byte == line_feed then Some 1 else option_map suc (line_length bytes)
+
+-- the length of the trailers: of an empty line at the front, or up to and with the first empty line
+abbrev pub trailers_length : List ℕ → Option ℕ
+trailers_length bytes = if nat_lt 0 (empty_line bytes) then Some (empty_line bytes) else head_length bytes
+
+-- What stands at the front of a stream in which a text is looked for.
+pub data Cut : Type 0 where
+  -- the text, whole
+  Whole : (text : List ℕ) → Cut
+  -- the text does not end in the room for it
+  Overlong : Cut
+  -- more bytes decide
+  Short : Cut
+
+-- behind so many bytes of a coding there is room for so many bytes of a line or of trailers
+abbrev pub room_behind : ℕ → ℕ
+room_behind coded = min line_limit (coding_limit - coded)
+
+-- of the length of the text that is found in the room, and whether the room is full
+abbrev pub cut_by : Option ℕ → Bool → List ℕ → Cut
+cut_by (Some size) full bytes = Whole (take size bytes)
+cut_by None true bytes = Overlong
+cut_by None false bytes = Short
+
+-- the line at the front, behind so many bytes of the coding
+unfoldable pub line_at : ℕ → List ℕ → Cut
+line_at coded bytes =
+    cut_by (line_length (take (room_behind coded) bytes)) (nat_le (room_behind coded) (length bytes)) bytes
+
+-- the trailers at the front, behind so many bytes of the coding
+unfoldable pub trailers_at : ℕ → List ℕ → Cut
+trailers_at coded bytes =
+    cut_by (trailers_length (take (room_behind coded) bytes)) (nat_le (room_behind coded) (length bytes)) bytes
+
+-- Why a text that does not end in its room is refused: it is too long by itself, or the coding is.
+abbrev pub overlong_at : ℕ → Refused
+overlong_at coded = if nat_le line_limit (coding_limit - coded) then BadLength else BodyTooLarge
+
+-- the whole text is the line of a chunk of this size
+pub record IsSizeLine (text : List ℕ) (size : ℕ) : Type 0 where
+  pub line : ChunkLine
+  pub reads : ReadsChunkLine text line []
+  pub size_is : chunk_size line ≡ size
+
+-- the whole text is no line of a chunk
+pub record IsNoLine (text : List ℕ) : Type 0 where
+  pub none : (line : ChunkLine) → ¬ (ReadsChunkLine text line [])
+
+-- the whole text is trailers: fields, for which there is room, and an empty line
+pub record AreTrailers (text : List ℕ) : Type 0 where
+  pub fields : List Field
+  pub end : LineEnd
+  pub reads : ReadsSection text fields end []
+  pub room : length fields ≤ trailer_room
+
+-- the whole text is none
+pub record AreNoTrailers (text : List ℕ) : Type 0 where
+  pub none : AreTrailers text → ⊥
+
+-- A chunk of this size fits behind so many bytes of the coding, so many of the body, and its line.
+abbrev pub fits : ℕ → ℕ → ℕ → ℕ → Bool
+fits coded got line size = nat_le (got + size) body_limit && nat_le (coded + line + size + 2) coding_limit
+
+-- How a coding comes out.
+pub data Outcome : Type 0 where
+  -- its end has come, and this is the body
+  Decoded : (body : List ℕ) → Outcome
+  -- it is refused
+  Broken : (refused : Refused) → Outcome
+  -- more bytes decide
+  Unfinished : Outcome
+
+-- the outcome of a chunk's content and of what follows it
+abbrev pub behind : List ℕ → Outcome → Outcome
+behind content (Decoded body) = Decoded (content ++ body)
+behind content (Broken refused) = Broken refused
+behind content Unfinished = Unfinished
+
+-- Behind so many bytes of a coding, and so many of its body, these bytes come out so, whole and no more.
+pub data Decodes : (coded got : ℕ) → (bytes : List ℕ) → Outcome → Type 0 where
+  -- a chunk, and what follows it
+  chunk : (coded got size : ℕ) (line content rest : List ℕ) (outcome : Outcome)
+      → line_at coded (line ++ (content ++ (crlf_bytes ++ rest))) ≡ Whole line → IsSizeLine line size → 0 < size
+      → fits coded got (length line) size ≡ true → length content ≡ size
+      → Decodes (coded + length line + size + 2) (got + size) rest outcome
+      → Decodes coded got (line ++ (content ++ (crlf_bytes ++ rest))) (behind content outcome)
+  -- the last line, and the trailers, which are dropped
+  last : (coded got : ℕ) (line trailers : List ℕ)
+      → line_at coded (line ++ trailers) ≡ Whole line → IsSizeLine line 0
+      → trailers_at (coded + length line) trailers ≡ Whole trailers → AreTrailers trailers
+      → Decodes coded got (line ++ trailers) (Decoded [])
+  -- a line that is none
+  bad_line : (coded got : ℕ) (line : List ℕ) → line_at coded line ≡ Whole line → IsNoLine line
+      → Decodes coded got line (Broken BadLength)
+  -- a line that is too long
+  long_line : (coded got : ℕ) (bytes : List ℕ) → line_at coded bytes ≡ Overlong → length bytes ≡ room_behind coded
+      → Decodes coded got bytes (Broken (overlong_at coded))
+  -- a chunk that does not fit
+  large : (coded got size : ℕ) (line : List ℕ) → line_at coded line ≡ Whole line → IsSizeLine line size → 0 < size
+      → fits coded got (length line) size ≡ false → Decodes coded got line (Broken BodyTooLarge)
+  -- a chunk that other bytes than CR LF follow
+  bad_end : (coded got size : ℕ) (line content end : List ℕ)
+      → line_at coded (line ++ (content ++ end)) ≡ Whole line → IsSizeLine line size → 0 < size
+      → fits coded got (length line) size ≡ true → length content ≡ size → length end ≡ 2 → end ≢ crlf_bytes
+      → Decodes coded got (line ++ (content ++ end)) (Broken BadLength)
+  -- trailers that are none
+  bad_trailers : (coded got : ℕ) (line trailers : List ℕ)
+      → line_at coded (line ++ trailers) ≡ Whole line → IsSizeLine line 0
+      → trailers_at (coded + length line) trailers ≡ Whole trailers → AreNoTrailers trailers
+      → Decodes coded got (line ++ trailers) (Broken BadLength)
+  -- trailers that are too long
+  long_trailers : (coded got : ℕ) (line bytes : List ℕ)
+      → line_at coded (line ++ bytes) ≡ Whole line → IsSizeLine line 0
+      → trailers_at (coded + length line) bytes ≡ Overlong → length bytes ≡ room_behind (coded + length line)
+      → Decodes coded got (line ++ bytes) (Broken (overlong_at (coded + length line)))
+  -- a line, a chunk or trailers that are cut short
+  short_line : (coded got : ℕ) (bytes : List ℕ) → line_at coded bytes ≡ Short → Decodes coded got bytes Unfinished
+  short_chunk : (coded got size : ℕ) (line bytes : List ℕ)
+      → line_at coded (line ++ bytes) ≡ Whole line → IsSizeLine line size → 0 < size
+      → fits coded got (length line) size ≡ true → length bytes < size + 2
+      → Decodes coded got (line ++ bytes) Unfinished
+  short_trailers : (coded got : ℕ) (line bytes : List ℕ)
+      → line_at coded (line ++ bytes) ≡ Whole line → IsSizeLine line 0
+      → trailers_at (coded + length line) bytes ≡ Short → Decodes coded got (line ++ bytes) Unfinished

@@ -1,0 +1,27 @@
+//! The answers of `next_request`.
+
+use crate::refused::Refused;
+
+/// What was taken. A place is that of the item's first byte, counted since the room was cleared.
+#[derive(Clone, Copy, Debug, PartialEq, Eq)]
+pub enum Taken {
+    /// A request with all of its body, which stands in the room.
+    Request {
+        place: usize,
+    },
+    /// A request whose end cannot be told. The head was not refused and its method is HEAD where
+    /// `head` says so.
+    Framing {
+        refused: Refused,
+        place: usize,
+        head: bool,
+    },
+    /// The source has ended, and no byte but CR and LF is left.
+    InputEnd,
+    /// The source has ended inside a request.
+    Truncated,
+    /// The source has failed.
+    ReadFault,
+    /// The sink has failed while it was given `100 Continue`.
+    WriteFault,
+}
