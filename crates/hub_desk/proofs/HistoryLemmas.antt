@@ -1,0 +1,160 @@
+-- What one entry more does to a history.
+use Rattle.std.proofs.Common.{◌≡◌, ◌↔◌, ℕ, true, false, nat_lt, lt-ltb, le-ltb, Some, ◌+◌, ◌<◌, ◌≤◌, List, [], ◌∷◌, ◌++◌, length, refl, sym, ap, ◌∙◌, append-nil, arith, subst}
+use Rattle.std.specs.List.{enumerate_from}
+use Rattle.commit_book.specs.declared.change.Change.{Change}
+use Rattle.hub_model.specs.declared.entry.Entry.{Entry}
+use Rattle.hub_model.specs.declared.entry.Matched.{Matched}
+use Rattle.hub_model.specs.declared.entry.Stats.{Stats}
+use Rattle.hub_model.specs.declared.entry.Entry.TheVariants.{Match, Fetch, Tick}
+use Rattle.hub_model.specs.Desk.{Makes, Learns}
+use Rattle.hub_model.specs.Legal.{MayFollow, IsLegal}
+use Rattle.hub_model.specs.Reply.{Replied, matched, counted, reply, reply_in}
+use Rattle.hub_model.specs.Setting.{Setting}
+use Rattle.hub_model.specs.Record.{page_of}
+use Rattle.hub_desk.specs.Desk.{matching, MatchesAll, Fetches, IsNoted}
+use Rattle.hub_core.specs.Room.{Fetched}
+use Rattle.hub_core.specs.Standing.{HubValue, IsAt, Stands}
+use Rattle.hub_model.specs.State.{State, start}
+use Rattle.hub_model.specs.Step.{after, state_of}
+
+-- the entries behind others have the places behind theirs
+pub enumerate_from-append : {X : Type 0} (n : ℕ) (xs ys : List X) → enumerate_from n (xs ++ ys) ≡ enumerate_from n xs ++ enumerate_from (n + length xs) ys
+enumerate_from-append n [] ys = ap (λ k. enumerate_from k ys) (omega arith)
+enumerate_from-append {X} n (x ∷ xs) ys =
+    let rest : enumerate_from (n + 1) (xs ++ ys) ≡ enumerate_from (n + 1) xs ++ enumerate_from (n + 1 + length xs) ys = enumerate_from-append (n + 1) xs ys in
+    let place : n + 1 + length xs ≡ n + length (x ∷ xs) = omega arith in
+    let same : enumerate_from (n + 1 + length xs) ys ≡ enumerate_from (n + length (x ∷ xs)) ys = ap (λ k. enumerate_from k ys) place in
+    cc
+
+-- what is stored behind a history makes it longer by an entry, by the law of one entry more
+pub noted : (old new : List Entry) (e : Entry) → ((g : Setting) (history : List Entry) (x : Entry) → state_of g (history ++ x ∷ []) ≡ after g (state_of g history) x) → ((g : Setting) (history : List Entry) (x : Entry) → IsLegal g (history ++ x ∷ []) ↔ (IsLegal g history × MayFollow (state_of g history) x)) → new ≡ old ++ e ∷ [] → IsNoted old new e
+noted old new e state legal stored =
+    record {
+      stored = stored;
+      state = λ g. subst (λ (l : List Entry). state_of g l ≡ after g (state_of g old) e) (sym stored) (state g old e);
+      legal = λ g was may. subst (λ (l : List Entry). IsLegal g l) (sym stored) ((legal g old e).1 (was, may));
+    }
+
+-- the hub after an entry stands for the longer history
+pub stands-more : (h new : HubValue) (history longer : List Entry) (e : Entry) → Stands h history → MayFollow (state_of h.setting history) e → new.setting ≡ h.setting → IsAt new (after h.setting (state_of h.setting history) e) → IsNoted history longer e → Stands new longer
+stands-more h new history longer e stands may setting at n =
+    let there : after h.setting (state_of h.setting history) e ≡ state_of h.setting longer = sym (n.state h.setting) in
+    record {
+      state = subst (λ (g : Setting). IsAt new (state_of g longer)) (sym setting) (subst (λ (s : State). IsAt new s) there at);
+      legal = subst (λ (g : Setting). IsLegal g longer) (sym setting) (n.legal h.setting stands.legal may);
+    }
+
+-- what the hub told is the reply at the entry's place
+pub replied_there : (g : Setting) (h : HubValue) (history : List Entry) (e : Entry) (told : Replied) → g ≡ h.setting → told ≡ reply_in h.setting (state_of h.setting history) e → told ≡ reply g (history ++ []) e
+unfolding reply
+replied_there g h history e told setting told_is =
+    let nothing : history ++ [] ≡ history = append-nil history in
+    cc
+
+-- the entry stands behind those that the desk knew
+pub seen_there : (longer history : List Entry) (e : Entry) → longer ≡ history ++ e ∷ [] → longer ≡ (history ++ []) ++ e ∷ []
+seen_there longer history e longer_is =
+    let nothing : history ++ [] ≡ history = append-nil history in
+    cc
+
+-- so does it with its place
+pub mine_there : (seen longer history : List Entry) (e : Entry) → seen ≡ history → longer ≡ history ++ e ∷ [] → enumerate_from 0 longer ≡ enumerate_from 0 seen ++ enumerate_from (length history) ([] ++ e ∷ [])
+mine_there seen longer history e seen_is longer_is =
+    let places : enumerate_from 0 (history ++ e ∷ []) ≡ enumerate_from 0 history ++ enumerate_from (0 + length history) (e ∷ []) = enumerate_from-append 0 history (e ∷ []) in
+    let zero_first : 0 + length history ≡ length history = omega arith in
+    cc
+
+-- what the hub told is the reply at the entry's place, which only this desk can have filled
+abbrev pub made : (g : Setting) (seen longer : List Entry) (h : HubValue) (history : List Entry) (e : Entry) (told : Replied) → g ≡ h.setting → seen ≡ history → Stands h history → MayFollow (state_of h.setting history) e → IsNoted history longer e → told ≡ reply_in h.setting (state_of h.setting history) e → Makes g seen longer (enumerate_from 0 seen) (enumerate_from 0 longer) e told
+made g seen longer h history e told setting seen_is stands may n told_is =
+    record {
+      before = history;
+      helps = [];
+      grew = ([], append-nil seen ∙ seen_is);
+      helped = refl;
+      seen = seen_there longer history e n.stored;
+      legal = subst (λ (x : Setting). IsLegal x longer) (sym setting) (n.legal h.setting stands.legal may);
+      mine = mine_there seen longer history e seen_is n.stored;
+      told_is = replied_there g h history e told setting told_is;
+    }
+
+-- a desk that makes no entry knows what it knew
+pub learnt : (g : Setting) (seen : List Entry) (mine : List (ℕ × Entry)) → Learns g seen seen mine mine
+learnt g seen mine = record { grew = ([], append-nil seen); legal = λ h. h; mine = refl }
+
+-- a read of the last commit may follow, as the front is not above it
+pub may_read : (h : HubValue) (history : List Entry) (at : ℕ) → Stands h history → (state_of h.setting history).front ≤ length (state_of h.setting history).journal → at ≡ length h.journal → ((state_of h.setting history).front ≤ at) × (at ≤ length (state_of h.setting history).journal)
+may_read h history at stands within last =
+    let same : length h.journal ≡ length (state_of h.setting history).journal = ap (λ (l : List Change). length l) stands.state.journal in
+    (omega (arith, within, same, last), omega (arith, same, last))
+
+-- a match of all commits may follow where the front is behind
+pub may_match : (h : HubValue) (history : List Entry) (front to : ℕ) → Stands h history → front ≡ h.front → to ≡ length h.journal → front < to → ((state_of h.setting history).front < to) × (to ≤ length (state_of h.setting history).journal)
+may_match h history front to stands front_is to_is behind =
+    let same : length h.journal ≡ length (state_of h.setting history).journal = ap (λ (l : List Change). length l) stands.state.journal in
+    let there : h.front ≡ (state_of h.setting history).front = stands.state.front in
+    (omega (arith, front_is, behind, there), omega (arith, to_is, same))
+
+-- where the front is behind, all commits are matched by a match
+match_behind : (g : Setting) (h : HubValue) (history : List Entry) (moment front to : ℕ) → g ≡ h.setting → Stands h history → front ≡ h.front → to ≡ length h.journal → front < to → Match moment to ≡ matching (state_of g (history ++ [])) moment
+match_behind g h history moment front to setting stands front_is to_is behind =
+    let s : State = state_of h.setting history in
+    let nothing : history ++ [] ≡ history = append-nil history in
+    let there : state_of g (history ++ []) ≡ s = cc in
+    let commits : length h.journal ≡ length s.journal = ap (λ (l : List Change). length l) stands.state.journal in
+    let up : to ≡ length s.journal = to_is ∙ commits in
+    let test : nat_lt s.front (length s.journal) ≡ true = let f = stands.state.front in lt-ltb s.front (length s.journal) (omega (arith, behind, up, front_is, f)) in
+    let here : matching s moment ≡ Match moment (length s.journal) = rw test refl in
+    ap (λ (n : ℕ). Match moment n) up ∙ sym here ∙ ap (λ (x : State). matching x moment) (sym there)
+
+-- where the front is the last commit, a tick is all
+tick_there : (g : Setting) (h : HubValue) (history : List Entry) (moment front to : ℕ) → g ≡ h.setting → Stands h history → front ≡ h.front → to ≡ length h.journal → to ≤ front → Tick moment ≡ matching (state_of g (history ++ [])) moment
+tick_there g h history moment front to setting stands front_is to_is ahead =
+    let s : State = state_of h.setting history in
+    let nothing : history ++ [] ≡ history = append-nil history in
+    let there : state_of g (history ++ []) ≡ s = cc in
+    let commits : length h.journal ≡ length s.journal = ap (λ (l : List Change). length l) stands.state.journal in
+    let test : nat_lt s.front (length s.journal) ≡ false = let f = stands.state.front in le-ltb s.front (length s.journal) (omega (arith, ahead, commits, to_is, front_is, f)) in
+    let here : matching s moment ≡ Tick moment = rw test refl in
+    sym here ∙ ap (λ (x : State). matching x moment) (sym there)
+
+-- the desk matched all commits by a match
+pub matched_all : (g : Setting) (seen longer : List Entry) (h : HubValue) (history : List Entry) (moment front to : ℕ) (told : Matched) → g ≡ h.setting → seen ≡ history → Stands h history → front ≡ h.front → to ≡ length h.journal → front < to → IsNoted history longer (Match moment to) → matched told ≡ reply_in h.setting (state_of h.setting history) (Match moment to) → MatchesAll g seen longer (enumerate_from 0 seen) (enumerate_from 0 longer) moment told
+matched_all g seen longer h history moment front to told setting seen_is stands front_is to_is behind n told_is =
+    record {
+      entry = Match moment to;
+      replied = matched told;
+      made = made g seen longer h history (Match moment to) (matched told) setting seen_is stands (may_match h history front to stands front_is to_is behind) n told_is;
+      entry_is = match_behind g h history moment front to setting stands front_is to_is behind;
+      told_is = refl;
+    }
+
+-- the desk matched all commits by a tick
+pub ticked_all : (g : Setting) (seen longer : List Entry) (h : HubValue) (history : List Entry) (moment front to : ℕ) (stats : Stats) → g ≡ h.setting → seen ≡ history → Stands h history → front ≡ h.front → to ≡ length h.journal → to ≤ front → IsNoted history longer (Tick moment) → counted stats ≡ reply_in h.setting (state_of h.setting history) (Tick moment) → MatchesAll g seen longer (enumerate_from 0 seen) (enumerate_from 0 longer) moment (record { front = stats.front; clock = stats.clock })
+ticked_all g seen longer h history moment front to stats setting seen_is stands front_is to_is ahead n told_is =
+    record {
+      entry = Tick moment;
+      replied = counted stats;
+      made = made g seen longer h history (Tick moment) (counted stats) setting seen_is stands tt n told_is;
+      entry_is = tick_there g h history moment front to setting stands front_is to_is ahead;
+      told_is = refl;
+    }
+
+-- the desk fetched the page into the room
+pub fetched_page : (g : Setting) (seen longer : List Entry) (h : HubValue) (history : List Entry) (moment : ℕ) (room : Fetched) → g ≡ h.setting → seen ≡ history → Stands h history → IsNoted history longer (Fetch moment) → room.page ≡ Some (page_of h.setting (after h.setting (state_of h.setting history) (Fetch moment))) → Fetches g seen longer (enumerate_from 0 seen) (enumerate_from 0 longer) moment room
+fetched_page g seen longer h history moment room setting seen_is stands n held =
+    record {
+      page = page_of h.setting (after h.setting (state_of h.setting history) (Fetch moment));
+      held = held;
+      made = made g seen longer h history (Fetch moment) _ setting seen_is stands tt n refl;
+    }
+
+-- a new hub stands for no entry
+pub new_stands : (h : HubValue) (history : List Entry) → IsAt h start → ((g : Setting) → state_of g [] ≡ start) → ((g : Setting) → IsLegal g []) → history ≡ [] → Stands h history
+new_stands h history begins state_none legal_none none =
+    let nothing : state_of h.setting [] ≡ start = state_none h.setting in
+    let state : start ≡ state_of h.setting history = cc in
+    record {
+      state = subst (λ (s : State). IsAt h s) state begins;
+      legal = subst (λ (l : List Entry). IsLegal h.setting l) (sym none) (legal_none h.setting);
+    }

@@ -1,0 +1,9 @@
+pub mod Desk
+pub use Rattle.hub_core.specs.Config
+pub use Rattle.hub_core.specs.Room
+pub use Rattle.hub_core.specs.Standing
+pub use Rattle.hub_model.specs.Legal
+pub use Rattle.hub_model.specs.Reply
+pub use Rattle.hub_model.specs.Setting
+pub use Rattle.hub_model.specs.State
+pub use Rattle.hub_model.specs.Step

@@ -1,0 +1,91 @@
+//! The store as a connection sees it: calls that make entries of one history.
+ghost use Rattle.std.specs.Prelude.{◌≡◌, ℕ, ◌≤◌, List, length, IfOk, OnOk, OnErr};
+ghost use Rattle.hub_core.specs.Room.{IsRoomFor};
+ghost use Rattle.hub_model.specs.declared.entry.Entry.{Entry as AnEntry};
+ghost use Rattle.hub_model.specs.declared.entry.Entry.TheVariants.{Write, Read, Tick};
+ghost use Rattle.hub_model.specs.Desk.{Makes, Learns};
+ghost use Rattle.hub_model.specs.Reply.{wrote, read, counted};
+ghost use Rattle.hub_model.specs.Setting.{Setting};
+ghost use Rattle.hub_model.specs.Step.{state_of};
+ghost use Rattle.hub_desk.specs.Desk.{MatchesAll, Fetches};
+
+use hub_core::PageRoom;
+use hub_model::{Answer, Change, Condition, Matched, Stats, Tags, Written};
+use q_base::{Memory, Moment};
+use query_normal::Key;
+
+/// What a connection asks of the store. A desk knows a history, which others may make longer, and
+/// its own entries with their places there.
+pub trait Desk {
+    /// What the desk is tied to.
+    type Anchor;
+
+    /// What the desk is tied to, which no call changes.
+    ghost anchor: { Self → Self.Anchor };
+
+    /// The configuration of the desk's hub, which no call changes.
+    ghost setting: { Self → Setting };
+
+    /// The history that the desk knows.
+    ghost seen: { Self → List AnEntry };
+
+    /// Its own entries, each with its place, counted from 0.
+    ghost mine: { Self → List (ℕ × AnEntry) };
+
+    /// The next request's entries need no memory.
+    ghost is_ready: { Self → Type 0 };
+
+    /// Takes the room for the entries of one request.
+    fn ready(&mut self) -> Result<(), Memory>
+        ensures ready { OnOk result (is_ready self.new) }
+        ensures none { Learns (setting self.old) (seen self.old) (seen self.new) (mine self.old) (mine self.new) }
+        ensures anchor { anchor self.new ≡ anchor self.old }
+        ensures setting { setting self.new ≡ setting self.old };
+
+    /// Writes: one entry.
+    fn write(
+        &mut self,
+        moment: Moment,
+        change: Change,
+        condition: Condition,
+    ) -> Result<Written, Memory>
+        requires { is_ready self.old }
+        ensures made { IfOk result (λ w. Makes (setting self.old) (seen self.old) (seen self.new) (mine self.old) (mine self.new) (Write moment change condition) (wrote w)) }
+        ensures memory { OnErr result (Learns (setting self.old) (seen self.old) (seen self.new) (mine self.old) (mine self.new)) }
+        ensures anchor { anchor self.new ≡ anchor self.old }
+        ensures setting { setting self.new ≡ setting self.old };
+
+    /// Reads at a commit that is not below those known before: one entry.
+    fn read(&mut self, moment: Moment, key: Key, tags: Tags) -> Result<Answer, Memory>
+        requires { is_ready self.old }
+        ensures made { IfOk result (λ a. Makes (setting self.old) (seen self.old) (seen self.new) (mine self.old) (mine self.new) (Read moment key tags a.commit) (read a)) }
+        ensures fresh { IfOk result (λ a. length (state_of (setting self.old) (seen self.old)).journal ≤ a.commit) }
+        ensures memory { OnErr result (Learns (setting self.old) (seen self.old) (seen self.new) (mine self.old) (mine self.new)) }
+        ensures anchor { anchor self.new ≡ anchor self.old }
+        ensures setting { setting self.new ≡ setting self.old };
+
+    /// Matches all commits against the results that were handed out: one entry, which is a tick
+    /// where the front is the last commit already.
+    fn match_all(&mut self, moment: Moment) -> Result<Matched, Memory>
+        requires { is_ready self.old }
+        ensures made { IfOk result (λ m. MatchesAll (setting self.old) (seen self.old) (seen self.new) (mine self.old) (mine self.new) moment m) }
+        ensures memory { OnErr result (Learns (setting self.old) (seen self.old) (seen self.new) (mine self.old) (mine self.new)) }
+        ensures anchor { anchor self.new ≡ anchor self.old }
+        ensures setting { setting self.new ≡ setting self.old };
+
+    /// Writes the page of the outdated keys into the room: one entry. It takes no memory.
+    fn fetch(&mut self, moment: Moment, room: &mut PageRoom)
+        requires ready { is_ready self.old }
+        requires room { IsRoomFor (setting self.old) room.old }
+        ensures made { Fetches (setting self.old) (seen self.old) (seen self.new) (mine self.old) (mine self.new) moment room.new }
+        ensures room { IsRoomFor (setting self.old) room.new }
+        ensures anchor { anchor self.new ≡ anchor self.old }
+        ensures setting { setting self.new ≡ setting self.old };
+
+    /// Lets time pass: one entry. It takes no memory.
+    fn tick(&mut self, moment: Moment) -> Stats
+        requires { is_ready self.old }
+        ensures made { Makes (setting self.old) (seen self.old) (seen self.new) (mine self.old) (mine self.new) (Tick moment) (counted result) }
+        ensures anchor { anchor self.new ≡ anchor self.old }
+        ensures setting { setting self.new ≡ setting self.old };
+}

@@ -1,0 +1,12 @@
+//! The store as a connection sees it: calls that make entries of one history.
+#![tactic(auto)]
+
+mod desk;
+mod owned;
+
+pub use desk::Desk;
+pub use hub_core::{Config, ConfigRefusal, Hub, PageRoom};
+pub use hub_model::{
+    Answer, Change, Condition, Entry, Found, Matched, Outcome, Stats, Tags, Written,
+};
+pub use owned::Owned;

@@ -1,0 +1,161 @@
+//! A desk that owns its hub, and keeps the list of its entries.
+ghost use Rattle.std.specs.Prelude.{◌≡◌, ◌<◌, [], length, vec_len, vec_capacity, IfOk};
+ghost use Rattle.std.specs.List.{enumerate_from};
+ghost use Rattle.hub_core.specs.Standing.{Stands};
+ghost use Rattle.hub_desk.specs.Desk.{IsNoted};
+
+use crate::desk::Desk;
+use hub_core::{Config, Hub, PageRoom};
+use hub_model::{
+    Answer, Change, Condition, Entry, Matched, Stats, Tags, Written, front_is_within,
+    no_entry_is_legal, one_entry_more,
+};
+use q_base::{Memory, Moment};
+use query_normal::Key;
+use std::alloc::Global;
+use std::marker::Model;
+
+/// A hub with the history that it stands for, all of whose entries are this desk's own. Contracts see
+/// the configuration, the history, and for how many entries there is room.
+#[derive(Drop)]
+pub struct Owned {
+    hub: Hub,
+    entries: Vec<Entry>,
+}
+
+impl Model for Owned {
+    ghost use Rattle.std.specs.Prelude.{vec_capacity};
+    ghost use Rattle.std.specs.Coded.{codes};
+    ghost use Rattle.q_doc.specs.Code.{tree_code};
+    ghost use Rattle.hub_desk.specs.Desk.{Kept};
+    ghost use Rattle.hub_core.specs.Standing.{Stands};
+
+    ghost Value = { Kept };
+
+    ghost coded = { Prim.hlevel (codes, tree_code) };
+
+    ghost view = { λ o. record {
+      setting = o.hub.setting;
+      entries = o.entries.items;
+      room = vec_capacity o.entries;
+    } };
+
+    ghost invariant = { λ o. Stands o.hub o.entries.items };
+}
+
+impl Owned {
+    /// A desk over a new hub, whose history is empty.
+    pub fn new(alloc: Global, config: Config) -> Result<Owned, Memory>
+        ensures setting { IfOk result (λ desk. desk.setting ≡ config) }
+        ensures empty { IfOk result (λ desk. desk.entries ≡ []) }
+    {
+        // The law that an empty history is legal.
+        no_entry_is_legal();
+        let hub = Hub::new(alloc, config)?;
+        Ok(Owned {
+            hub,
+            entries: Vec::new(alloc),
+        })
+    }
+
+    /// The hub, which stands for the history.
+    pub fn hub(&self) -> &Hub
+        ensures setting { result.now.setting ≡ self.now.setting }
+        ensures stands { Stands result.now self.now.entries }
+    {
+        &self.hub
+    }
+}
+
+/// Stores an entry in the room that was taken for it.
+fn note(entries: &mut Vec<Entry>, entry: Entry)
+    requires { vec_len entries.old < vec_capacity entries.old }
+    ensures { IsNoted entries.old.items entries.new.items entry }
+{
+    // The law of a history with one entry more.
+    one_entry_more();
+    if entries.push(entry).is_err() {
+        unreachable!()
+    }
+}
+
+impl Desk for Owned {
+    type Anchor = ();
+
+    ghost anchor = { λ _. tt };
+
+    ghost setting = { λ o. o.setting };
+
+    ghost seen = { λ o. o.entries };
+
+    ghost mine = { λ o. enumerate_from 0 o.entries };
+
+    ghost is_ready = { λ o. length o.entries < o.room };
+
+    fn ready(&mut self) -> Result<(), Memory> {
+        self.entries.reserve(1)?;
+        Ok(())
+    }
+
+    fn write(
+        &mut self,
+        moment: Moment,
+        change: Change,
+        condition: Condition,
+    ) -> Result<Written, Memory> {
+        let written = self.hub.write(moment, &change, &condition)?;
+        note(
+            &mut self.entries,
+            Entry::Write {
+                moment,
+                change,
+                condition,
+            },
+        );
+        Ok(written)
+    }
+
+    fn read(&mut self, moment: Moment, key: Key, tags: Tags) -> Result<Answer, Memory> {
+        // The law by which a read of the last commit is not below the front.
+        front_is_within();
+        let answer = self.hub.read(moment, &key, &tags)?;
+        let at = answer.commit;
+        note(
+            &mut self.entries,
+            Entry::Read {
+                moment,
+                key,
+                tags,
+                at,
+            },
+        );
+        Ok(answer)
+    }
+
+    fn match_all(&mut self, moment: Moment) -> Result<Matched, Memory> {
+        let to = self.hub.commits();
+        if self.hub.front() < to {
+            let matched = self.hub.match_to(moment, to)?;
+            note(&mut self.entries, Entry::Match { moment, to });
+            Ok(matched)
+        } else {
+            let stats = self.hub.tick(moment);
+            note(&mut self.entries, Entry::Tick { moment });
+            Ok(Matched {
+                front: stats.front,
+                clock: stats.clock,
+            })
+        }
+    }
+
+    fn fetch(&mut self, moment: Moment, room: &mut PageRoom) {
+        self.hub.fetch(moment, room);
+        note(&mut self.entries, Entry::Fetch { moment });
+    }
+
+    fn tick(&mut self, moment: Moment) -> Stats {
+        let stats = self.hub.tick(moment);
+        note(&mut self.entries, Entry::Tick { moment });
+        stats
+    }
+}
