@@ -1,0 +1,13 @@
+mod AskLemmas
+mod CutLemmas
+mod DigitLemmas
+mod FieldLemmas
+mod NumberLemmas
+mod PhraseLemmas
+mod QueryLemmas
+mod ReplyLemmas
+mod RequestFacts
+mod RouteLemmas
+mod StandardFacts
+mod TagLemmas
+mod WorkedRequests

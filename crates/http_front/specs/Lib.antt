@@ -1,0 +1,12 @@
+pub mod Added
+pub mod Answered
+pub mod Asks
+pub mod Date
+pub mod Given
+pub mod Numbers
+pub mod Phrases
+pub mod Query
+pub mod ReplyText
+pub mod Routes
+pub mod Tags
+pub mod Target

@@ -1,0 +1,83 @@
+-- The routes: which one a path has, its names, and its methods.
+use Rattle.std.specs.Prelude.{◌≡◌, ℕ, Bool, true, false, if◌then◌else◌, bytes_eq, List, [], drop, Option, Some, None, option_map, Result, Ok, Err, codes}
+use Rattle.std.specs.Str.{is_utf8}
+use Rattle.matchit.specs.Rows.{RowsOf}
+use Rattle.matchit.specs.Order.{placed}
+use Rattle.matchit.specs.Route.{Scan, parse_route}
+use Rattle.matchit.specs.Router.{RouteOf, route_from}
+use Rattle.matchit.specs.Seek.{first}
+use Rattle.matchit.specs.declared.error.InsertError.{InsertError}
+use Rattle.http_message.specs.declared.refused.Allow.{Allow}
+use Rattle.http_message.specs.declared.refused.Allow.TheVariants as allow
+use Rattle.http_front.specs.Target.{ahead_of, after}
+use Rattle.http_front.specs.declared.routes.Route.{Route}
+use Rattle.http_front.specs.declared.routes.Route.TheVariants.{Record, Query, Filter, Purges, Match, Stats}
+use Rattle.http_front.specs.declared.routes.Method.{Method}
+use Rattle.http_front.specs.declared.routes.Method.TheVariants.{Get, Head, Post, Put, Delete}
+
+-- routes as `matchit` keeps them
+abbrev pub Table : Type 0
+Table = RowsOf (RouteOf Route)
+
+-- a further route, where its text is one
+abbrev pub added_by : Result Scan InsertError → Route → Table → Table
+added_by (Ok scan) route rows = placed (scan.pattern, route_from scan route) rows
+added_by (Err error) route rows = rows
+
+-- a further route of this text
+abbrev pub added : List ℕ → Route → Table → Table
+added text route rows = added_by (parse_route text) route rows
+
+-- all routes
+unfoldable pub table : Table
+table =
+    added (codes "/v1/stats") Stats
+    (added (codes "/v1/match") Match
+    (added (codes "/v1/purges") Purges
+    (added (codes "/v1/filter") Filter
+    (added (codes "/v1/q/{collection}") Query
+    (added (codes "/v1/d/{collection}/{id}") Record [])))))
+
+-- the routes are these
+pub record IsTable (rows : Table) : Type 0 where
+  pub is : rows ≡ table
+
+-- the route of a path; one that is not UTF-8 has none
+unfoldable pub route_of : List ℕ → Option Route
+route_of path = if is_utf8 path then option_map (λ row. row.value) (first table path) else None
+
+-- the name of a collection in a path as it stands, behind `/v1/d/` or `/v1/q/`
+abbrev pub collection_in : List ℕ → List ℕ
+collection_in path = ahead_of 47 (drop 6 path)
+
+-- the name of a document behind it
+abbrev pub id_in : List ℕ → List ℕ
+id_in path = after 47 (drop 6 path)
+
+-- the method of these bytes, where some route has it (RFC 9110, section 9.3)
+abbrev pub method_of : List ℕ → Option Method
+method_of text =
+    if bytes_eq text (codes "GET") then Some Get
+    else (if bytes_eq text (codes "HEAD") then Some Head
+    else (if bytes_eq text (codes "POST") then Some Post
+    else (if bytes_eq text (codes "PUT") then Some Put
+    else (if bytes_eq text (codes "DELETE") then Some Delete else None))))
+
+-- the methods that are allowed: of a record, of a match, and of the others
+abbrev pub allows : Allow → Method → Bool
+allows allow.Record Post = false
+allows allow.Record method = true
+allows allow.Match Post = true
+allows allow.Match method = false
+allows allow.Other Get = true
+allows allow.Other Head = true
+allows allow.Other method = false
+
+-- the methods of a route
+abbrev pub methods_of : Route → Allow
+methods_of Record = allow.Record
+methods_of Match = allow.Match
+methods_of Query = allow.Other
+methods_of Filter = allow.Other
+methods_of Purges = allow.Other
+methods_of Stats = allow.Other

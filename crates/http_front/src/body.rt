@@ -1,0 +1,163 @@
+//! The bodies of replies.
+ghost use Rattle.std.specs.Prelude.{◌≡◌, ◌+◌, ◌≤◌, ◌++◌, [], length, decimal, OnOk, OnErr, if◌then◌else◌};
+ghost use Rattle.q_outside.specs.Told.{Gives, GivesPart, Counts};
+ghost use Rattle.http_front.specs.ReplyText.{commit_body, found_text, precondition_body, full_body, written_body, outcome_body, front_body, stats_body, document_body, refusal_body, body_text, given_body};
+
+use crate::put::{put, put_number};
+use crate::shape::Shape;
+use crate::told::Told;
+use http_message::{DocumentReason, Refused};
+use hub_model::{Found, Outcome, Stats, Written};
+use q_base::Commit;
+use q_outside::{Failed, Sink, give_all};
+
+/// The greatest length of a body with numbers in it.
+pub(crate) const NUMBERS_ROOM: usize = 96;
+
+/// The body of a read that finds nothing.
+const ABSENT: &[u8] = b"{\"error\":\"absent\"}";
+
+/// The body where memory was wanting.
+const NO_MEMORY: &[u8] = b"{\"error\":\"memory\"}";
+
+/// Gives the body of a reply to a sink: nothing where the request was HEAD. Where the reply is a page,
+/// these are its bytes.
+pub fn write_body<K: Sink>(
+    shape: Shape,
+    told: &Told,
+    page: &[u8],
+    sink: &mut K,
+) -> Result<(), Failed>
+    ensures ok { OnOk result (Gives (K.held sink.old) (K.held sink.new) (given_body shape told.now page.now)) }
+    ensures part { OnErr result (GivesPart (K.held sink.old) (K.held sink.new) (given_body shape told.now page.now)) }
+    ensures count { Counts (K.faults sink.old) (K.faults sink.new) result }
+{
+    let mut numbers = [0; NUMBERS_ROOM];
+    let body = body_of(told, page, &mut numbers);
+    give_all(sink, given(shape, body))
+}
+
+/// What is given of a body: nothing where the request was HEAD.
+pub(crate) fn given(shape: Shape, body: &[u8]) -> &[u8]
+    ensures { result.now ≡ (if shape.head then [] else body.now) }
+{
+    if shape.head { &[] } else { body }
+}
+
+/// The body of a reply, which stands in the room where it has numbers. Where the reply is a page,
+/// these are its bytes.
+pub(crate) fn body_of<'a>(told: &'a Told, page: &'a [u8], room: &'a mut [u8]) -> &'a [u8]
+    requires { NUMBERS_ROOM ≤ length room.old }
+    ensures { result.now ≡ body_text told.now page.now }
+{
+    match told {
+        Told::Write(written) => written_body(written, room),
+        Told::Read(answer) => outcome_body(&answer.result),
+        Told::Match(matched) => number_body(b"{\"front\":", matched.front, b"}", room),
+        Told::Page(_) => page,
+        Told::Count(stats) => stats_body(stats, room),
+        Told::Refusal(refused, _) => refusal_body(*refused),
+        Told::Memory => NO_MEMORY,
+    }
+}
+
+/// A number between two pieces, written into the room.
+fn number_body<'a>(name: &[u8], number: u64, end: &[u8], room: &'a mut [u8]) -> &'a [u8]
+    requires { length name.now + 20 + length end.now ≤ length room.old }
+    ensures { result.now ≡ (name.now ++ decimal number) ++ end.now }
+{
+    let mut at = put(room, 0, name);
+    at = put_number(room, at, number);
+    at = put(room, at, end);
+    &room[..at]
+}
+
+/// The body of a write.
+fn written_body<'a>(written: &Written, room: &'a mut [u8]) -> &'a [u8]
+    requires { NUMBERS_ROOM ≤ length room.old }
+    ensures { result.now ≡ written_body written.now }
+{
+    match written {
+        Written::Done { commit, .. } => number_body(b"{\"commit\":", *commit, b"}", room),
+        Written::Precondition { found, .. } => precondition_body(*found, room),
+        Written::Full { bytes, .. } => {
+            number_body(b"{\"bytes\":", *bytes, b",\"error\":\"store_full\"}", room)
+        }
+    }
+}
+
+/// The body of a write whose condition is not met.
+fn precondition_body(found: Found, room: &mut [u8]) -> &[u8]
+    requires { NUMBERS_ROOM ≤ length room.old }
+    ensures { result.now ≡ precondition_body found }
+{
+    match found {
+        Found::Missing => b"{\"error\":\"precondition\",\"found\":null}",
+        Found::At(version) => number_body(
+            b"{\"error\":\"precondition\",\"found\":",
+            version,
+            b"}",
+            room,
+        ),
+    }
+}
+
+/// The body of a read.
+fn outcome_body(outcome: &Outcome) -> &[u8]
+    ensures { result.now ≡ outcome_body outcome.now }
+{
+    match outcome {
+        Outcome::Whole { text, .. } => text.as_slice(),
+        Outcome::Absent => ABSENT,
+    }
+}
+
+/// The body of the counts.
+fn stats_body<'a>(stats: &Stats, room: &'a mut [u8]) -> &'a [u8]
+    requires { NUMBERS_ROOM ≤ length room.old }
+    ensures { result.now ≡ stats_body stats.now }
+{
+    let mut at = put(room, 0, b"{\"clock\":");
+    at = put_number(room, at, stats.clock.seconds());
+    at = put(room, at, b",\"commits\":");
+    at = put_number(room, at, stats.commits);
+    at = put(room, at, b",\"front\":");
+    at = put_number(room, at, stats.front);
+    at = put(room, at, b"}");
+    &room[..at]
+}
+
+/// The body of a refusal.
+fn refusal_body(refused: Refused) -> &'static [u8]
+    ensures { result.now ≡ refusal_body refused }
+{
+    match refused {
+        Refused::BadHead => b"{\"error\":\"bad_head\"}",
+        Refused::HeadTooLarge => b"{\"error\":\"head_too_large\"}",
+        Refused::BadLength => b"{\"error\":\"bad_length\"}",
+        Refused::BadCoding => b"{\"error\":\"bad_coding\"}",
+        Refused::BodyTooLarge => b"{\"error\":\"body_too_large\"}",
+        Refused::BadHost => b"{\"error\":\"bad_host\"}",
+        Refused::BadTarget => b"{\"error\":\"bad_target\"}",
+        Refused::NoRoute => b"{\"error\":\"no_route\"}",
+        Refused::BadMethod(_) => b"{\"error\":\"bad_method\"}",
+        Refused::NoLength => b"{\"error\":\"no_length\"}",
+        Refused::BadEncoding => b"{\"error\":\"bad_encoding\"}",
+        Refused::BadTag => b"{\"error\":\"bad_tag\"}",
+        Refused::NotBuilt => b"{\"error\":\"not_built\"}",
+        Refused::BadDocument(reason) => document_body(reason),
+        Refused::Memory => NO_MEMORY,
+    }
+}
+
+/// The body of the refusal of a document.
+fn document_body(reason: DocumentReason) -> &'static [u8]
+    ensures { result.now ≡ document_body reason }
+{
+    match reason {
+        DocumentReason::NotJson => b"{\"error\":\"bad_document\",\"reason\":\"not_json\"}",
+        DocumentReason::NotObject => b"{\"error\":\"bad_document\",\"reason\":\"not_object\"}",
+        DocumentReason::TooDeep => b"{\"error\":\"bad_document\",\"reason\":\"too_deep\"}",
+        DocumentReason::NotWhole => b"{\"error\":\"bad_document\",\"reason\":\"not_whole\"}",
+    }
+}

@@ -1,0 +1,33 @@
+//! Giving the text of a reply to a sink.
+ghost use Rattle.q_outside.specs.Told.{Counts};
+ghost use Rattle.http_front.specs.Given.{GivesReply};
+
+use crate::body::{NUMBERS_ROOM, body_of, given};
+use crate::reply::ReplyRoom;
+use crate::shape::Shape;
+use crate::told::Told;
+use q_outside::{Failed, Sink, give_all, give_both};
+
+/// Gives the text of a reply: in one piece where it fits the room, and else its head and then its
+/// body. Where it is a page, these are its bytes.
+pub fn give_reply<K: Sink>(
+    sink: &mut K,
+    room: &mut ReplyRoom,
+    shape: Shape,
+    told: &Told,
+    page: &[u8],
+    close: bool,
+) -> Result<(), Failed>
+    ensures reply { GivesReply (K.held sink.old) (K.held sink.new) shape told.now page.now close result }
+    ensures count { Counts (K.faults sink.old) (K.faults sink.new) result }
+{
+    let mut numbers = [0; NUMBERS_ROOM];
+    let body = body_of(told, page, &mut numbers);
+    room.write_head(shape, told, body.len(), close);
+    let behind = given(shape, body);
+    if room.put_where_it_fits(behind) {
+        give_all(sink, room.bytes())
+    } else {
+        give_both(sink, room.bytes(), behind)
+    }
+}
