@@ -6,6 +6,8 @@ mod status;
 #[cfg(test)]
 mod tests;
 mod words;
+#[cfg(test)]
+mod worked;
 
 pub use program::run;
 pub use status::Status;

@@ -7,7 +7,7 @@ use q_outside::Why;
 /// How a run of the program ended.
 #[derive(Clone, Copy, Debug, PartialEq, Eq)]
 pub enum Status {
-    /// The connection was served to the end of its input.
+    /// The connection was served to the end of its input, or until a request asked for its end.
     Done,
     /// No command takes these words.
     Words,

@@ -1,7 +1,12 @@
 //! The program over bytes in memory: its texts, its status, and each place where the outside fails.
 ghost use Rattle.std.specs.Prelude.{◌≡◌, ◌<◌};
 
+use crate::worked::{
+    CLOSED, CONTINUE, ELSEWHERE, EMPTY, FILTER, FOUND, GET, GIVEN, LAST, MATCH, MATCHED, NO_ROUTE,
+    NO_STORE, PAGE_HEAD, PLACES, PUT, PUT_AGAIN, PUT_EXPECTING, STORED, STORED_AGAIN, USAGE,
+};
 use crate::{Status, run};
+use itoa::Buffer;
 use q_base::{Memory, Moment};
 use q_outside::{FixedClock, ListSink, ListSource, Script};
 use std::alloc::Global;
@@ -10,61 +15,8 @@ use std::process::Abort;
 use std::sync::ledger::{Blank, Ledger};
 use std::test::Fail;
 
-/// A document is put.
-const PUT: &[u8] = b"PUT /v1/d/shop/p1 HTTP/1.1\r\nHost: a\r\nContent-Length: 7\r\n\r\n{\"a\":1}";
-
-/// It is read.
-const GET: &[u8] = b"GET /v1/d/shop/p1 HTTP/1.1\r\nHost: a\r\n\r\n";
-
-/// The reply to the first, at the moment 100.
-const STORED: &[u8] =
-    b"HTTP/1.1 201 Created\r\nDate: Thu, 01 Jan 1970 00:01:40 GMT\r\nContent-Type: application/json\r\nContent-Length: 12\r\nCache-Control: no-store\r\nQuaestor-Commit: 1\r\n\r\n{\"commit\":1}";
-
-/// The reply to the second, at the moment 100.
-const FOUND: &[u8] =
-    b"HTTP/1.1 200 OK\r\nDate: Thu, 01 Jan 1970 00:01:40 GMT\r\nContent-Type: application/json\r\nContent-Length: 7\r\nETag: \"1\"\r\nCache-Control: max-age=3600\r\nQuaestor-Commit: 1\r\nQuaestor-Version: 1\r\nQuaestor-Until: 3700\r\n\r\n{\"a\":1}";
-
-/// Another document is put in its place.
-const PUT_AGAIN: &[u8] =
-    b"PUT /v1/d/shop/p1 HTTP/1.1\r\nHost: a\r\nContent-Length: 7\r\n\r\n{\"a\":2}";
-
-/// All commits are matched.
-const MATCH: &[u8] = b"POST /v1/match HTTP/1.1\r\nHost: a\r\n\r\n";
-
-/// The page of the outdated keys is fetched.
-const FILTER: &[u8] = b"GET /v1/filter HTTP/1.1\r\nHost: a\r\n\r\n";
-
-/// The reply to the second put, at the moment 100.
-const STORED_AGAIN: &[u8] =
-    b"HTTP/1.1 200 OK\r\nDate: Thu, 01 Jan 1970 00:01:40 GMT\r\nContent-Type: application/json\r\nContent-Length: 12\r\nCache-Control: no-store\r\nQuaestor-Commit: 2\r\n\r\n{\"commit\":2}";
-
-/// The reply to the match of two commits, at the moment 100.
-const MATCHED: &[u8] =
-    b"HTTP/1.1 200 OK\r\nDate: Thu, 01 Jan 1970 00:01:40 GMT\r\nContent-Type: application/json\r\nContent-Length: 11\r\nCache-Control: no-store\r\n\r\n{\"front\":2}";
-
-/// The head of the reply to a fetch, at the moment 100.
-const PAGE_HEAD: &[u8] =
-    b"HTTP/1.1 200 OK\r\nDate: Thu, 01 Jan 1970 00:01:40 GMT\r\nContent-Type: application/octet-stream\r\nContent-Length: 16414\r\nCache-Control: no-store\r\n\r\n";
-
-/// The six positions of `r/shop/p1` among 2^17 bits.
-const PLACES: [usize; 6] = [101_896, 6_848, 42_872, 78_896, 114_920, 19_872];
-
-/// A request for no resource that there is.
-const ELSEWHERE: &[u8] = b"GET /v2 HTTP/1.1\r\nHost: a\r\n\r\n";
-
-/// The reply to it, at the moment 100.
-const NO_ROUTE: &[u8] =
-    b"HTTP/1.1 404 Not Found\r\nDate: Thu, 01 Jan 1970 00:01:40 GMT\r\nContent-Type: application/json\r\nContent-Length: 20\r\nCache-Control: no-store\r\n\r\n{\"error\":\"no_route\"}";
-
-/// The moment of the given clock, the greatest.
-const GIVEN: u64 = 253_402_300_799;
-
-/// Both replies, at the greatest moment.
-const LAST: &[u8] =
-    b"HTTP/1.1 201 Created\r\nDate: Fri, 31 Dec 9999 23:59:59 GMT\r\nContent-Type: application/json\r\nContent-Length: 12\r\nCache-Control: no-store\r\nQuaestor-Commit: 1\r\n\r\n{\"commit\":1}HTTP/1.1 200 OK\r\nDate: Fri, 31 Dec 9999 23:59:59 GMT\r\nContent-Type: application/json\r\nContent-Length: 7\r\nETag: \"1\"\r\nCache-Control: max-age=3600\r\nQuaestor-Commit: 1\r\nQuaestor-Version: 1\r\nQuaestor-Until: 253402304399\r\n\r\n{\"a\":1}";
-
-/// What is written for words that no command takes.
-const USAGE: &[u8] = b"usage: quaestor pipe, serve, read or world\n";
+/// A request, and what its reply has before the date, between the length and the body, and as the body.
+type Row<'a> = (&'a [u8], &'a [u8], &'a [u8], &'a [u8]);
 
 /// A room that no output here uses up.
 const AMPLE: usize = 2_000_000;
@@ -220,12 +172,16 @@ fn repeated(alloc: Global, text: &[u8], times: usize) -> Result<Vec<u8>, Memory>
     Ok(all)
 }
 
-/// The replies to those of the two requests that are whole within so many bytes.
+/// What is written of two requests, of which the first calls for its 7 bytes, by the first bytes of the
+/// input, so many.
 fn replies_within(replies: &[u8], taken: usize) -> &[u8] {
-    if taken < PUT.len() {
+    let first = CONTINUE.len() + STORED.len();
+    if taken.saturating_add(7) < PUT_EXPECTING.len() {
         b""
-    } else if taken - PUT.len() < GET.len() {
-        STORED
+    } else if taken < PUT_EXPECTING.len() {
+        CONTINUE
+    } else if taken - PUT_EXPECTING.len() < GET.len() {
+        replies.get(..first).unwrap_or(replies)
     } else {
         replies
     }
@@ -250,8 +206,8 @@ fn a_document_is_put_and_read_in_whatever_pieces(rt: HostRuntime) -> Result<(), 
 
 #[test]
 fn a_cut_input_is_answered_up_to_its_last_whole_request(rt: HostRuntime) -> Result<(), Fail> {
-    let input = joined(rt.alloc(), PUT, GET)?;
-    let replies = joined(rt.alloc(), STORED, FOUND)?;
+    let input = joined(rt.alloc(), PUT_EXPECTING, GET)?;
+    let replies = all_of(rt.alloc(), &[CONTINUE, STORED, FOUND])?;
     for cut in 0..=input.len() {
         let outcome = pipe_over(
             rt.alloc(),
@@ -260,7 +216,7 @@ fn a_cut_input_is_answered_up_to_its_last_whole_request(rt: HostRuntime) -> Resu
             AMPLE,
             calls_of(WHOLE),
         )?;
-        let status = if cut == 0 || cut == PUT.len() || cut == input.len() {
+        let status = if cut == 0 || cut == PUT_EXPECTING.len() || cut == input.len() {
             Status::Done
         } else {
             Status::BadInput
@@ -272,30 +228,27 @@ fn a_cut_input_is_answered_up_to_its_last_whole_request(rt: HostRuntime) -> Resu
 
 #[test]
 fn a_source_that_fails_ends_the_run(rt: HostRuntime) -> Result<(), Fail> {
-    let input = joined(rt.alloc(), PUT, GET)?;
-    let replies = joined(rt.alloc(), STORED, FOUND)?;
-    for size in [1, 7] {
-        let calls = input.len().div_ceil(size);
-        for call in 0..200 {
-            let takes = failing_at(call, size);
-            let outcome = pipe_over(rt.alloc(), &input, takes, AMPLE, calls_of(7))?;
-            let status = if call <= calls {
-                Status::ReadFault
-            } else {
-                Status::Done
-            };
-            let written = replies_within(&replies, call.saturating_mul(size));
-            assert_run(&rt, &outcome, status, written, call);
-        }
+    let input = joined(rt.alloc(), PUT_EXPECTING, GET)?;
+    let replies = all_of(rt.alloc(), &[CONTINUE, STORED, FOUND])?;
+    for call in 0..200 {
+        let takes = failing_at(call, 1);
+        let outcome = pipe_over(rt.alloc(), &input, takes, AMPLE, calls_of(7))?;
+        let status = if call <= input.len() {
+            Status::ReadFault
+        } else {
+            Status::Done
+        };
+        let written = replies_within(&replies, call);
+        assert_run(&rt, &outcome, status, written, call);
     }
     Ok(())
 }
 
 #[test]
 fn a_sink_that_fails_ends_the_run(rt: HostRuntime) -> Result<(), Fail> {
-    let input = joined(rt.alloc(), PUT, GET)?;
-    let replies = joined(rt.alloc(), STORED, FOUND)?;
-    for size in [1, 2, 7] {
+    let input = joined(rt.alloc(), PUT_EXPECTING, GET)?;
+    let replies = all_of(rt.alloc(), &[CONTINUE, STORED, FOUND])?;
+    for size in [2, 7] {
         let mut whole = 0;
         for call in 0..500_usize {
             let gives = failing_at(call, size);
@@ -440,35 +393,354 @@ fn a_page_has_the_keys_of_outdated_copies(rt: HostRuntime) -> Result<(), Fail> {
     Ok(())
 }
 
+/// The reply of a row, at the moment 100. One to HEAD has no body.
+fn reply_of(alloc: Global, row: &Row<'_>) -> Result<Vec<u8>, Memory> {
+    let (request, begin, fields, body) = *row;
+    let mut digits = Buffer::new();
+    let texts = [
+        begin,
+        b"\r\nDate: Thu, 01 Jan 1970 00:01:40 GMT\r\nContent-Type: application/json\r\nContent-Length: ",
+        digits.format(body.len()).as_bytes(),
+        b"\r\n",
+        fields,
+        b"\r\n",
+        if request.starts_with(b"HEAD ") {
+            b""
+        } else {
+            body
+        },
+    ];
+    all_of(alloc, &texts)
+}
+
 #[test]
-fn requests_have_their_replies(rt: HostRuntime) -> Result<(), Fail> {
-    let rows: [(&[u8], Status, &[u8]); 6] = [
-        (ELSEWHERE, Status::Done, NO_ROUTE),
+fn requests_of_one_connection_have_their_replies(rt: HostRuntime) -> Result<(), Fail> {
+    let rows: [Row<'_>; 34] = [
         (
-            b"GET /v1/d/shop/nobody HTTP/1.1\r\nHost: a\r\n\r\n",
-            Status::Done,
-            b"HTTP/1.1 404 Not Found\r\nDate: Thu, 01 Jan 1970 00:01:40 GMT\r\nContent-Type: application/json\r\nContent-Length: 18\r\nCache-Control: max-age=3600\r\nQuaestor-Commit: 0\r\nQuaestor-Until: 3700\r\n\r\n{\"error\":\"absent\"}",
+            b"GET /v1/stats HTTP/1.1\r\nHost: a\r\n\r\n",
+            b"HTTP/1.1 200 OK",
+            NO_STORE,
+            EMPTY,
+        ),
+        (
+            b"PUT /v1/d/shop/p1 HTTP/1.1\r\nHost: a\r\nIf-None-Match: *\r\nContent-Length: 7\r\n\r\n{\"a\":1}",
+            b"HTTP/1.1 201 Created",
+            b"Cache-Control: no-store\r\nQuaestor-Commit: 1\r\n",
+            b"{\"commit\":1}",
+        ),
+        (
+            b"PUT /v1/d/shop/p1 HTTP/1.1\r\nHost: a\r\nIf-None-Match: *\r\nContent-Length: 7\r\n\r\n{\"a\":2}",
+            b"HTTP/1.1 412 Precondition Failed",
+            NO_STORE,
+            b"{\"error\":\"precondition\",\"found\":1}",
+        ),
+        (
+            b"PUT /v1/d/shop/p1 HTTP/1.1\r\nHost: a\r\nIf-Match: \"1\"\r\nContent-Length: 7\r\n\r\n{\"a\":3}",
+            b"HTTP/1.1 200 OK",
+            b"Cache-Control: no-store\r\nQuaestor-Commit: 2\r\n",
+            b"{\"commit\":2}",
+        ),
+        (
+            b"PUT /v1/d/shop/p1 HTTP/1.1\r\nHost: a\r\nIf-Match: \"1\", \"2\"\r\nContent-Length: 7\r\n\r\n{\"a\":4}",
+            b"HTTP/1.1 200 OK",
+            b"Cache-Control: no-store\r\nQuaestor-Commit: 3\r\n",
+            b"{\"commit\":3}",
+        ),
+        (
+            b"PUT /v1/d/shop/p1 HTTP/1.1\r\nHost: a\r\nIf-Match: W/\"3\"\r\nContent-Length: 7\r\n\r\n{\"a\":5}",
+            b"HTTP/1.1 412 Precondition Failed",
+            NO_STORE,
+            b"{\"error\":\"precondition\",\"found\":3}",
+        ),
+        (
+            b"PUT /v1/d/shop/p2 HTTP/1.1\r\nHost: a\r\nIf-Match: *\r\nContent-Length: 2\r\n\r\n{}",
+            b"HTTP/1.1 412 Precondition Failed",
+            NO_STORE,
+            b"{\"error\":\"precondition\",\"found\":null}",
+        ),
+        (
+            b"PUT /v1/d/shop/p1 HTTP/1.1\r\nHost: a\r\nIf-Match: *\r\nContent-Length: 7\r\n\r\n{\"a\":6}",
+            b"HTTP/1.1 200 OK",
+            b"Cache-Control: no-store\r\nQuaestor-Commit: 4\r\n",
+            b"{\"commit\":4}",
+        ),
+        (
+            b"DELETE /v1/d/shop/p1 HTTP/1.1\r\nHost: a\r\nIf-Match: \"9\"\r\n\r\n",
+            b"HTTP/1.1 412 Precondition Failed",
+            NO_STORE,
+            b"{\"error\":\"precondition\",\"found\":4}",
+        ),
+        (
+            b"HEAD /v1/d/shop/p1 HTTP/1.1\r\nHost: a\r\n\r\n",
+            b"HTTP/1.1 200 OK",
+            b"ETag: \"4\"\r\nCache-Control: max-age=3600\r\nQuaestor-Commit: 4\r\nQuaestor-Version: 4\r\nQuaestor-Until: 3700\r\n",
+            b"{\"a\":6}",
+        ),
+        (
+            b"DELETE /v1/d/shop/p1 HTTP/1.1\r\nHost: a\r\n\r\n",
+            b"HTTP/1.1 200 OK",
+            b"Cache-Control: no-store\r\nQuaestor-Commit: 5\r\n",
+            b"{\"commit\":5}",
+        ),
+        (
+            b"GET /v1/d/sh%6fp/p1 HTTP/1.1\r\nHost: a\r\n\r\n",
+            b"HTTP/1.1 404 Not Found",
+            b"Cache-Control: max-age=3600\r\nQuaestor-Commit: 5\r\nQuaestor-Until: 3700\r\n",
+            b"{\"error\":\"absent\"}",
+        ),
+        (
+            b"PUT /v1/d/shop/p1 HTTP/1.1\r\nHost: a\r\nTransfer-Encoding: chunked\r\n\r\n3;x=y\r\n{\"a\r\n4\r\n\":2}\r\n0\r\nT: u\r\n\r\n",
+            b"HTTP/1.1 201 Created",
+            b"Cache-Control: no-store\r\nQuaestor-Commit: 6\r\n",
+            b"{\"commit\":6}",
+        ),
+        (
+            b"GET /v1/d/shop/p1 HTTP/1.1\r\nHost: a\r\nAccept: */*\r\nIf-Match: \"7\"\r\n\r\n",
+            b"HTTP/1.1 200 OK",
+            b"ETag: \"6\"\r\nCache-Control: max-age=3600\r\nQuaestor-Commit: 6\r\nQuaestor-Version: 6\r\nQuaestor-Until: 3700\r\n",
+            b"{\"a\":2}",
+        ),
+        (
+            PUT_EXPECTING,
+            b"HTTP/1.1 100 Continue\r\n\r\nHTTP/1.1 200 OK",
+            b"Cache-Control: no-store\r\nQuaestor-Commit: 7\r\n",
+            b"{\"commit\":7}",
+        ),
+        (
+            b"PUT /v1/d/shop/p1 HTTP/1.1\r\nHost: a\r\nExpect: 100-continue\r\nContent-Length: 0\r\n\r\n",
+            b"HTTP/1.1 422 Unprocessable Entity",
+            NO_STORE,
+            b"{\"error\":\"bad_document\",\"reason\":\"not_json\"}",
         ),
         (
             b"PUT /v1/d/shop/p1 HTTP/1.1\r\nHost: a\r\nContent-Length: 3\r\n\r\n[1]",
-            Status::Done,
-            b"HTTP/1.1 422 Unprocessable Entity\r\nDate: Thu, 01 Jan 1970 00:01:40 GMT\r\nContent-Type: application/json\r\nContent-Length: 46\r\nCache-Control: no-store\r\n\r\n{\"error\":\"bad_document\",\"reason\":\"not_object\"}",
+            b"HTTP/1.1 422 Unprocessable Entity",
+            NO_STORE,
+            b"{\"error\":\"bad_document\",\"reason\":\"not_object\"}",
         ),
         (
-            b"x\r\n\r\nGET /v2 HTTP/1.1\r\nHost: a\r\n\r\n",
-            Status::BadInput,
-            b"HTTP/1.1 400 Bad Request\r\nDate: Thu, 01 Jan 1970 00:01:40 GMT\r\nContent-Type: application/json\r\nContent-Length: 20\r\nCache-Control: no-store\r\nConnection: close\r\n\r\n{\"error\":\"bad_head\"}",
+            b"PUT /v1/d/shop/p1 HTTP/1.1\r\nHost: a\r\nContent-Length: 9\r\n\r\n{\"a\":1.5}",
+            b"HTTP/1.1 422 Unprocessable Entity",
+            NO_STORE,
+            b"{\"error\":\"bad_document\",\"reason\":\"not_whole\"}",
         ),
         (
-            b"GET /v1/d/shop/p1 HTTP/1.1\r\nHost: a\r\nAccept: */*\r\n\r\n",
-            Status::BadInput,
-            b"HTTP/1.1 501 Not Implemented\r\nDate: Thu, 01 Jan 1970 00:01:40 GMT\r\nContent-Type: application/json\r\nContent-Length: 21\r\nCache-Control: no-store\r\nConnection: close\r\n\r\n{\"error\":\"not_built\"}",
+            b"PUT /v1/d/shop/p1 HTTP/1.1\r\nHost: a\r\nIf-Match: x\r\nContent-Length: 2\r\n\r\n{}",
+            b"HTTP/1.1 400 Bad Request",
+            NO_STORE,
+            b"{\"error\":\"bad_tag\"}",
         ),
-        (b"\r\n\r\n\n", Status::Done, b""),
+        (
+            b"PUT /v1/d/shop/p1 HTTP/1.1\r\nHost: a\r\nIf-None-Match: \"1\"\r\nContent-Length: 2\r\n\r\n{}",
+            b"HTTP/1.1 400 Bad Request",
+            NO_STORE,
+            b"{\"error\":\"bad_tag\"}",
+        ),
+        (
+            b"PUT /v1/d/shop/p1 HTTP/1.1\r\nHost: a\r\nContent-Encoding: gzip\r\nContent-Length: 2\r\n\r\n{}",
+            b"HTTP/1.1 415 Unsupported Media Type",
+            NO_STORE,
+            b"{\"error\":\"bad_encoding\"}",
+        ),
+        (
+            b"PUT /v1/d/shop/p1 HTTP/1.1\r\nHost: a\r\n\r\n",
+            b"HTTP/1.1 411 Length Required",
+            NO_STORE,
+            b"{\"error\":\"no_length\"}",
+        ),
+        (
+            b"GET /v1/stats HTTP/1.1\r\nHost: a\r\nHost: b\r\n\r\n",
+            b"HTTP/1.1 400 Bad Request",
+            NO_STORE,
+            b"{\"error\":\"bad_host\"}",
+        ),
+        (
+            b"POST /v1/d/shop/p1 HTTP/1.1\r\nHost: a\r\n\r\n",
+            b"HTTP/1.1 405 Method Not Allowed",
+            b"Cache-Control: no-store\r\nAllow: GET, HEAD, PUT, DELETE\r\n",
+            b"{\"error\":\"bad_method\"}",
+        ),
+        (
+            b"PUT /v1/match HTTP/1.1\r\nHost: a\r\nContent-Length: 0\r\n\r\n",
+            b"HTTP/1.1 405 Method Not Allowed",
+            b"Cache-Control: no-store\r\nAllow: POST\r\n",
+            b"{\"error\":\"bad_method\"}",
+        ),
+        (
+            b"DELETE /v1/stats HTTP/1.1\r\nHost: a\r\n\r\n",
+            b"HTTP/1.1 405 Method Not Allowed",
+            b"Cache-Control: no-store\r\nAllow: GET, HEAD\r\n",
+            b"{\"error\":\"bad_method\"}",
+        ),
+        (
+            b"GET /v1/x HTTP/1.1\r\nHost: a\r\n\r\n",
+            b"HTTP/1.1 404 Not Found",
+            NO_STORE,
+            b"{\"error\":\"no_route\"}",
+        ),
+        (
+            b"GET * HTTP/1.1\r\nHost: a\r\n\r\n",
+            b"HTTP/1.1 400 Bad Request",
+            NO_STORE,
+            b"{\"error\":\"bad_target\"}",
+        ),
+        (
+            b"GET /v1/stats?x=1 HTTP/1.1\r\nHost: a\r\n\r\n",
+            b"HTTP/1.1 400 Bad Request",
+            NO_STORE,
+            b"{\"error\":\"bad_target\"}",
+        ),
+        (
+            b"GET /v1/d/shop/P HTTP/1.1\r\nHost: a\r\n\r\n",
+            b"HTTP/1.1 400 Bad Request",
+            NO_STORE,
+            b"{\"error\":\"bad_target\"}",
+        ),
+        (
+            b"GET /v1/q/shop HTTP/1.1\r\nHost: a\r\n\r\n",
+            b"HTTP/1.1 501 Not Implemented",
+            NO_STORE,
+            b"{\"error\":\"not_built\"}",
+        ),
+        (
+            b"GET /v1/purges HTTP/1.1\r\nHost: a\r\n\r\n",
+            b"HTTP/1.1 501 Not Implemented",
+            NO_STORE,
+            b"{\"error\":\"not_built\"}",
+        ),
+        (
+            b"GET /v1/d/shop/p1 HTTP/1.1\r\nHost: a\r\nIf-None-Match: \"1\"\r\n\r\n",
+            b"HTTP/1.1 501 Not Implemented",
+            NO_STORE,
+            b"{\"error\":\"not_built\"}",
+        ),
+        (
+            b"HEAD http://b/v1/stats HTTP/1.1\r\nHost: a\r\n\r\n",
+            b"HTTP/1.1 200 OK",
+            NO_STORE,
+            b"{\"clock\":100,\"commits\":7,\"front\":0}",
+        ),
     ];
-    for (at, (input, status, written)) in rows.into_iter().enumerate() {
-        let outcome = pipe_over(rt.alloc(), input, calls_of(WHOLE), AMPLE, calls_of(WHOLE))?;
-        assert_run(&rt, &outcome, status, written, at);
+    let mut input = Vec::new(rt.alloc());
+    let mut written = Vec::new(rt.alloc());
+    for row in &rows {
+        input.extend_from_slice(row.0)?;
+        written.extend_from_slice(&reply_of(rt.alloc(), row)?)?;
     }
+    for size in [1, WHOLE] {
+        let outcome = pipe_over(rt.alloc(), &input, calls_of(size), AMPLE, calls_of(WHOLE))?;
+        assert_run(&rt, &outcome, Status::Done, &written, size);
+    }
+    Ok(())
+}
+
+#[test]
+fn a_connection_ends_by_its_request(rt: HostRuntime) -> Result<(), Fail> {
+    let rows: [(Status, Row<'_>); 10] = [
+        (
+            Status::BadInput,
+            (
+                b"x\r\n\r\n",
+                b"HTTP/1.1 400 Bad Request",
+                CLOSED,
+                b"{\"error\":\"bad_head\"}",
+            ),
+        ),
+        (
+            Status::BadInput,
+            (
+                b"PUT /v1/d/shop/p1 HTTP/1.1\r\nHost: a\r\nTransfer-Encoding: chunked\r\nContent-Length: 5\r\n\r\n",
+                b"HTTP/1.1 400 Bad Request",
+                CLOSED,
+                b"{\"error\":\"bad_length\"}",
+            ),
+        ),
+        (
+            Status::BadInput,
+            (
+                b"PUT /v1/d/shop/p1 HTTP/1.1\r\nHost: a\r\nContent-Length: x\r\n\r\n",
+                b"HTTP/1.1 400 Bad Request",
+                CLOSED,
+                b"{\"error\":\"bad_length\"}",
+            ),
+        ),
+        (
+            Status::BadInput,
+            (
+                b"PUT /v1/d/shop/p1 HTTP/1.1\r\nHost: a\r\nTransfer-Encoding: gzip\r\n\r\n",
+                b"HTTP/1.1 501 Not Implemented",
+                CLOSED,
+                b"{\"error\":\"bad_coding\"}",
+            ),
+        ),
+        (
+            Status::BadInput,
+            (
+                b"PUT /v1/d/shop/p1 HTTP/1.1\r\nHost: a\r\nTransfer-Encoding: chunked\r\n\r\nz\r\n",
+                b"HTTP/1.1 400 Bad Request",
+                CLOSED,
+                b"{\"error\":\"bad_length\"}",
+            ),
+        ),
+        (
+            Status::BadInput,
+            (
+                b"PUT /v1/d/shop/p1 HTTP/1.1\r\nHost: a\r\nContent-Length: 65537\r\n\r\n",
+                b"HTTP/1.1 413 Payload Too Large",
+                CLOSED,
+                b"{\"error\":\"body_too_large\"}",
+            ),
+        ),
+        (
+            Status::BadInput,
+            (
+                b"HEAD /v1/d/shop/p1 HTTP/1.1\r\nHost: a\r\nTransfer-Encoding: chunked\r\n\r\n10001\r\n",
+                b"HTTP/1.1 413 Payload Too Large",
+                CLOSED,
+                b"{\"error\":\"body_too_large\"}",
+            ),
+        ),
+        (
+            Status::Done,
+            (
+                b"GET /v1/stats HTTP/1.1\r\nHost: a\r\nConnection: Keep-Alive, CLOSE\r\n\r\n",
+                b"HTTP/1.1 200 OK",
+                CLOSED,
+                EMPTY,
+            ),
+        ),
+        (
+            Status::Done,
+            (
+                b"GET /v1/stats HTTP/1.0\r\n\r\n",
+                b"HTTP/1.1 200 OK",
+                CLOSED,
+                EMPTY,
+            ),
+        ),
+        (
+            Status::Done,
+            (
+                b"GET /v2 HTTP/1.1\r\nHost: a\r\nconnection: close\r\n\r\n",
+                b"HTTP/1.1 404 Not Found",
+                CLOSED,
+                b"{\"error\":\"no_route\"}",
+            ),
+        ),
+    ];
+    for (at, (status, row)) in rows.into_iter().enumerate() {
+        let input = joined(rt.alloc(), row.0, GET)?;
+        let written = reply_of(rt.alloc(), &row)?;
+        let outcome = pipe_over(rt.alloc(), &input, calls_of(WHOLE), AMPLE, calls_of(WHOLE))?;
+        assert_run(&rt, &outcome, status, &written, at);
+    }
+    let blank = pipe_over(
+        rt.alloc(),
+        b"\r\n\r\n\n",
+        calls_of(WHOLE),
+        AMPLE,
+        calls_of(WHOLE),
+    )?;
+    assert_run(&rt, &blank, Status::Done, b"", 0);
     Ok(())
 }

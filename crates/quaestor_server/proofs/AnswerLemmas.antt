@@ -1,26 +1,27 @@
 -- A desk is made ready, and then answers.
 use Rattle.std.proofs.Common.{◌≡◌, ℕ, List, ◌++◌, length, nat_lt, Result, Ok, refl, sym, subst, inl, inr}
 use Rattle.std.proofs.lemmas.Bool.{cases_Bool}
-use Rattle.q_base.specs.declared.memory.Memory.{Memory as NoMemory}
-use Rattle.quaestor_server.specs.declared.ask.Ask.{Ask}
-use Rattle.quaestor_server.specs.declared.ask.Ask.TheVariants.{MatchAll}
-use Rattle.hub_model.specs.declared.entry.Matched.{Matched}
-use Rattle.hub_model.specs.State.{State}
-use Rattle.hub_model.specs.Step.{state_of}
-use Rattle.quaestor_server.specs.Ask.{IsFresh}
-use Rattle.quaestor_server.specs.Desk.{matching, MatchesAll}
+use Rattle.http_front.specs.declared.ask.Ask.{Ask}
+use Rattle.http_front.specs.declared.ask.Ask.TheVariants.{MatchAll}
+use Rattle.http_front.specs.declared.told.Told.{Told}
+use Rattle.http_front.specs.declared.told.Told.TheVariants.{Match}
+use Rattle.http_message.specs.declared.refused.Refused.{Refused}
+use Rattle.hub_desk.specs.Desk.{matching, MatchesAll}
 use Rattle.hub_model.specs.declared.entry.Entry.{Entry}
-use Rattle.quaestor_server.specs.declared.told.Told.{Told}
-use Rattle.quaestor_server.specs.declared.told.Told.TheVariants.{Match, Memory}
-use Rattle.quaestor_server.specs.Answer.{IsMade, serves, fails, IsAnswer, served, failed}
+use Rattle.hub_model.specs.declared.entry.Matched.{Matched}
 use Rattle.hub_model.specs.Desk.{Learns}
 use Rattle.hub_model.specs.Setting.{Setting}
-use Rattle.quaestor_server.proofs.PrefixLemmas.{learns-makes, learns-learns, fresh_before, prefix_self}
+use Rattle.hub_model.specs.State.{State}
+use Rattle.hub_model.specs.Step.{state_of}
+use Rattle.q_base.specs.declared.memory.Memory.{Memory as NoMemory}
+use Rattle.quaestor_server.specs.Answer.{IsMade, serves, fails, IsAnswer, served, failed}
+use Rattle.quaestor_server.specs.Ask.{IsFresh}
+use Rattle.quaestor_server.proofs.PrefixLemmas.{learns-makes, learns-learns, fresh_before}
 
--- an ask that a ready desk answered is answered
-pub answered-ready : (g : Setting) (old mid new : List Entry) (mine mine_mid mine_new : List (ℕ × Entry)) (moment : ℕ) (ask : Ask) (asked : Result Ask NoMemory) (told : Told) (page : List ℕ) → asked ≡ Ok ask → Learns g old mid mine mine_mid → IsMade g mid new mine_mid mine_new moment ask told page → IsAnswer g old new mine mine_new moment asked told page
-answered-ready g old mid new mine mine_mid mine_new moment ask asked told page asked_is l (serves s) =
-    served ask asked_is (record {
+-- what a ready desk answered is answered
+answered-ready : (g : Setting) (old mid new : List Entry) (mine mine_mid mine_new : List (ℕ × Entry)) (moment : ℕ) (asked : Result Ask Refused) (read : Result (Result Ask Refused) NoMemory) (told : Told) (page : List ℕ) → read ≡ Ok asked → Learns g old mid mine mine_mid → IsMade g mid new mine_mid mine_new moment asked told page → IsAnswer g old new mine mine_new moment read told page
+answered-ready g old mid new mine mine_mid mine_new moment asked read told page read_is l (serves s) =
+    served asked read_is (record {
       entry = s.entry;
       replied = s.replied;
       made = learns-makes g old mid new mine mine_mid mine_new s.entry s.replied l s.made;
@@ -28,18 +29,13 @@ answered-ready g old mid new mine mine_mid mine_new moment ask asked told page a
       fresh = fresh_before g old mid s.entry l.grew s.fresh;
       told_is = s.told_is;
     })
-answered-ready g old mid new mine mine_mid mine_new moment ask asked told page asked_is l (fails f) =
+answered-ready g old mid new mine mine_mid mine_new moment asked read told page read_is l (fails f) =
     failed (record { learns = learns-learns g old mid new mine mine_mid mine_new l f.learns; told_is = f.told_is })
 
 -- a desk that is made ready keeps its configuration, and then answers
-pub answered-then : (g g' : Setting) (old mid new : List Entry) (mine mine_mid mine_new : List (ℕ × Entry)) (moment : ℕ) (ask : Ask) (asked : Result Ask NoMemory) (told : Told) (page : List ℕ) → asked ≡ Ok ask → g' ≡ g → Learns g old mid mine mine_mid → IsMade g' mid new mine_mid mine_new moment ask told page → IsAnswer g old new mine mine_new moment asked told page
-answered-then g g' old mid new mine mine_mid mine_new moment ask asked told page asked_is same l m =
-    answered-ready g old mid new mine mine_mid mine_new moment ask asked told page asked_is l (subst (λ (x : Setting). IsMade x mid new mine_mid mine_new moment ask told page) same m)
-
--- a desk that was not asked fails
-pub answered-none : (g : Setting) (seen : List Entry) (mine : List (ℕ × Entry)) (moment : ℕ) (asked : Result Ask NoMemory) (told : Told) (page : List ℕ) → told ≡ Memory → IsAnswer g seen seen mine mine moment asked told page
-answered-none g seen mine moment asked told page told_is =
-    failed (record { learns = record { grew = prefix_self seen; legal = λ h. h; mine = refl }; told_is = told_is })
+pub answered-then : (g g' : Setting) (old mid new : List Entry) (mine mine_mid mine_new : List (ℕ × Entry)) (moment : ℕ) (asked : Result Ask Refused) (read : Result (Result Ask Refused) NoMemory) (told : Told) (page : List ℕ) → read ≡ Ok asked → g' ≡ g → Learns g old mid mine mine_mid → IsMade g' mid new mine_mid mine_new moment asked told page → IsAnswer g old new mine mine_new moment read told page
+answered-then g g' old mid new mine mine_mid mine_new moment asked read told page read_is same l m =
+    answered-ready g old mid new mine mine_mid mine_new moment asked read told page read_is l (subst (λ (x : Setting). IsMade x mid new mine_mid mine_new moment asked told page) same m)
 
 -- a match of all commits reads nothing
 fresh_matching : (g : Setting) (old : List Entry) (s : State) (moment : ℕ) (e : Entry) → e ≡ matching s moment → IsFresh g old e
@@ -49,9 +45,9 @@ fresh_matching g old s moment e is = subst (λ (x : Entry). IsFresh g old x) (sy
 ])
 
 -- a desk that matched all commits served that ask
-pub made-match : (g : Setting) (old new : List Entry) (mine mine_new : List (ℕ × Entry)) (moment : ℕ) (ask : Ask) (match : Matched) (page : List ℕ) → ask ≡ MatchAll → MatchesAll g old new mine mine_new moment match → IsMade g old new mine mine_new moment ask (Match match) page
-made-match g old new mine mine_new moment ask match page ask_is m =
-    subst (λ (a : Ask). IsMade g old new mine mine_new moment a (Match match) page) (sym ask_is) (serves (record {
+pub made-match : (g : Setting) (old new : List Entry) (mine mine_new : List (ℕ × Entry)) (moment : ℕ) (asked : Result Ask Refused) (match : Matched) (page : List ℕ) → asked ≡ Ok MatchAll → MatchesAll g old new mine mine_new moment match → IsMade g old new mine mine_new moment asked (Match match) page
+made-match g old new mine mine_new moment asked match page asked_is m =
+    subst (λ (a : Result Ask Refused). IsMade g old new mine mine_new moment a (Match match) page) (sym asked_is) (serves (record {
       entry = m.entry;
       replied = m.replied;
       made = m.made;

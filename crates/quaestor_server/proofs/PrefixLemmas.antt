@@ -1,14 +1,15 @@
 -- Beginnings of lists, and calls of a desk one after another.
-use Rattle.std.proofs.Common.{◌≡◌, ℕ, ◌≤◌, List, [], ◌∷◌, ◌++◌, length, sym, ◌∙◌, subst, append_assoc, append-nil, length-append, arith, fold, refl}
+use Rattle.std.proofs.Common.{◌≡◌, ℕ, ◌≤◌, List, [], ◌∷◌, ◌++◌, length, sym, ◌∙◌, subst, append_assoc, append-nil, length-append, arith, fold, refl, inl, inr}
 use Rattle.hub_model.specs.declared.entry.Entry.{Entry}
 use Rattle.hub_model.specs.declared.entry.Entry.TheVariants.{Write, Read, Match, Fetch, Tick}
+use Rattle.std.proofs.lemmas.Bool.{cases_Bool}
 use Rattle.std.proofs.lemmas.List.Sums.{fold-append}
 use Rattle.quaestor_server.specs.Ask.{IsFresh}
 use Rattle.hub_model.specs.Desk.{IsPrefix, Makes, Learns}
 use Rattle.hub_model.specs.Reply.{Replied}
 use Rattle.hub_model.specs.Setting.{Setting}
-use Rattle.hub_model.specs.State.{State, start}
-use Rattle.hub_model.specs.Step.{after, state_of}
+use Rattle.hub_model.specs.State.{State, start, at_moment}
+use Rattle.hub_model.specs.Step.{after, is_accepted, state_of}
 
 -- a list is its own beginning
 pub prefix_self : {X : Type 0} (xs : List X) → IsPrefix xs xs
@@ -28,7 +29,12 @@ prefix_front xs ys = (ys, refl)
 
 -- an entry leaves no fewer commits
 commits-after : (g : Setting) (s : State) (e : Entry) → length s.journal ≤ length (after g s e).journal
-commits-after g s (Write moment change condition) = let size = length-append s.journal (change ∷ []) in omega (arith, size)
+commits-after g s (Write moment change condition) =
+    let size = length-append s.journal (change ∷ []) in
+    elim (cases_Bool (is_accepted g (at_moment s moment) change condition)) [
+      | inl accepted ↦ rw accepted (omega (arith, size))
+      | inr refused ↦ rw refused (omega arith)
+    ]
 commits-after g s (Read moment key tags at) = omega arith
 commits-after g s (Match moment to) = omega arith
 commits-after g s (Fetch moment) = omega arith

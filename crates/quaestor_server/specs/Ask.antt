@@ -1,69 +1,58 @@
 -- What the items of a connection ask of the store, and what they are told.
-use Rattle.std.specs.Prelude.{◌≡◌, ℕ, ◌≤◌, List, length, Some, Result, Ok, Err}
-use Rattle.http_message.specs.Built.{Target, record_of, match_path, filter_path, elsewhere}
-use Rattle.http_message.specs.Item.{Item, bad_head, not_built, request}
-use Rattle.http_message.specs.declared.method.Method.{Method}
-use Rattle.http_message.specs.declared.method.Method.TheVariants as methods
-use Rattle.q_doc.specs.Judged.{judged}
-use Rattle.q_doc.specs.Tree.{Tree}
-use Rattle.q_doc.specs.declared.refusal.DocRefusal.{DocRefusal}
-use Rattle.query_normal.specs.declared.key.KeyShape.TheVariants.{Record}
-use Rattle.quaestor_server.specs.declared.ask.Ask.{Ask}
-use Rattle.quaestor_server.specs.declared.ask.Ask.TheVariants.{Put, Get, MatchAll, Fetch, Refuse}
-use Rattle.hub_model.specs.declared.entry.Condition.TheVariants.{Always}
+use Rattle.std.specs.Prelude.{◌≡◌, ℕ, ◌≤◌, false, if◌then◌else◌, List, length, Option, Some, None, Result, Ok, Err}
+use Rattle.flat_snapshot.specs.PageText.{page_text}
+use Rattle.http_front.specs.Asks.{ask_of, shape_of}
+use Rattle.http_front.specs.declared.ask.Ask.{Ask}
+use Rattle.http_front.specs.declared.ask.Ask.TheVariants.{Write, Read, MatchAll, Fetch, Stats}
+use Rattle.http_front.specs.declared.shape.Shape.{Shape}
+use Rattle.http_front.specs.declared.told.Told.{Told}
+use Rattle.http_front.specs.declared.told.Told.TheVariants as tells
+use Rattle.http_message.specs.Item.{Item, request, unframed}
+use Rattle.http_message.specs.Message.{asks_to_close}
+use Rattle.http_message.specs.declared.refused.Refused.{Refused}
+use Rattle.hub_desk.specs.Desk.{matching, IsFrontOf}
 use Rattle.hub_model.specs.declared.entry.Entry.{Entry}
 use Rattle.hub_model.specs.declared.entry.Entry.TheVariants as entries
 use Rattle.hub_model.specs.declared.entry.Matched.{Matched}
-use Rattle.hub_model.specs.declared.entry.Tags.TheVariants.{Unasked}
-use Rattle.quaestor_server.specs.declared.told.Refused.TheVariants.{BadHead, NotBuilt, NoRoute, BadDocument}
-use Rattle.quaestor_server.specs.declared.told.Told.{Told}
-use Rattle.quaestor_server.specs.declared.told.Told.TheVariants as tells
 use Rattle.hub_model.specs.Reply.{Replied, wrote, read, fetched, counted}
 use Rattle.hub_model.specs.Setting.{Setting}
 use Rattle.hub_model.specs.State.{State}
 use Rattle.hub_model.specs.Step.{state_of}
-use Rattle.flat_snapshot.specs.PageText.{page_text}
-use Rattle.quaestor_server.specs.Desk.{matching, IsFrontOf}
+use Rattle.q_outside.specs.declared.served.Why.{Why}
+use Rattle.q_outside.specs.declared.served.Why.TheVariants.{BadFraming, CloseAsked}
 
--- what a put asks, of what its body is read as
-abbrev pub put_of : List ℕ → List ℕ → Result Tree DocRefusal → Ask
-put_of collection id (Ok tree) = Put (record { collection = collection; id = id; document = Some tree })
-put_of collection id (Err reason) = Refuse (BadDocument reason)
+-- what an item asks, or why it is refused
+abbrev pub asked_by : Item → Result Ask Refused
+asked_by (request m) = ask_of m
+asked_by (unframed refused called head) = Err refused
 
--- what a request of a record asks; no POST of one is built
-abbrev pub record_ask : Method → List ℕ → List ℕ → List ℕ → Ask
-record_ask methods.Get collection id body = Get (Record collection id)
-record_ask methods.Put collection id body = put_of collection id (judged body)
-record_ask methods.Post collection id body = Refuse NotBuilt
+-- what the reply to an item looks like
+abbrev pub shape_by : Item → Shape
+shape_by (request m) = shape_of m
+shape_by (unframed refused called head) = record { put = false; head = head }
 
--- what a request asks, by what its target names
-abbrev pub target_ask : Method → Target → List ℕ → Ask
-target_ask method (record_of collection id) body = record_ask method collection id body
-target_ask method match_path body = MatchAll
-target_ask method filter_path body = Fetch
-target_ask method elsewhere body = Refuse NoRoute
+-- how the connection ends after an item whose first byte is at this place, where it does
+abbrev pub end_by : ℕ → Item → Option Why
+end_by place (request m) = if asks_to_close m then Some CloseAsked else None
+end_by place (unframed refused called head) = Some (BadFraming place)
 
--- what an item asks
-abbrev pub ask_of : Item → Ask
-ask_of bad_head = Refuse BadHead
-ask_of not_built = Refuse NotBuilt
-ask_of (request method target body) = target_ask method target body
+-- the entry is the one that is asked for, at this moment, behind a state; a refusal asks for a tick
+abbrev pub IsEntryOf : Result Ask Refused → ℕ → State → Entry → Type 0
+IsEntryOf (Ok (Write change condition)) moment s e = e ≡ entries.Write moment change condition
+IsEntryOf (Ok (Read key tags head)) moment s e = (at : ℕ) × (e ≡ entries.Read moment key tags at)
+IsEntryOf (Ok MatchAll) moment s e = e ≡ matching s moment
+IsEntryOf (Ok (Fetch head)) moment s e = e ≡ entries.Fetch moment
+IsEntryOf (Ok (Stats head)) moment s e = e ≡ entries.Tick moment
+IsEntryOf (Err refused) moment s e = e ≡ entries.Tick moment
 
--- the entry is the one that the ask calls for, at this moment, behind a state
-abbrev pub IsEntryOf : Ask → ℕ → State → Entry → Type 0
-IsEntryOf (Put change) moment s e = e ≡ entries.Write moment change Always
-IsEntryOf (Get key) moment s e = (at : ℕ) × (e ≡ entries.Read moment key Unasked at)
-IsEntryOf MatchAll moment s e = e ≡ matching s moment
-IsEntryOf Fetch moment s e = e ≡ entries.Fetch moment
-IsEntryOf (Refuse reason) moment s e = e ≡ entries.Tick moment
-
--- what the ask is told, with the bytes of the page where it is told one, by the reply to its entry
-abbrev pub IsToldOf : Ask → Replied → Told → List ℕ → Type 0
-IsToldOf (Put change) (wrote written) told page = told ≡ tells.Write written
-IsToldOf (Get key) (read answer) told page = told ≡ tells.Read answer
-IsToldOf MatchAll replied told page = (match : Matched) × IsFrontOf replied match × (told ≡ tells.Match match)
-IsToldOf Fetch (fetched p) told page = (told ≡ tells.Page p.moment) × (page ≡ page_text p)
-IsToldOf (Refuse reason) (counted stats) told page = told ≡ tells.Refusal reason stats.clock
+-- what is told, with the bytes of the page where it is one, by the reply to that entry
+abbrev pub IsToldOf : Result Ask Refused → Replied → Told → List ℕ → Type 0
+IsToldOf (Ok (Write change condition)) (wrote written) told page = told ≡ tells.Write written
+IsToldOf (Ok (Read key tags head)) (read answer) told page = told ≡ tells.Read answer
+IsToldOf (Ok MatchAll) replied told page = (match : Matched) × IsFrontOf replied match × (told ≡ tells.Match match)
+IsToldOf (Ok (Fetch head)) (fetched p) told page = (told ≡ tells.Page p.moment) × (page ≡ page_text p)
+IsToldOf (Ok (Stats head)) (counted stats) told page = told ≡ tells.Count stats
+IsToldOf (Err refused) (counted stats) told page = told ≡ tells.Refusal refused stats.clock
 IsToldOf _ _ told page = ⊥
 
 -- a read is not of a commit before those that were known

@@ -1,21 +1,22 @@
 -- What a connection did, told whole.
-use Rattle.std.specs.Prelude.{◌≡◌, ◌⊎◌, ℕ, ◌<◌, ◌≤◌, ◌++◌, Bool, true, false, not, List, [], ◌∷◌, length, map, take, Option}
+use Rattle.std.specs.Prelude.{◌≡◌, ◌⊎◌, ℕ, ◌<◌, ◌≤◌, ◌++◌, Bool, true, false, not, List, [], ◌∷◌, length, map, take, Option, Some}
 use Rattle.std.specs.List.{enumerate_from, flat_map, list_all}
-use Rattle.http_message.specs.Item.{Item, IsItem, IsOpen, closes}
+use Rattle.http_front.specs.ReplyText.{IsReplyText}
+use Rattle.http_front.specs.declared.told.Told.{Told}
+use Rattle.http_front.specs.declared.told.Told.TheVariants.{Memory}
+use Rattle.http_message.specs.Item.{Item, IsItem, IsOpen, IsCalled, continues, closes}
+use Rattle.http_message.specs.Taken.{continue_text, continue_where}
 use Rattle.http_message.specs.Text.{is_blank}
-use Rattle.q_outside.specs.Told.{Takes, IsEnded, Gives}
-use Rattle.q_outside.specs.declared.served.Why.{Why}
-use Rattle.q_outside.specs.declared.served.Why.TheVariants.{InputEnd, Truncated, BadFraming, CloseAsked, RequestLimit, ReadFault, WriteFault}
 use Rattle.hub_model.specs.declared.entry.Entry.{Entry}
-use Rattle.quaestor_server.specs.declared.told.Told.{Told}
-use Rattle.quaestor_server.specs.declared.told.Told.TheVariants.{Memory}
-use Rattle.quaestor_server.specs.Ask.{ask_of, IsEntryOf, IsToldOf, IsFresh}
 use Rattle.hub_model.specs.Desk.{IsPrefix, IsHelped}
 use Rattle.hub_model.specs.Legal.{IsLegal}
 use Rattle.hub_model.specs.Reply.{reply}
-use Rattle.quaestor_server.specs.ReplyText.{IsReplyText}
 use Rattle.hub_model.specs.Setting.{Setting}
 use Rattle.hub_model.specs.Step.{state_of}
+use Rattle.q_outside.specs.Told.{Takes, IsEnded, Gives}
+use Rattle.q_outside.specs.declared.served.Why.{Why}
+use Rattle.q_outside.specs.declared.served.Why.TheVariants.{InputEnd, Truncated, BadFraming, CloseAsked, RequestLimit, ReadFault, WriteFault}
+use Rattle.quaestor_server.specs.Ask.{asked_by, shape_by, end_by, IsEntryOf, IsToldOf, IsFresh}
 
 -- so many requests are answered on one connection
 abbrev pub request_limit : ℕ
@@ -35,10 +36,14 @@ pub record Exchange : Type 0 where
   pub after : List Entry
   -- the entries that were made for it, with their places
   pub own : List (ℕ × Entry)
-  -- its text
-  pub text : List ℕ
+  -- the text of its reply
+  pub answer : List ℕ
 
--- The item is answered by its entry, and its text is that of the reply at the entry's place.
+-- its text: the reply, and `100 Continue` before that where the item calls for it
+abbrev pub text_of : Exchange → List ℕ
+text_of x = continue_where (continues x.item) ++ x.answer
+
+-- The item is answered by its entry, and its reply is that at the entry's place.
 pub record IsServed (g : Setting) (x : Exchange) : Type 0 where
   -- what stands before its entries; others may have made some of it since
   pub before : List Entry
@@ -51,16 +56,16 @@ pub record IsServed (g : Setting) (x : Exchange) : Type 0 where
   pub helped : IsHelped g before helps entry
   pub after_is : x.after ≡ (before ++ helps) ++ entry ∷ []
   pub own_is : x.own ≡ enumerate_from (length before) (helps ++ entry ∷ [])
-  pub is_of : IsEntryOf (ask_of x.item) x.moment (state_of g (before ++ helps)) entry
+  pub is_of : IsEntryOf (asked_by x.item) x.moment (state_of g (before ++ helps)) entry
   pub fresh : IsFresh g x.known entry
-  pub told_is : IsToldOf (ask_of x.item) (reply g (before ++ helps) entry) told page
-  pub text_is : IsReplyText told page (closes x.item) x.text
+  pub told_is : IsToldOf (asked_by x.item) (reply g (before ++ helps) entry) told page
+  pub answer_is : IsReplyText (shape_by x.item) told page (closes x.item) x.answer
 
--- For want of memory the item has no entry, and its text says so.
+-- For want of memory the item has no entry, and its reply says so.
 pub record IsUnserved (x : Exchange) : Type 0 where
   pub later : IsPrefix x.known x.after
   pub own_is : x.own ≡ []
-  pub text_is : IsReplyText Memory [] (closes x.item) x.text
+  pub answer_is : IsReplyText (shape_by x.item) Memory [] (closes x.item) x.answer
 
 -- what is true of each item of a connection
 pub record IsExchange (g : Setting) (x : Exchange) : Type 0 where
@@ -78,7 +83,7 @@ pieces xs = flat_map (λ x. x.piece) xs
 
 -- their texts, one after another
 abbrev pub texts : List Exchange → List ℕ
-texts xs = flat_map (λ x. x.text) xs
+texts xs = flat_map text_of xs
 
 -- their entries, in order
 abbrev pub owns : List Exchange → List (ℕ × Entry)
@@ -114,42 +119,54 @@ pub record Progress (g : Setting) (a b : Side) (tells : List ℕ → Type 0) (xs
   pub faults_in : a.faults_in ≤ b.faults_in
   pub faults_out : a.faults_out ≤ b.faults_out
 
--- No item ended the connection, there was room for one more, and each text was given.
-pub record IsStopped (a b : Side) (xs : List Exchange) : Type 0 where
+-- No item ended the connection, and there was room for one more.
+pub record GoesOn (xs : List Exchange) : Type 0 where
   pub none : none_closes xs ≡ true
   pub few : length xs < request_limit
-  pub given : Gives a.held b.held (texts xs)
 
--- The last item ended the connection. Its first byte is at this place.
-pub record IsClosed (xs : List Exchange) (place : ℕ) : Type 0 where
+-- The next item is not whole. Each text was given, and what begins the text of that item.
+pub record IsStopped (a b : Side) (xs : List Exchange) (rest : List ℕ) : Type 0 where
+  pub on : GoesOn xs
+  pub called : Bool
+  pub is_open : IsOpen rest called
+  pub given : Gives a.held b.held (texts xs ++ continue_where called)
+
+-- The last item ended the connection so, and each text was given.
+pub record IsClosed (a b : Side) (xs : List Exchange) (why : Why) : Type 0 where
   pub others : List Exchange
   pub last : Exchange
   pub are : xs ≡ others ++ last ∷ []
-  pub none : none_closes others ≡ true
-  pub closing : closes last.item ≡ true
-  pub few : length others < request_limit
-  pub place_is : place ≡ length (pieces others)
+  pub on : GoesOn others
+  pub closing : end_by (length (pieces others)) last.item ≡ Some why
+  pub given : Gives a.held b.held (texts xs)
 
 -- The sink failed inside the text of the last item.
 pub record IsBroken (a b : Side) (xs : List Exchange) : Type 0 where
   pub others : List Exchange
   pub last : Exchange
   pub are : xs ≡ others ++ last ∷ []
-  pub none : none_closes others ≡ true
-  pub few : length others < request_limit
+  pub on : GoesOn others
   pub size : ℕ
-  pub part : size ≤ length last.text
-  pub given : Gives a.held b.held (texts others ++ take size last.text)
+  pub part : size ≤ length (text_of last)
+  pub given : Gives a.held b.held (texts others ++ take size (text_of last))
+
+-- The sink failed inside what begins the text of the next item, which was not answered.
+pub record IsUncalled (a b : Side) (xs : List Exchange) (rest : List ℕ) : Type 0 where
+  pub on : GoesOn xs
+  pub is_called : IsCalled rest
+  pub size : ℕ
+  pub part : size ≤ length continue_text
+  pub given : Gives a.held b.held (texts xs ++ take size continue_text)
 
 -- what is true at the end that the connection tells
 abbrev pub Ends : Why → Side → Side → List Exchange → List ℕ → Type 0
-Ends InputEnd a b xs rest = IsStopped a b xs × IsEnded b.left × IsOpen rest × (is_blank rest ≡ true)
-Ends Truncated a b xs rest = IsStopped a b xs × IsEnded b.left × IsOpen rest × (is_blank rest ≡ false)
-Ends (BadFraming place) a b xs rest = IsClosed xs place × Gives a.held b.held (texts xs)
-Ends CloseAsked a b xs rest = ⊥
+Ends InputEnd a b xs rest = IsStopped a b xs rest × IsEnded b.left × (is_blank rest ≡ true)
+Ends Truncated a b xs rest = IsStopped a b xs rest × IsEnded b.left × (is_blank rest ≡ false)
+Ends (BadFraming place) a b xs rest = IsClosed a b xs (BadFraming place)
+Ends CloseAsked a b xs rest = IsClosed a b xs CloseAsked
 Ends RequestLimit a b xs rest = (none_closes xs ≡ true) × (length xs ≡ request_limit) × Gives a.held b.held (texts xs)
-Ends ReadFault a b xs rest = IsStopped a b xs × IsOpen rest × (a.faults_in < b.faults_in)
-Ends WriteFault a b xs rest = IsBroken a b xs × (a.faults_out < b.faults_out)
+Ends ReadFault a b xs rest = IsStopped a b xs rest × (a.faults_in < b.faults_in)
+Ends WriteFault a b xs rest = (IsBroken a b xs ⊎ IsUncalled a b xs rest) × (a.faults_out < b.faults_out)
 
 -- A connection was served: so many items were answered, and it ended for this reason.
 pub record Conversation (g : Setting) (a b : Side) (tells : List ℕ → Type 0) (requests : ℕ) (why : Why) : Type 0 where

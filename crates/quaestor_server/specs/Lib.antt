@@ -1,11 +1,7 @@
 pub mod Answer
 pub mod Ask
 pub mod Connection
-pub mod Date
-pub mod Desk
 pub mod EndLaw
-pub mod Given
-pub mod ReplyText
 pub mod Round
 pub use Rattle.hub_core.specs.Config
 pub use Rattle.hub_core.specs.Room

@@ -3,36 +3,36 @@
 //! A turn takes the next item of the source's bytes, asks the clock, makes the item's entry and gives
 //! the sink its text. What a turn does is one exchange more; the connection's clause tells the list of
 //! them, the bytes that were taken besides, and what is true at the end that is answered.
-ghost use Rattle.std.specs.Prelude.{◌≡◌, ℕ, ◌≤◌, List, Option, length, IfOk};
+ghost use Rattle.std.specs.Prelude.{◌≡◌, ℕ, ◌+◌, ◌<◌, ◌≤◌, ◌^◌, List, Option, IfOk};
 ghost use Rattle.hub_core.specs.Room.{IsRoomFor};
-ghost use Rattle.http_message.specs.Item.{Item as AnItem, closes};
-ghost use Rattle.http_message.specs.Parts.{IsItemAt};
-ghost use Rattle.q_outside.specs.Told.{Ticks};
-ghost use Rattle.quaestor_server.specs.Ask.{ask_of};
-ghost use Rattle.quaestor_server.specs.Connection.{Conversation};
 ghost use Rattle.hub_model.specs.Legal.{IsLegal};
-ghost use Rattle.quaestor_server.specs.Round.{IsRound, AsksFor};
+ghost use Rattle.http_message.specs.Item.{Item as AnItem, IsItem};
+ghost use Rattle.http_message.specs.Taken.{item_limit};
+ghost use Rattle.q_outside.specs.Told.{Ticks};
+ghost use Rattle.quaestor_server.specs.Connection.{Conversation};
+ghost use Rattle.quaestor_server.specs.Round.{IsAsked, IsTurn, IsRound};
 
 use crate::answer::answer;
-use crate::ask::{Ask, ask_in};
-use crate::desk::Desk;
-use crate::give::give_reply;
-use crate::reply::ReplyRoom;
+use crate::asked::Asked;
 use crate::step::Step;
-use crate::told::Refused;
+use http_front::{ReplyRoom, Routes, give_reply};
 use http_message::{RequestRoom, Taken, next_request};
 use hub_core::{Config, PageRoom};
+use hub_desk::Desk;
 use q_base::Memory;
+use q_doc::ReadRoom;
 use q_outside::{Clock, Served, Sink, Source, Why};
 use std::alloc::Global;
 
 /// So many requests are answered on one connection.
 pub const REQUEST_LIMIT: u64 = 10_000;
 
-/// The buffers of one connection, made once.
+/// The buffers of one connection, made once, and the routes.
 #[derive(Drop)]
 pub struct Room {
     requests: RequestRoom,
+    routes: Routes,
+    reading: ReadRoom,
     reply: ReplyRoom,
     /// The room for the pages that are fetched.
     pub pages: PageRoom,
@@ -45,40 +45,43 @@ impl Room {
     {
         Ok(Room {
             requests: RequestRoom::new(alloc)?,
+            routes: Routes::new(alloc)?,
+            reading: ReadRoom::new(alloc),
             reply: ReplyRoom::new(alloc)?,
             pages: PageRoom::new(alloc, config)?,
         })
     }
 }
 
-/// Answers the item that was taken: the first bytes of the room, so many.
+/// Answers the item of which this is known.
 fn turn<D: Desk, K: Sink, C: Clock>(
     desk: &mut D,
     sink: &mut K,
     clock: &mut C,
-    room: &mut Room,
-    size: usize,
-    close: bool,
-    asked: Result<Ask, Memory>,
+    reply: &mut ReplyRoom,
+    pages: &mut PageRoom,
+    asked: Asked,
 ) -> Step
-    requires within { size ≤ length room.old.requests }
     requires legal { IsLegal (D.setting desk.old) (D.seen desk.old) }
-    requires room { IsRoomFor (D.setting desk.old) room.old.pages }
-    ensures step { (left : Option (List ℕ)) (faults : ℕ) (item : AnItem)
-        → IsItemAt room.old.requests size item → closes item ≡ close → AsksFor asked item
-        → IsRound (D.setting desk.old)
+    requires room { IsRoomFor (D.setting desk.old) pages.old }
+    ensures turn { (left : Option (List ℕ)) (faults place : ℕ) (piece : List ℕ) (item : AnItem)
+        → IsItem piece item → IsAsked place item asked
+        → IsTurn (D.setting desk.old)
         (record { seen = D.seen desk.old; mine = D.mine desk.old; left = left; held = K.held sink.old; faults_in = faults; faults_out = K.faults sink.old })
         (record { seen = D.seen desk.new; mine = D.mine desk.new; left = left; held = K.held sink.new; faults_in = faults; faults_out = K.faults sink.new })
-        (λ ms. Ticks C.tells clock.old ms clock.new) room.old.requests room.new.requests result }
-    ensures room { IsRoomFor (D.setting desk.old) room.new.pages }
+        (λ ms. Ticks C.tells clock.old ms clock.new) place piece item result }
+    ensures room { IsRoomFor (D.setting desk.old) pages.new }
     ensures anchor { D.anchor desk.new ≡ D.anchor desk.old }
     ensures setting { D.setting desk.new ≡ D.setting desk.old }
 {
     let moment = clock.now();
-    let told = answer(desk, &mut room.pages, moment, asked);
-    room.requests.skip(size);
-    match give_reply(sink, &mut room.reply, &told, room.pages.bytes(), close) {
-        Ok(()) => Step::Went { size, close },
+    let Asked { read, shape, end } = asked;
+    let told = answer(desk, pages, moment, read);
+    match give_reply(sink, reply, shape, &told, pages.bytes(), end.is_some()) {
+        Ok(()) => match end {
+            None => Step::Went,
+            Some(why) => Step::Closed(why),
+        },
         Err(_) => Step::Broke,
     }
 }
@@ -94,7 +97,8 @@ fn round<D: Desk, S: Source, K: Sink, C: Clock>(
 ) -> Step
     requires legal { IsLegal (D.setting desk.old) (D.seen desk.old) }
     requires room { IsRoomFor (D.setting desk.old) room.old.pages }
-    ensures step { IsRound (D.setting desk.old)
+    requires place { room.old.requests.place + item_limit < 2 ^ 64 }
+    ensures round { IsRound (D.setting desk.old)
         (record { seen = D.seen desk.old; mine = D.mine desk.old; left = S.left source.old; held = K.held sink.old; faults_in = S.faults source.old; faults_out = K.faults sink.old })
         (record { seen = D.seen desk.new; mine = D.mine desk.new; left = S.left source.new; held = K.held sink.new; faults_in = S.faults source.new; faults_out = K.faults sink.new })
         (λ ms. Ticks C.tells clock.old ms clock.new) room.old.requests room.new.requests result }
@@ -102,36 +106,28 @@ fn round<D: Desk, S: Source, K: Sink, C: Clock>(
     ensures anchor { D.anchor desk.new ≡ D.anchor desk.old }
     ensures setting { D.setting desk.new ≡ D.setting desk.old }
 {
-    match next_request(source, &mut room.requests) {
-        Taken::Request(parts) => {
-            let asked = ask_in(alloc, room.requests.bytes(), parts);
-            turn(desk, sink, clock, room, parts.length, false, asked)
+    match next_request(source, sink, &mut room.requests) {
+        Taken::Request { .. } => {
+            let asked = Asked::of(
+                alloc,
+                &room.requests.request(),
+                &room.routes,
+                &mut room.reading,
+            );
+            turn(desk, sink, clock, &mut room.reply, &mut room.pages, asked)
         }
-        Taken::BadHead { length } => {
-            turn(
-                desk,
-                sink,
-                clock,
-                room,
-                length,
-                true,
-                Ok(Ask::Refuse(Refused::BadHead)),
-            )
+        Taken::Framing {
+            refused,
+            place,
+            head,
+        } => {
+            let asked = Asked::refused(refused, place, head);
+            turn(desk, sink, clock, &mut room.reply, &mut room.pages, asked)
         }
-        Taken::NotBuilt { length } => {
-            turn(
-                desk,
-                sink,
-                clock,
-                room,
-                length,
-                true,
-                Ok(Ask::Refuse(Refused::NotBuilt)),
-            )
-        }
-        Taken::InputEnd => Step::Ended,
-        Taken::Truncated => Step::Cut,
-        Taken::ReadFault => Step::Failed,
+        Taken::InputEnd => Step::Stopped(Why::InputEnd),
+        Taken::Truncated => Step::Stopped(Why::Truncated),
+        Taken::ReadFault => Step::Stopped(Why::ReadFault),
+        Taken::WriteFault => Step::Stopped(Why::WriteFault),
     }
 }
 
@@ -156,17 +152,14 @@ pub fn serve_connection<D: Desk, S: Source, K: Sink, C: Clock>(
     ensures setting { D.setting desk.new ≡ D.setting desk.old }
 {
     room.requests.clear();
-    let mut place = 0;
     for requests in 0..REQUEST_LIMIT {
         match round(alloc, desk, source, sink, clock, room) {
-            Step::Went { size, close } => {
-                if close {
-                    return Served {
-                        requests: requests + 1,
-                        why: Why::BadFraming { place },
-                    };
-                }
-                place += size;
+            Step::Went => {}
+            Step::Closed(why) => {
+                return Served {
+                    requests: requests + 1,
+                    why,
+                };
             }
             Step::Broke => {
                 return Served {
@@ -174,24 +167,7 @@ pub fn serve_connection<D: Desk, S: Source, K: Sink, C: Clock>(
                     why: Why::WriteFault,
                 };
             }
-            Step::Ended => {
-                return Served {
-                    requests,
-                    why: Why::InputEnd,
-                };
-            }
-            Step::Cut => {
-                return Served {
-                    requests,
-                    why: Why::Truncated,
-                };
-            }
-            Step::Failed => {
-                return Served {
-                    requests,
-                    why: Why::ReadFault,
-                };
-            }
+            Step::Stopped(why) => return Served { requests, why },
         }
     }
     Served {

@@ -2,10 +2,10 @@
 //! nothing.
 ghost use Rattle.quaestor_server.specs.EndLaw.{EndIsTold, OneEnd};
 
-use http_message::one_split_is_there;
+use http_message::{one_call_is_there, one_split_is_there};
 
-/// Where neither source nor sink fails, the bytes tell how many requests are answered and how the
-/// connection ends.
+/// Where neither source nor sink fails, the bytes tell how many requests are answered, how the
+/// connection ends, and what is given behind the replies.
 pub fn end_is_told_by_the_bytes()
     ensures { EndIsTold }
 {}
@@ -15,4 +15,5 @@ pub fn one_end_is_told()
     ensures { OneEnd }
 {
     one_split_is_there();
+    one_call_is_there();
 }

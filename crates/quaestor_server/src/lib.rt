@@ -2,25 +2,17 @@
 #![tactic(auto)]
 
 mod answer;
-mod ask;
+mod asked;
 mod connection;
-mod date;
-mod desk;
-mod give;
 mod laws;
-mod owned;
-mod reply;
 mod step;
-mod told;
 
-pub use ask::Ask;
 pub use connection::{REQUEST_LIMIT, Room, serve_connection};
-pub use desk::Desk;
+pub use http_front::{Ask, ReplyRoom, Routes, Shape, Told};
+pub use http_message::{Allow, DocumentReason, Refused};
 pub use hub_core::{Config, ConfigRefusal, Hub, PageRoom};
+pub use hub_desk::{Desk, Owned};
 pub use hub_model::{
     Answer, Change, Condition, Entry, Found, Matched, Outcome, Stats, Tags, Written,
 };
 pub use laws::{end_is_told_by_the_bytes, one_end_is_told};
-pub use owned::Owned;
-pub use reply::{REPLY_ROOM, ReplyRoom};
-pub use told::{Head, MediaType, Refused, Status, Told};

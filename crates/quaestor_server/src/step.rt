@@ -1,16 +1,15 @@
 //! One turn of a connection.
+use q_outside::Why;
 
 /// How a turn came out.
 #[derive(Clone, Copy, Debug, PartialEq, Eq)]
 pub enum Step {
-    /// An item of so many bytes was answered, and may have ended the connection.
-    Went { size: usize, close: bool },
-    /// An item was answered, and the sink failed.
+    /// An item was answered, and the connection goes on.
+    Went,
+    /// An item was answered, and it ended the connection so.
+    Closed(Why),
+    /// An item was answered, and the sink failed inside the reply.
     Broke,
-    /// The source had ended, and no item was begun.
-    Ended,
-    /// The source had ended inside an item.
-    Cut,
-    /// The source failed.
-    Failed,
+    /// No item was answered, for this reason.
+    Stopped(Why),
 }

@@ -4,4 +4,4 @@ use Rattle.quaestor_server.proofs.answer.answer.Goals as goal
 
 pub returns-in-Ok-ready-clause-answer : goal.returns-in-Ok-ready-clause-answer
 returns-in-Ok-ready-clause-answer g c =
-    answered-then _ _ _ _ _ _ _ _ c.args.moment c.in-Ok.ask _ _ _ c.in-Ok.is c.in-Ok-ready.ensures.setting c.in-Ok-ready.ensures.none c.make.ensures.answer
+    answered-then _ _ _ _ _ _ _ _ c.args.moment c.in-Ok.asked _ _ _ c.in-Ok.is c.in-Ok-ready.ensures.setting c.in-Ok-ready.ensures.none c.make.ensures.answer

@@ -24,7 +24,7 @@ invariant-loop-requests g l = record {
         faults_in = g.S.Source.faults l.source;
         faults_out = g.K.Sink.faults l.sink;
       })
-      (λ ms. Ticks g.C.Clock.tells l.fn.clock ms l.clock) l.room.requests l.place l.requests;
+      (λ ms. Ticks g.C.Clock.tells l.fn.clock ms l.clock) l.room.requests l.requests;
   room : IsRoomFor (g.D.Desk.setting l.fn.desk) l.room.pages;
   anchor : g.D.Desk.anchor l.desk ≡ g.D.Desk.anchor l.fn.desk;
   setting : g.D.Desk.setting l.desk ≡ g.D.Desk.setting l.fn.desk;

@@ -1,6 +1,0 @@
--- a new hub stands for no entry
-use Rattle.quaestor_server.proofs.HistoryLemmas.{new_stands}
-use Rattle.quaestor_server.proofs.owned.Owned.new.Goals as goal
-
-pub invariant_of-result : goal.invariant_of-result
-invariant_of-result c = new_stands _ _ c.in_ok-hub.ensures.begins c.no_entry_is_legal.ensures.state c.no_entry_is_legal.ensures.legal c.new-2.ensures.items
