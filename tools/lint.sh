@@ -48,7 +48,7 @@ found=$({
         crate=${edit%/must-fail/*}
         file=$(sed -n 's/^file: *//p' "$edit" | head -n 1)
         [ -f "$crate/$file" ] || { echo "$edit: there is no $crate/$file"; continue; }
-        old=$(sed -n 's/^old: *//p' "$edit" | head -n 1)
+        old=$(sed -n 's/^old: //p' "$edit" | head -n 1)
         count=$(OLD=$old awk 'BEGIN { old = ENVIRON["OLD"] } { rest = $0; while (at = index(rest, old)) { n++; rest = substr(rest, at + length(old)) } } END { print n + 0 }' "$crate/$file")
         [ "$count" = 1 ] || echo "$edit: its text stands $count times in $file: $old"
     done
