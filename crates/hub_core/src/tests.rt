@@ -169,26 +169,47 @@ enum Told {
     Full(u64),
 }
 
-/// Writes to a record of the collection shop; an empty text deletes.
+/// What a write asks: nothing, a document, none, or the one of a commit.
+#[derive(Clone, Copy)]
+enum Asks {
+    Nothing,
+    Present,
+    Absent,
+    Since(u64),
+}
+
+/// The digit of a record, p1 or the like, what is asked of it, and what is told. Each write puts
+/// {"a":1}.
+type Case = (u8, Asks, Told);
+
+/// The condition of what is asked.
+fn condition(alloc: Global, asks: Asks) -> Result<Condition, Fail> {
+    match asks {
+        Asks::Nothing => Ok(Condition::Always),
+        Asks::Present => Ok(Condition::Present),
+        Asks::Absent => Ok(Condition::Absent),
+        Asks::Since(commit) => {
+            let mut tags = Commits::new(alloc);
+            tags.push(commit)?;
+            Ok(Condition::Unchanged(Tags::Listed(tags)))
+        }
+    }
+}
+
+/// Writes a document to the record of a digit, or deletes it.
 fn write(
     alloc: Global,
     hub: &mut Hub,
-    id: &[u8],
-    text: &[u8],
-    condition: Condition,
-) -> Result<Told, Fail>
-    ensures { hub.new.setting ≡ hub.old.setting }
-{
-    let document = if text.is_empty() {
-        None
-    } else {
-        Some(Doc::read(alloc, text)?)
-    };
+    digit: u8,
+    document: Option<Doc>,
+    asks: Asks,
+) -> Result<Told, Fail> {
     let change = Change {
         collection: Name::read(alloc, b"shop")?,
-        id: Name::read(alloc, id)?,
+        id: Name::read(alloc, &[b'p', digit])?,
         document,
     };
+    let condition = condition(alloc, asks)?;
     Ok(match hub.write(Moment::of(100), &change, &condition)? {
         Written::Done { commit, before, .. } => Told::Done(commit, before),
         Written::Precondition { found, .. } => Told::Precondition(found),
@@ -196,58 +217,86 @@ fn write(
     })
 }
 
-/// A condition on the result of one commit.
-fn unchanged(alloc: Global, commit: u64) -> Result<Condition, Fail> {
-    let mut tags = Commits::new(alloc);
-    tags.push(commit)?;
-    Ok(Condition::Unchanged(Tags::Listed(tags)))
+/// Whether each write is told what it must be.
+fn are_told(alloc: Global, hub: &mut Hub, cases: &[Case]) -> Result<bool, Fail> {
+    for case in cases {
+        if !is_told(alloc, hub, *case)? {
+            return Ok(false);
+        }
+    }
+    Ok(true)
 }
 
-#[test]
-fn writes_are_judged_by_what_they_find(rt: HostRuntime) -> Result<(), Fail> {
-    let alloc = rt.alloc();
-    let one = br#"{"a":1}"#;
-    let mut hub = Hub::new(alloc, Config::default())?;
-    // Commits 1 and 4 put p1, and the others p2.
-    for id in ["p1", "p2", "p2", "p1", "p2", "p2", "p2"] {
-        write(alloc, &mut hub, id.as_bytes(), one, Condition::Always)?;
+/// Whether a write is told what it must be.
+fn is_told(alloc: Global, hub: &mut Hub, case: Case) -> Result<bool, Fail> {
+    let document = Doc::read(alloc, br#"{"a":1}"#)?;
+    Ok(write(alloc, hub, case.0, Some(document), case.1)? == case.2)
+}
+
+/// Writes to the record of each digit.
+fn write_all(alloc: Global, hub: &mut Hub, digits: &[u8]) -> Result<(), Fail> {
+    for digit in digits {
+        let document = Doc::read(alloc, br#"{"a":1}"#)?;
+        write(alloc, hub, *digit, Some(document), Asks::Nothing)?;
     }
-    let told = write(alloc, &mut hub, b"p1", one, unchanged(alloc, 3)?)?;
-    assert_eq!(rt; told, Told::Precondition(Found::At(4)));
-    let told = write(alloc, &mut hub, b"p1", one, unchanged(alloc, 5)?)?;
-    assert_eq!(rt; told, Told::Done(8, Found::At(4)));
-    let told = write(alloc, &mut hub, b"p1", one, Condition::Absent)?;
-    assert_eq!(rt; told, Told::Precondition(Found::At(8)));
-    let told = write(alloc, &mut hub, b"p3", one, Condition::Present)?;
-    assert_eq!(rt; told, Told::Precondition(Found::Missing));
-    let told = write(alloc, &mut hub, b"p3", b"", Condition::Always)?;
-    assert_eq!(rt; told, Told::Done(9, Found::Missing));
     Ok(())
 }
 
-#[test]
-fn writes_are_judged_by_what_they_take(rt: HostRuntime) -> Result<(), Fail> {
-    let alloc = rt.alloc();
-    let one = br#"{"a":1}"#;
+/// Behind seven commits, of which 1 and 4 put p1, and the others p2.
+const FOUND: &[Case] = &[
+    (b'1', Asks::Since(3), Told::Precondition(Found::At(4))),
+    (b'1', Asks::Since(5), Told::Done(8, Found::At(4))),
+    (b'1', Asks::Absent, Told::Precondition(Found::At(8))),
+    (b'3', Asks::Present, Told::Precondition(Found::Missing)),
+];
+
+/// Behind 65,606 of 65,792 bytes. Each write takes 77, and what is not met is told first.
+const TAKEN: &[Case] = &[
+    (b'2', Asks::Nothing, Told::Done(2, Found::Missing)),
+    (b'2', Asks::Nothing, Told::Done(3, Found::At(2))),
+    (b'2', Asks::Nothing, Told::Full(65_837)),
+    (b'2', Asks::Absent, Told::Precondition(Found::At(3))),
+];
+
+/// Whether writes are told what they find.
+fn found(alloc: Global) -> Result<bool, Fail> {
+    let mut hub = Hub::new(alloc, Config::default())?;
+    write_all(alloc, &mut hub, b"1221222")?;
+    are_told(alloc, &mut hub, FOUND)
+}
+
+/// Whether the deletion of nothing is a commit.
+fn deleted(alloc: Global) -> Result<bool, Fail> {
+    let mut hub = Hub::new(alloc, Config::default())?;
+    let told = write(alloc, &mut hub, b'3', None, Asks::Nothing)?;
+    Ok(told == Told::Done(1, Found::Missing))
+}
+
+/// Whether writes are told what they would take.
+fn taken(alloc: Global) -> Result<bool, Fail> {
     let mut hub = Hub::new(alloc, Config::new(10, 6, 1, 60, 10_000, 65_792)?)?;
-    let mut long = Vec::new(alloc);
-    long.extend_from_slice(br#"{"a":""#)?;
+    let document = long_document(alloc)?;
+    write(alloc, &mut hub, b'1', Some(document), Asks::Nothing)?;
+    are_told(alloc, &mut hub, TAKEN)
+}
+
+/// A document whose one text has 65,528 letters.
+fn long_document(alloc: Global) -> Result<Doc, Fail> {
+    let mut text = Vec::new(alloc);
+    text.extend_from_slice(br#"{"a":""#)?;
     for _ in 0..65_528 {
-        long.push(b'x')?;
+        text.push(b'x')?;
     }
-    long.extend_from_slice(br#""}"#)?;
-    // 65,606 bytes, and then 77 and 77.
-    let told = write(alloc, &mut hub, b"p1", &long, Condition::Always)?;
-    assert_eq!(rt; told, Told::Done(1, Found::Missing));
-    let told = write(alloc, &mut hub, b"p2", one, Condition::Always)?;
-    assert_eq!(rt; told, Told::Done(2, Found::Missing));
-    let told = write(alloc, &mut hub, b"p2", one, Condition::Always)?;
-    assert_eq!(rt; told, Told::Done(3, Found::At(2)));
-    let told = write(alloc, &mut hub, b"p2", one, Condition::Always)?;
-    assert_eq!(rt; told, Told::Full(65_837));
-    // What is not met is told first.
-    let told = write(alloc, &mut hub, b"p2", one, Condition::Absent)?;
-    assert_eq!(rt; told, Told::Precondition(Found::At(3)));
+    text.extend_from_slice(br#""}"#)?;
+    Ok(Doc::read(alloc, &text)?)
+}
+
+#[test]
+fn writes_are_judged_by_what_they_find_and_take(rt: HostRuntime) -> Result<(), Fail> {
+    let alloc = rt.alloc();
+    assert!(rt; found(alloc)?);
+    assert!(rt; deleted(alloc)?);
+    assert!(rt; taken(alloc)?);
     Ok(())
 }
 
