@@ -19,8 +19,9 @@ program: ## proves, builds and tries the program, so that ./quaestor runs the pr
 	@QUAESTOR_PROVED=1 ./quaestor pipe --clock 100 < examples/first.http | cmp - examples/first.reply
 run: ## runs the program over standard input: make run ARGS="pipe --clock 100"
 	@./quaestor $(ARGS)
-example: ## runs the first example and compares its output with the text of the README
+example: ## runs the examples and compares their output with the stored replies
 	./quaestor pipe --clock 100 < examples/first.http | cmp - examples/first.reply
+	./quaestor pipe --clock 100 < examples/curl.http | cmp - examples/curl.reply
 ci: fmt lint ## the gate, as a merge runs it, after the layout and the style
 	rt ci
 
