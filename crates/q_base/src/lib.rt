@@ -5,6 +5,7 @@ mod memory;
 mod moment;
 mod name;
 mod positions;
+mod shared_text;
 #[cfg(test)]
 mod tests;
 mod text;
@@ -13,4 +14,5 @@ pub use memory::Memory;
 pub use moment::{Commit, Moment};
 pub use name::{Name, NameRefusal};
 pub use positions::{Positions, positions_of};
+pub use shared_text::SharedText;
 pub use text::Text;

@@ -1,5 +1,5 @@
 //! The names of collections and of the documents in them.
-ghost use Rattle.std.specs.Prelude.{◌≡◌, ◌⊎◌, nat_eq, Some, refl};
+ghost use Rattle.std.specs.Prelude.{◌≡◌, ◌⊎◌, ◌≤◌, length, nat_eq, Some, refl, IfOk};
 ghost use Rattle.q_base.specs.Name.{IsName, read_name, is_name_byte, first_bad};
 ghost use Rattle.std.specs.Ordering.{nat_cmp};
 ghost use Rattle.std.specs.Cmp.{partial_equiv_from_equiv};
@@ -18,21 +18,34 @@ use std::marker::Model;
 /// The most bytes that a name has.
 pub const MOST_NAME_BYTES: usize = 64;
 
+/// The most bytes of a name that takes no memory beside its value.
+const SHORT: usize = 22;
+
 /// The name of a collection or of a document: 1 to 64 bytes of `a` to `z`, `0` to `9`, `_` and `-`.
-#[derive(Debug, Drop)]
+/// It is 24 bytes large, and takes memory only where it has more than 22 bytes.
+#[derive(Drop)]
 pub struct Name {
-    text: Vec<u8>,
+    kept: Kept,
+}
+
+/// Where the bytes are.
+#[derive(Drop)]
+enum Kept {
+    /// In place, and behind them what no one reads.
+    Short { len: u8, bytes: [u8; SHORT] },
+    Long(Box<Vec<u8>>),
 }
 
 impl Model for Name {
     ghost use Rattle.std.specs.Prelude.{ℕ, List};
     ghost use Rattle.q_base.specs.Name.{IsName};
+    ghost use Rattle.q_base.specs.NameBytes.{kept_bytes, IsKept};
 
     ghost Value = { List ℕ };
 
-    ghost view = { λ n. n.text.items };
+    ghost view = { λ n. kept_bytes n.kept };
 
-    ghost invariant = { λ n. IsName n.text.items };
+    ghost invariant = { λ n. record { kept : IsKept n.kept; valid : IsName (kept_bytes n.kept) } };
 }
 
 /// Why bytes are no name. The first that holds, in this order, is the answer.
@@ -50,7 +63,7 @@ pub enum NameRefusal {
         /// The offset of the first such byte.
         place: usize,
     },
-    /// There was no memory for the name.
+    /// Want of memory. A name needs none, so no call answers this.
     Memory,
 }
 
@@ -75,7 +88,7 @@ impl fmt::Display for NameRefusal {
 impl Error for NameRefusal {}
 
 impl Name {
-    /// The name that these bytes are.
+    /// The name that these bytes are. It takes memory where they are more than 22.
     pub fn read(alloc: Global, bytes: &[u8]) -> Result<Name, NameRefusal>
         ensures { (result ≡ Err NameRefusal.Memory) ⊎ (result ≡ read_name bytes.now) }
     {
@@ -88,9 +101,39 @@ impl Name {
         }
         match first_bad(bytes) {
             Some(place) => Err(NameRefusal::BadByte { place }),
-            None => match Vec::from_slice(alloc, bytes) {
-                Ok(text) => Ok(Name { text }),
+            None => match Name::of(alloc, bytes) {
+                Ok(name) => Ok(name),
                 Err(_) => Err(NameRefusal::Memory),
+            },
+        }
+    }
+
+    /// The name of bytes that were looked through.
+    fn of(alloc: Global, bytes: &[u8]) -> Result<Name, AllocError>
+        requires { IsName bytes.now }
+        ensures { IfOk result (λ name. name ≡ bytes.now) }
+    {
+        if bytes.len() <= SHORT {
+            Ok(Name::short(bytes))
+        } else {
+            Ok(Name {
+                kept: Kept::Long(Box::new(alloc, Vec::from_slice(alloc, bytes)?)?),
+            })
+        }
+    }
+
+    fn short(text: &[u8]) -> Name
+        requires name { IsName text.now }
+        requires short { length text.now ≤ SHORT }
+        ensures { result ≡ text.now }
+    {
+        let len = text.len();
+        let mut bytes = [0u8; SHORT];
+        bytes[..len].copy_from_slice(text);
+        Name {
+            kept: Kept::Short {
+                len: len as u8,
+                bytes,
             },
         }
     }
@@ -100,7 +143,10 @@ impl Name {
         ensures same { result.now ≡ self.now }
         ensures is_name { IsName self.now }
     {
-        self.text.as_slice()
+        match &self.kept {
+            Kept::Short { len, bytes } => &bytes[..*len as usize],
+            Kept::Long(bytes) => bytes.as_slice(),
+        }
     }
 }
 
@@ -118,13 +164,26 @@ fn first_bad(bytes: &[u8]) -> Option<usize>
     bytes.iter().position(|byte| !is_name_byte(*byte))
 }
 
+impl fmt::Debug for Name {
+    fn fmt<W: fmt::Write>(&self, f: &mut fmt::Formatter<W>) -> fmt::Result {
+        f.debug_struct("Name")
+            .field("text", &self.as_slice())
+            .finish()
+    }
+}
+
 impl Clone for Name {
     ghost is_clone = { λ s t. s ≡ t };
 
     fn clone(&self) -> Result<Name, AllocError> {
-        Ok(Name {
-            text: self.text.clone()?,
-        })
+        let kept = match &self.kept {
+            Kept::Short { len, bytes } => Kept::Short {
+                len: *len,
+                bytes: *bytes,
+            },
+            Kept::Long(bytes) => Kept::Long(bytes.clone()?),
+        };
+        Ok(Name { kept })
     }
 }
 

@@ -1,6 +1,6 @@
 //! What no clause says: outside vectors, and that calls succeed where there is memory.
 
-use crate::{Name, positions_of};
+use crate::{Name, SharedText, positions_of};
 use std::test::Fail;
 
 #[test]
@@ -64,8 +64,22 @@ fn positions_are_those_of_the_vectors(rt: HostRuntime) -> Result<(), Fail> {
 }
 
 #[test]
-fn a_name_is_read_where_there_is_memory(rt: HostRuntime) -> Result<(), Fail> {
-    let name = Name::read(rt.alloc(), b"shop-1_a")?;
-    assert_eq!(rt; name.as_slice(), b"shop-1_a".as_slice());
+fn names_are_read_and_copied_from_the_shortest_to_the_longest(rt: HostRuntime) -> Result<(), Fail> {
+    let longest = [b'z'; 64];
+    let cases: [&[u8]; 5] = [b"0", b"shop-1_a", &longest[..22], &longest[..23], &longest];
+    for text in cases {
+        let name = Name::read(rt.alloc(), text)?;
+        assert_eq!(rt; name.as_slice(), text);
+        assert_eq!(rt; name.clone()?.as_slice(), text);
+    }
+    Ok(())
+}
+
+#[test]
+fn a_shared_text_and_its_copy_have_the_bytes(rt: HostRuntime) -> Result<(), Fail> {
+    let text = SharedText::of(rt.alloc(), b"abc".to_vec(rt.alloc())?)?;
+    let copy = text.clone()?;
+    assert_eq!(rt; text.as_slice(), b"abc".as_slice());
+    assert_eq!(rt; copy.as_slice(), b"abc".as_slice());
     Ok(())
 }

@@ -7,6 +7,7 @@ use q_base::{Memory, Name};
 use std::alloc::{AllocError, Global};
 use std::hash::{Hash, Hasher};
 use std::marker::Model;
+use std::sync::Arc;
 
 /// What a key stands for.
 #[derive(Debug, Drop)]
@@ -20,15 +21,14 @@ pub enum KeyShape {
     },
 }
 
-/// A key, which keeps its text. Contracts see its shape: keys are compared by value, and hashed by
-/// their text.
+/// What all copies of a key share.
 #[derive(Debug, Drop)]
-pub struct Key {
+struct Shared {
     shape: KeyShape,
     text: Vec<u8>,
 }
 
-impl Model for Key {
+impl Model for Shared {
     ghost use Rattle.query_normal.specs.declared.key.KeyShape.{KeyShape};
 
     ghost Value = { KeyShape };
@@ -36,9 +36,45 @@ impl Model for Key {
     ghost use Rattle.query_normal.specs.Keys.{key_text, IsKey};
     ghost use Rattle.std.specs.Prelude.{◌≡◌};
 
-    ghost view = { λ k. k.shape };
+    ghost view = { λ s. s.shape };
 
-    ghost invariant = { λ k. record { text : k.text.items ≡ key_text k.shape; valid : IsKey k.shape } };
+    ghost invariant = { λ s. record { text : s.text.items ≡ key_text s.shape; valid : IsKey s.shape } };
+}
+
+/// A key, which keeps its text. Contracts see its shape: keys are compared by value, and hashed by
+/// their text. A copy shares what the key keeps, so that it takes no memory.
+#[derive(Debug, Drop)]
+pub struct Key {
+    shared: Arc<Shared>,
+}
+
+impl Model for Key {
+    ghost use Rattle.query_normal.specs.declared.key.KeyShape.{KeyShape};
+
+    ghost Value = { KeyShape };
+
+    ghost use Rattle.std.specs.Arc.{arc_value};
+
+    ghost view = { λ k. arc_value k.shared };
+}
+
+impl Shared {
+    ghost use Rattle.query_normal.specs.Keys.{key_text, IsKey};
+
+    /// The text of the key.
+    fn text(&self) -> &[u8]
+        ensures text { result.now ≡ key_text self.now }
+        ensures valid { IsKey self.now }
+    {
+        self.text.as_slice()
+    }
+
+    /// What the key stands for.
+    fn shape(&self) -> &KeyShape
+        ensures { result.now ≡ self.now }
+    {
+        &self.shape
+    }
 }
 
 impl Key {
@@ -49,10 +85,9 @@ impl Key {
         ensures { IfOk result (λ key. key ≡ KeyShape.Record collection id) }
     {
         let text = record_text(alloc, &collection, &id)?;
-        Ok(Key {
-            shape: KeyShape::Record { collection, id },
-            text,
-        })
+        let shape = KeyShape::Record { collection, id };
+        let shared = Arc::new(alloc, Shared { shape, text })?;
+        Ok(Key { shared })
     }
 
     /// The key's text.
@@ -60,14 +95,14 @@ impl Key {
         ensures text { result.now ≡ key_text self.now }
         ensures valid { IsKey self.now }
     {
-        self.text.as_slice()
+        self.shared.text()
     }
 
     /// What the key stands for.
     pub fn shape(&self) -> &KeyShape
         ensures { result.now ≡ self.now }
     {
-        &self.shape
+        self.shared.shape()
     }
 }
 
@@ -129,10 +164,8 @@ impl Clone for Key {
     ghost is_clone = { λ s t. s ≡ t };
 
     fn clone(&self) -> Result<Key, AllocError> {
-        Ok(Key {
-            shape: self.shape.clone()?,
-            text: self.text.clone()?,
-        })
+        let shared = Arc::try_clone(&self.shared)?;
+        Ok(Key { shared })
     }
 }
 
@@ -145,7 +178,7 @@ impl PartialEq for Key {
     ghost laws = { partial_equiv_from_equiv same_key_equiv };
 
     fn eq(&self, other: &Key) -> bool {
-        self.shape == other.shape
+        self.text() == other.text()
     }
 }
 
@@ -165,6 +198,6 @@ impl Hash for Key {
     ghost respects_eq = { same_text };
 
     fn hash<H: Hasher>(&self, state: &mut H) {
-        self.text.as_slice().hash(state);
+        self.text().hash(state);
     }
 }
