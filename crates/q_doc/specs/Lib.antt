@@ -3,6 +3,7 @@ pub mod DocRefusal
 pub mod Document
 pub mod Found
 pub mod Judged
+pub mod NodeText
 pub mod Order
 pub mod OrderLaws
 pub mod Path

@@ -9,8 +9,8 @@ ghost use Rattle.q_doc.specs.Found.{found, whole, whole_items, whole_members};
 ghost use Rattle.q_doc.specs.Judged.{FailsToConvert, FailsToParse};
 
 use crate::node::{Node, Shape};
+use crate::node_text::NodeText;
 use crate::refusal::DocRefusal;
-use crate::text::Text;
 use serde_json::{Map, Value};
 use std::alloc::Global;
 
@@ -81,7 +81,7 @@ pub(crate) fn node_of(alloc: Global, value: Value) -> Result<Node, DocRefusal>
             Some(value) => Shape::Number(value),
             None => return Err(DocRefusal::NotWhole),
         },
-        Value::String(text) => Shape::Text(Text::from_string(text)),
+        Value::String(text) => Shape::Text(NodeText::from_string(alloc, text)?),
         Value::Array(items) => Shape::Array(nodes_of(alloc, items)?),
         Value::Object(members) => Shape::Object(member_nodes_of(alloc, members)?),
     };
@@ -106,7 +106,7 @@ fn nodes_of(alloc: Global, items: Vec<Value>) -> Result<Vec<Node>, DocRefusal>
 fn member_nodes_of(
     alloc: Global,
     members: Map<String, Value>,
-) -> Result<Vec<(Text, Node)>, DocRefusal>
+) -> Result<Vec<(NodeText, Node)>, DocRefusal>
     ensures ok { IfOk result
         (λ v. whole_members (members_view members.entries) ≡ Some (members_of v.items)) }
     ensures texts { IfOk result (λ v. MembersHaveTexts (members_of v.items)) }
@@ -115,7 +115,7 @@ fn member_nodes_of(
     let mut nodes = Vec::with_capacity(alloc, members.len())?;
     for (key, value) in members {
         let node = node_of(alloc, value)?;
-        nodes.push((Text::from_string(key), node))?;
+        nodes.push((NodeText::from_string(alloc, key)?, node))?;
     }
     Ok(nodes)
 }

@@ -4,9 +4,11 @@ ghost use Rattle.q_doc.specs.Tree.{items_of, members_of};
 
 use crate::doc::Doc;
 use crate::node::{Node, Shape};
+use crate::node_text::NodeText;
 use crate::path::Path;
 use crate::text::Text;
 use std::alloc::AllocError;
+use std::sync::Arc;
 
 impl Clone for Text {
     ghost is_clone = { λ s t. s ≡ t };
@@ -41,7 +43,7 @@ impl Clone for Doc {
 
     fn clone(&self) -> Result<Doc, AllocError> {
         Ok(Doc {
-            root: copy_of(&self.root)?,
+            root: Arc::try_clone(&self.root)?,
         })
     }
 }
@@ -73,7 +75,7 @@ fn copy_of_items(items: &Vec<Node>) -> Result<Vec<Node>, AllocError>
 }
 
 #[cycle(copy_of)]
-fn copy_of_members(members: &Vec<(Text, Node)>) -> Result<Vec<(Text, Node)>, AllocError>
+fn copy_of_members(members: &Vec<(NodeText, Node)>) -> Result<Vec<(NodeText, Node)>, AllocError>
     ensures { IfOk result (λ v. members.now.items ≡ v.items) }
 {
     let mut copies = Vec::with_capacity(*members.allocator(), members.len())?;

@@ -1,6 +1,6 @@
 //! A document: an object within the limits, whose keys are in order.
 ghost use Rattle.std.specs.Prelude.{◌≡◌, ◌⊎◌, ◌≤◌, length, IfOk};
-ghost use Rattle.q_doc.specs.Document.{IsPlainDocument, HasTexts};
+ghost use Rattle.q_doc.specs.Document.{IsPlainDocument, HasTexts, IsDocument};
 ghost use Rattle.q_doc.specs.Found.{found};
 ghost use Rattle.q_doc.specs.Judged.{judged, judged_found};
 ghost use Rattle.q_doc.specs.Printed.{printed};
@@ -14,6 +14,7 @@ use crate::text::Text;
 use json::Writer;
 use std::alloc::Global;
 use std::marker::Model;
+use std::sync::Arc;
 
 /// The greatest length of a document's text, in bytes.
 pub const MAX_LENGTH: usize = 65_536;
@@ -21,16 +22,22 @@ pub const MAX_LENGTH: usize = 65_536;
 /// The greatest depth of a document. An object of plain values has depth 1.
 pub const MAX_DEPTH: usize = 32;
 
-/// The room that a text is printed into at first, in bytes. Most texts fit.
-const FIRST_ROOM: usize = 256;
-
-/// A document. Contracts see its value, a `Tree`.
+/// A document. Contracts see its value, a `Tree`. It never changes, so its clones share one tree.
 #[derive(Drop)]
 pub struct Doc {
-    pub(crate) root: Node,
+    pub(crate) root: Arc<Root>,
+}
+
+/// What the clones of a document share.
+#[derive(Drop)]
+pub(crate) struct Root {
+    pub(crate) node: Node,
+    /// The length of the text that was read, in bytes. The printed text is no longer.
+    length: usize,
 }
 
 impl Model for Doc {
+    ghost use Rattle.std.specs.Arc.{arc_value};
     ghost use Rattle.q_doc.specs.Tree.{Tree};
     ghost use Rattle.q_doc.specs.Code.{tree_code};
     ghost use Rattle.q_doc.specs.Document.{IsDocument};
@@ -39,9 +46,9 @@ impl Model for Doc {
 
     ghost coded = { tree_code };
 
-    ghost view = { λ a. a.root };
+    ghost view = { λ a. (arc_value a.root).node };
 
-    ghost invariant = { λ a. IsDocument a.root };
+    ghost invariant = { λ a. IsDocument (arc_value a.root).node };
 }
 
 impl Doc {
@@ -61,7 +68,7 @@ impl Doc {
             return Err(DocRefusal::TooLong { length: text.len() });
         }
         match object_in(alloc, text, room) {
-            Ok(root) => Ok(Doc { root }),
+            Ok(node) => Doc::of(alloc, node, text.len()),
             Err(Halt::Unsure) => Doc::read_any(alloc, text),
             Err(Halt::Memory) => Err(DocRefusal::Memory),
         }
@@ -84,8 +91,19 @@ impl Doc {
             return Err(DocRefusal::TooDeep { depth });
         }
         match node_of(alloc, value) {
-            Ok(root) => Ok(Doc { root }),
+            Ok(node) => Doc::of(alloc, node, text.len()),
             Err(refusal) => Err(refusal),
+        }
+    }
+
+    /// The document with this value, which was read from a text of this length.
+    fn of(alloc: Global, node: Node, length: usize) -> Result<Doc, DocRefusal>
+        requires { IsDocument node }
+        ensures { (result ≡ Err DocRefusal.Memory) ⊎ (result ≡ Ok node) }
+    {
+        match Arc::new(alloc, Root { node, length }) {
+            Ok(root) => Ok(Doc { root }),
+            Err(_) => Err(DocRefusal::Memory),
         }
     }
 
@@ -94,8 +112,9 @@ impl Doc {
         ensures text { IfOk result (λ s. s ≡ printed self.now) }
         ensures reads_back { IfOk result (λ s. length s ≤ MAX_LENGTH → judged s ≡ Ok self.now) }
     {
-        let mut out = Writer::new(Vec::with_capacity(alloc, FIRST_ROOM)?);
-        write_node(&self.root, &mut out)?;
+        let root = &*self.root;
+        let mut out = Writer::new(Vec::with_capacity(alloc, root.length)?);
+        write_node(&root.node, &mut out)?;
         let mut bytes = out.into_inner();
         bytes.shrink_to_fit();
         Ok(Text::of(bytes))
@@ -107,6 +126,6 @@ impl Doc {
         ensures document { IsPlainDocument self.now }
         ensures texts { HasTexts self.now }
     {
-        &self.root
+        &self.root.node
     }
 }

@@ -9,6 +9,7 @@ ghost use Rattle.q_doc.specs.TextOrder.{text_cmp, text_cmp_total, text_eq_equiv,
 
 use crate::doc::Doc;
 use crate::node::Node;
+use crate::node_text::NodeText;
 use crate::order::order_of;
 use crate::path::Path;
 use crate::text::Text;
@@ -58,12 +59,50 @@ impl PartialEq for Doc {
     ghost laws = { partial_equiv_from_equiv tree_eq_equiv };
 
     fn eq(&self, other: &Doc) -> bool {
-        order_of(&self.root, &other.root).is_eq()
+        order_of(&self.root.node, &other.root.node).is_eq()
     }
 }
 
 impl Eq for Doc {
     ghost laws = { tree_eq_equiv };
+}
+
+impl PartialEq for NodeText {
+    ghost eq = { bytes_eq };
+
+    ghost laws = { partial_equiv_from_equiv text_eq_equiv };
+
+    fn eq(&self, other: &NodeText) -> bool {
+        self.as_slice() == other.as_slice()
+    }
+}
+
+impl Eq for NodeText {
+    ghost laws = { text_eq_equiv };
+}
+
+impl PartialOrd for NodeText {
+    ghost partial_cmp = { as_partial_cmp text_cmp };
+
+    ghost laws = { po text_cmp_total text_eq-tie };
+
+    fn partial_cmp(&self, other: &NodeText) -> Option<Ordering> {
+        Some(self.cmp(other))
+    }
+}
+
+impl Ord for NodeText {
+    ghost cmp = { text_cmp };
+
+    ghost total = { text_cmp_total };
+
+    ghost matches_partial_cmp = { λ x y. refl };
+
+    ghost matches_eq = { text_eq-tie };
+
+    fn cmp(&self, other: &NodeText) -> Ordering {
+        self.as_slice().cmp(other.as_slice())
+    }
 }
 
 impl PartialEq for Text {

@@ -7,6 +7,7 @@ mod doc;
 mod equality;
 pub mod laws;
 mod node;
+mod node_text;
 mod order;
 mod path;
 mod print;
@@ -18,6 +19,7 @@ mod text;
 
 pub use doc::{Doc, MAX_DEPTH, MAX_LENGTH};
 pub use node::{Node, Shape};
+pub use node_text::NodeText;
 pub use order::compare;
 pub use path::{MAX_SEGMENTS, Path};
 pub use reading::ReadRoom;

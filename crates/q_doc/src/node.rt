@@ -1,7 +1,7 @@
 //! A value of a document, as a tree.
 ghost use Rattle.std.specs.Prelude.{◌≡◌};
 
-use crate::text::Text;
+use crate::node_text::NodeText;
 use std::marker::Model;
 
 /// A value. Contracts see it as a `Tree` of `specs/Tree.antt`, and `==` is equality of values.
@@ -18,9 +18,9 @@ pub enum Shape {
     Null,
     Bool(bool),
     Number(i64),
-    Text(Text),
+    Text(NodeText),
     Array(Vec<Node>),
-    Object(Vec<(Text, Node)>),
+    Object(Vec<(NodeText, Node)>),
 }
 
 impl Model for Node {

@@ -4,7 +4,7 @@ ghost use Rattle.q_doc.specs.Tree.{items_of, members_of};
 ghost use Rattle.q_doc.specs.Order.{rank, tree_cmp, items_cmp, members_cmp, value_cmp};
 
 use crate::node::{Node, Shape};
-use crate::text::Text;
+use crate::node_text::NodeText;
 use std::cmp::Ordering;
 
 /// The order of two values that may be absent. By type, absent first: null, false and true,
@@ -63,7 +63,7 @@ fn order_of_items(xs: &[Node], ys: &[Node]) -> Ordering
 }
 
 #[cycle(order_of)]
-fn order_of_members(xs: &[(Text, Node)], ys: &[(Text, Node)]) -> Ordering
+fn order_of_members(xs: &[(NodeText, Node)], ys: &[(NodeText, Node)]) -> Ordering
     ensures { result ≡ members_cmp (members_of xs.now) (members_of ys.now) }
 {
     for i in 0..xs.len().min(ys.len()) {

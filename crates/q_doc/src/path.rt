@@ -51,7 +51,7 @@ impl Doc {
     pub fn at(&self, path: &Path) -> Option<&Node>
         ensures { option_map (λ r. r.now) result ≡ tree_at path.now self.now }
     {
-        let mut node = &self.root;
+        let mut node = &self.root.node;
         for segment in &path.segments {
             match member(node, segment.as_slice()) {
                 Some(value) => node = value,

@@ -5,7 +5,7 @@ ghost use Rattle.q_doc.specs.Tree.{items_of, members_of};
 ghost use Rattle.q_doc.specs.Printed.{tokens_of, items_tokens, members_tokens};
 
 use crate::node::{Node, Shape};
-use crate::text::Text;
+use crate::node_text::NodeText;
 use json::Writer;
 use std::alloc::AllocError;
 
@@ -38,7 +38,7 @@ fn write_items(items: &Vec<Node>, out: &mut Writer) -> Result<(), AllocError>
 }
 
 #[cycle(write_node)]
-fn write_members(members: &Vec<(Text, Node)>, out: &mut Writer) -> Result<(), AllocError>
+fn write_members(members: &Vec<(NodeText, Node)>, out: &mut Writer) -> Result<(), AllocError>
     ensures ok { OnOk result
         (out.new.tokens
         ≡ out.old.tokens ++ begin_object ∷ members_tokens (members_of members.now.items)) }

@@ -9,7 +9,7 @@ ghost use Rattle.q_doc.specs.Reading.{BEYOND, whole_in, tree_in, items_in, membe
 
 use crate::doc::MAX_DEPTH;
 use crate::node::{Node, Shape};
-use crate::text::Text;
+use crate::node_text::NodeText;
 use fast_float::Numeral;
 use json::{Reader, Scratch, Token};
 use std::alloc::{AllocError, AllocFailed, Global};
@@ -17,6 +17,15 @@ use std::cmp::Ordering;
 
 /// How many members a key may pass on its way to its place, so that no object takes quadratic time.
 const MAX_PASSED: usize = 64;
+
+/// The members of a document for which there is room at first. Most have no more.
+const FIRST_MEMBERS: usize = 8;
+
+/// The same of an object within a document.
+const FIRST_INNER_MEMBERS: usize = 4;
+
+/// How many unused places a node keeps at most.
+const MAX_UNUSED: usize = 1;
 
 /// What reading documents needs. One is made and lent to each read. It is 16 KiB large, so keep it
 /// where it is not moved. It grows to the longest text that was read.
@@ -91,7 +100,7 @@ fn read_node(alloc: Global, reader: &mut Reader<'_>, depth: usize) -> Result<Nod
     let token = reader.next().ok_or(Halt::Unsure)?;
     match token {
         Token::String(text) => {
-            let owned = Text::from_string(String::from_str(alloc, text)?);
+            let owned = NodeText::from_str(alloc, text)?;
             Ok(Node {
                 shape: Shape::Text(owned),
             })
@@ -143,7 +152,7 @@ fn read_items(alloc: Global, reader: &mut Reader<'_>, depth: usize) -> Result<Ve
         let item = read_node(alloc, reader, depth)?;
         found.push(item)?;
     }
-    found.shrink_to_fit();
+    give_back(&mut found);
     Ok(found)
 }
 
@@ -153,7 +162,7 @@ fn read_members(
     alloc: Global,
     reader: &mut Reader<'_>,
     depth: usize,
-) -> Result<Vec<(Text, Node)>, Halt>
+) -> Result<Vec<(NodeText, Node)>, Halt>
     ensures ok { IfOk result
         (λ v. Reads members_in
         (members_in_grammar (value (depth + BEYOND)) (length reader.old) reader.old)
@@ -162,19 +171,38 @@ fn read_members(
     ensures nests { IfOk result (λ v. members_depth (members_of v.items) ≤ depth) }
     ensures shorter { OnOk result (length reader.new < length reader.old) }
 {
-    let mut found = Vec::new(alloc);
+    let mut found = Vec::with_capacity(alloc, first_members(depth))?;
     'members: while let Some(name) = reader.next_key().or(Err(Halt::Unsure))? {
         let place = place_of(&found, name.as_bytes()).ok_or(Halt::Unsure)?;
-        let key = Text::from_string(String::from_str(alloc, name)?);
+        let key = NodeText::from_str(alloc, name)?;
         let node = read_node(alloc, reader, depth)?;
         found.insert(place, (key, node))?;
     }
-    found.shrink_to_fit();
+    give_back(&mut found);
     Ok(found)
 }
 
+/// The room for the members of an object whose values may nest this deep.
+#[inline(always)]
+fn first_members(depth: usize) -> usize {
+    if depth < MAX_DEPTH - 1 {
+        FIRST_INNER_MEMBERS
+    } else {
+        FIRST_MEMBERS
+    }
+}
+
+/// Gives back the unused places, where there are several.
+fn give_back<T>(found: &mut Vec<T>)
+    ensures { found.new.items ≡ found.old.items }
+{
+    if found.capacity().saturating_sub(found.len()) > MAX_UNUSED {
+        found.shrink_to_fit();
+    }
+}
+
 /// Where a key goes among members in order, if it is none of theirs and passes few.
-fn place_of(members: &[(Text, Node)], name: &[u8]) -> Option<usize>
+fn place_of(members: &[(NodeText, Node)], name: &[u8]) -> Option<usize>
     requires { AreMembers (members_of members.now) }
     ensures place { IfSome result (λ place. IsPlace name.now place members.now) }
     ensures within { IfSome result (λ place. place ≤ length members.now) }

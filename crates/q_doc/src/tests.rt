@@ -1,11 +1,16 @@
 //! What no clause says: that the answers are those of outside vectors, and that calls succeed.
-use crate::{Doc, DocRefusal, Node, Path, ReadRoom, Shape, Text, compare};
+use crate::{Doc, DocRefusal, Node, NodeText, Path, ReadRoom, Shape, Text, compare};
 use std::alloc::Global;
 use std::cmp::Ordering;
 use std::test::Fail;
 
+// The sizes that the README tells.
+const _: () = prove!(size_of::<Node>() == 32);
+
+const _: () = prove!(size_of::<(NodeText, Node)>() == 56);
+
 /// Texts, each with the printed document or the refusal's word.
-static CASES: [(&str, &str); 32] = [
+static CASES: [(&str, &str); 35] = [
     ("{}", "{}"),
     (" \t\r\n{ } ", "{}"),
     ("", "not_json"),
@@ -35,6 +40,18 @@ static CASES: [(&str, &str); 32] = [
         "{\"a\":-9223372036854775808}",
     ),
     ("{\"b\":1,\"a\":2,\"b\":3}", "{\"a\":2,\"b\":3}"),
+    (
+        "{\"twenty-three bytes long\":\"twenty-two bytes long:\"}",
+        "{\"twenty-three bytes long\":\"twenty-two bytes long:\"}",
+    ),
+    (
+        "{\"twenty-two bytes long:\":\"twenty-three bytes long\"}",
+        "{\"twenty-two bytes long:\":\"twenty-three bytes long\"}",
+    ),
+    (
+        "{\"a\":0,\"a\":\"twenty-two bytes long:\",\"b\":\"twenty-three bytes long\"}",
+        "{\"a\":\"twenty-two bytes long:\",\"b\":\"twenty-three bytes long\"}",
+    ),
     ("{\"a\":1.5,\"a\":2}", "{\"a\":2}"),
     ("{\"a\":1,\"B\":2,\"\":3}", "{\"\":3,\"B\":2,\"a\":1}"),
     ("{\"\\u0063\":-2,\"a\":{}}", "{\"a\":{},\"c\":-2}"),
@@ -200,7 +217,7 @@ fn paths_lead_through_objects(rt: HostRuntime) -> Result<(), Fail> {
     let doc = Doc::read(rt.alloc(), b"{\"a\":{\"b\":[1],\"c\":\"x\"}}")?;
     let path = inner_path(rt.alloc())?;
     let text = Node {
-        shape: Shape::Text(Text::of(b"x".to_vec(rt.alloc())?)),
+        shape: Shape::Text(NodeText::from_str(rt.alloc(), "x")?),
     };
     assert!(rt; compare(doc.at(&path), Some(&text)) == Ordering::Equal);
     let absent = path_of(rt.alloc(), "c")?;
@@ -216,5 +233,25 @@ fn copies_are_equal(rt: HostRuntime) -> Result<(), Fail> {
     let path = inner_path(rt.alloc())?;
     let same = path.clone()?;
     assert!(rt; same == path);
+    Ok(())
+}
+
+#[test]
+fn values_are_copied(rt: HostRuntime) -> Result<(), Fail> {
+    let text = b"{\"a\":[null,true,7,\"x\"],\"b\":\"twenty-three bytes long\"}";
+    let doc = Doc::read(rt.alloc(), text)?;
+    let copy = doc.root().clone()?;
+    assert!(rt; copy == *doc.root());
+    Ok(())
+}
+
+#[test]
+fn texts_are_kept(rt: HostRuntime) -> Result<(), Fail> {
+    for content in ["", "x", "twenty-two bytes long:", "twenty-three bytes long"] {
+        let text = Text::of(content.as_bytes().to_vec(rt.alloc())?);
+        let kept = NodeText::of(rt.alloc(), text)?;
+        assert!(rt; kept.as_str() == content);
+        assert!(rt; kept.clone()? == NodeText::from_str(rt.alloc(), content)?);
+    }
     Ok(())
 }

@@ -1,5 +1,5 @@
 //! A text, which is UTF-8.
-ghost use Rattle.std.specs.Prelude.{string_bytes, ◌≡◌, IfOk};
+ghost use Rattle.std.specs.Prelude.{string_bytes, ◌≡◌};
 ghost use Rattle.std.specs.Str.{IsUtf8};
 
 use std::marker::Model;
@@ -29,14 +29,6 @@ impl Text {
         }
     }
 
-    /// The text of a string, in no new memory.
-    pub(crate) fn from_string(text: String) -> Text
-        ensures value { result ≡ string_bytes text }
-        ensures utf8 { IsUtf8 result }
-    {
-        Text { text }
-    }
-
     /// The bytes of the text.
     pub fn as_slice(&self) -> &[u8]
         ensures value { result.now ≡ self.now }
@@ -57,5 +49,11 @@ impl Text {
         ensures { result.items ≡ self }
     {
         self.text.into_bytes()
+    }
+
+    pub(crate) fn into_string(self) -> String
+        ensures { string_bytes result ≡ self }
+    {
+        self.text
     }
 }

@@ -4,7 +4,7 @@ use crate::{
     Docs, Filter, Form, Op, Order, Query, Row, compare_rows, print_query, satisfies, window,
 };
 use q_base::Name;
-use q_doc::{Doc, Node, Path, Shape, Text};
+use q_doc::{Doc, Node, NodeText, Path, Shape, Text};
 use std::alloc::{AllocError, Global};
 use std::test::Fail;
 
@@ -68,7 +68,7 @@ fn order(alloc: Global, segment: &str) -> Result<Order, AllocError> {
 /// `b in [1, "x\""]`
 fn listed(alloc: Global) -> Result<Filter, AllocError> {
     let quote = Node {
-        shape: Shape::Text(text(alloc, "x\"")?),
+        shape: Shape::Text(NodeText::from_str(alloc, "x\"")?),
     };
     listing(alloc, "b", number(1), quote)
 }

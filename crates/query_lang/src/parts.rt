@@ -7,7 +7,7 @@ ghost use Rattle.query_lang.specs.Seen.{seen_kind};
 use crate::quoted::unescape;
 use crate::refusal::Cause;
 use crate::token::{Reserved, TokenKind};
-use q_doc::{Node, Shape, Text};
+use q_doc::{Node, NodeText, Shape, Text};
 use std::alloc::{AllocError, Global};
 
 /// The value that a token is.
@@ -15,7 +15,7 @@ pub(crate) fn value_of(alloc: Global, token: TokenKind<'_>) -> Result<Node, Caus
     ensures { Takes (λ node. node) result (value_of (seen_kind token.entry)) }
 {
     let shape = match token {
-        TokenKind::Quoted(body) => Shape::Text(unescape(alloc, body)?),
+        TokenKind::Quoted(body) => { Shape::Text(NodeText::of(alloc, unescape(alloc, body)?)?) }
         TokenKind::Number(number) => Shape::Number(number),
         TokenKind::Word(Reserved::True) => Shape::Bool(true),
         TokenKind::Word(Reserved::False) => Shape::Bool(false),

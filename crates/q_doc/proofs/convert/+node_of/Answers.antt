@@ -17,8 +17,8 @@ member_nodes_of-loop-key-preserved t c =
     let key = string_bytes c.in-Some.key in
     let more = one_more_member l.nodes.items key c.in_ok-node.node (view c.in-Some.value) (whole_members (members_view c.next.new.self)) c.in_ok-node.ensures.ok in
     record {
-      whole = rw (c.in_ok-push.ensures.items, c.from_string.ensures.value) (l.invariant.whole ∙ taken ∙ more);
-      texts = rw c.in_ok-push.ensures.items (MembersHaveTexts-push l.nodes.items _ _ l.invariant.texts c.from_string.ensures.utf8 c.in_ok-node.ensures.texts);
+      whole = rw (c.in_ok-push.ensures.items, c.in_ok-from_string.ensures.value) (l.invariant.whole ∙ taken ∙ more);
+      texts = rw c.in_ok-push.ensures.items (MembersHaveTexts-push l.nodes.items _ _ l.invariant.texts c.in_ok-from_string.ensures.utf8 c.in_ok-node.ensures.texts);
     }
 
 -- no member is left

@@ -11,12 +11,12 @@ use Rattle.q_doc.proofs.ReadingLemmas.{items_then, one_more_read, HaveTrees-push
 use Rattle.q_doc.proofs.ConvertLemmas.{ItemsHaveTexts-push}
 use Rattle.q_doc.proofs.reading.+read_node.Goals as goal
 
-pub read_node-returns-in_ok-from_str-in-String-clause-ok : goal.read_node-returns-in_ok-from_str-in-String-clause-ok
-read_node-returns-in_ok-from_str-in-String-clause-ok t c =
+pub read_node-returns-in_ok-owned-in-String-clause-ok : goal.read_node-returns-in_ok-owned-in-String-clause-ok
+read_node-returns-in_ok-owned-in-String-clause-ok t c =
     let first : c.args.reader.now ≡ token_of c.in_ok-token.token ∷ c.next.new.self = grind arith in
     let is : c.args.reader.now ≡ Token.string c.in-String.text.now ∷ c.next.new.self = grind (arith, first) in
     let found = ap (value (c.args.depth + BEYOND)) is ∙ value_is (c.args.depth + BEYOND) _ in
-    (grammar.string c.in-String.text.now, found, ap (λ s. Some (text s)) (sym (c.from_string-owned.ensures.value ∙ c.in_ok-from_str-in-String.ensures.ok)))
+    (grammar.string c.in-String.text.now, found, ap (λ s. Some (text s)) (sym c.in_ok-owned-in-String.ensures.value))
 
 pub read_node-returns-in-Bool-clause-ok : goal.read_node-returns-in-Bool-clause-ok
 read_node-returns-in-Bool-clause-ok t c =
@@ -92,13 +92,13 @@ read_items-returns-clause-ok t c =
     let r = c.take_end_array.new.self in (
       items_then js grammar.no_items,
       l.invariant.3 ∙ ap (parse_map (items_then js)) (items_end p n l.reader r l.invariant.2 (grind arith)),
-      rw c.shrink_to_fit.ensures.items (items_read js l.found.items l.invariant.4),
+      rw c.give_back.ensures (items_read js l.found.items l.invariant.4),
     )
 
 pub read_members-members-init : goal.read_members-members-init
 read_members-members-init t c =
     let all = members (value (c.args.depth + BEYOND)) (length c.args.reader.now) c.args.reader.now in
-    (length c.args.reader.now, [], omega arith, no_members_yet all, rw c.new-found.ensures.items gathered_none, rw c.new-found.ensures.items tt, rw c.new-found.ensures.items (omega arith), omega arith)
+    (length c.args.reader.now, [], omega arith, no_members_yet all, rw c.in_ok-found.ensures.items gathered_none, rw c.in_ok-found.ensures.items tt, rw c.in_ok-found.ensures.items (omega arith), omega arith)
 
 pub read_members-place_of-requires : goal.read_members-place_of-requires
 read_members-place_of-requires t c =
@@ -120,7 +120,7 @@ read_members-members-preserved t c =
     let j = done.ok.0 in
     let place = c.in_ok-place.place in
     let turn = members_more p n k l.reader s r j (omega (arith, l.invariant.2)) named done.ok.1 in
-    let copied : c.from_string-key.result ≡ k = c.from_string-key.ensures.value ∙ c.in_ok-from_str.ensures.ok in
+    let copied : c.in_ok-key.key ≡ k = c.in_ok-key.ensures.value in
     let put : c.insert.new.self.items ≡ insert l.found.items place (k, c.in_ok-node.node) =
     c.in_ok-insert.ensures.items ∙ ap (λ name. insert l.found.items place (name, c.in_ok-node.node)) copied in
     let chosen : c.place_of.result ≡ Some place = grind arith in
@@ -131,7 +131,7 @@ read_members-members-preserved t c =
       omega (arith, l.invariant.2),
       l.invariant.3 ∙ ap (parse_map (members_then js)) turn ∙ one_more_member_read js k j _,
       rw put (gathered_more js l.found.items k j _ place l.invariant.4 done.ok.2 here),
-      rw put (MembersHaveTexts-insert l.found.items place k _ l.invariant.5 (subst IsUtf8 copied c.from_string-key.ensures.utf8) done.texts),
+      rw put (MembersHaveTexts-insert l.found.items place k _ l.invariant.5 (subst IsUtf8 copied c.in_ok-key.ensures.utf8) done.texts),
       rw put (members_depth-insert l.found.items place k _ _ l.invariant.6 done.nests),
       omega (arith, l.invariant.7),
     )
@@ -145,5 +145,5 @@ read_members-returns-clause-ok t c =
     let r = c.next_key.new.self in (
       members_then js grammar.no_members,
       l.invariant.3 ∙ ap (parse_map (members_then js)) (members_end p n l.reader r l.invariant.2 (grind arith)),
-      rw c.shrink_to_fit.ensures.items (gathered_all js l.found.items l.invariant.4),
+      rw c.give_back.ensures (gathered_all js l.found.items l.invariant.4),
     )

@@ -5,9 +5,9 @@ use Rattle.q_doc.proofs.WholeLemmas.{document_whole}
 use Rattle.q_doc.proofs.doc.Doc.read_any.Goals as goal
 
 -- an object that was read, is not too deep and has whole numbers
-pub invariant_of-result : goal.invariant_of-result
-invariant_of-result c =
+pub of-requires : goal.of-requires
+of-requires c =
     let read = found-IsRead c.args.text.now (view c.in-Ok.value) c.in-Ok.ensures.ok in (
-      document_whole (view c.in-Ok.value) c.in-Ok-node_of.root read c.in-Ok-node_of.ensures.ok (search rules) (omega arith),
+      document_whole (view c.in-Ok.value) c.in-Ok-node_of.node read c.in-Ok-node_of.ensures.ok (search rules) (omega arith),
       c.in-Ok-node_of.ensures.texts,
     )
