@@ -78,11 +78,11 @@ put_unexpired clock entries after key commit until late puts unexpired asked =
     ]
 
 -- a key that is left of a list without one is another, and was in the list
-left_of : (key asked : KeyShape) (was is : Bool) → is ≡ cond (same_key key asked) false was → is ≡ true → (same_key key asked ≡ false) × (was ≡ true)
+left_of : (key asked : KeyShape) (was is : Bool) → is ≡ (not (same_key key asked) && was) → is ≡ true → (same_key key asked ≡ false) × (was ≡ true)
 left_of key asked was is left there =
     elim (cases_Bool (same_key key asked)) [
-      | inl hit ↦ absurd (let clash : true ≡ false = sym there ∙ left ∙ ap (λ (b : Bool). cond b false was) hit in cc)
-      | inr other ↦ (other, sym (ap (λ (b : Bool). cond b false was) other) ∙ sym left ∙ there)
+      | inl hit ↦ absurd (let clash : true ≡ false = sym there ∙ left ∙ ap (λ (b : Bool). not b && was) hit in cc)
+      | inr other ↦ (other, sym (ap (λ (b : Bool). not b && was) other) ∙ sym left ∙ there)
     ]
 
 few_after : (o : Option Kept) (len after : ℕ) → after ≡ cond (is_some o) len (len + 1) → len ≤ 1000000 → (is_some o ≡ true) ⊎ (len < 1000000) → after ≤ 1000000
@@ -92,8 +92,8 @@ few_after (Some kept) len after is few some = (let e : after ≡ len = is in ome
 
 pub sound_put : (clock : ℕ) (entries after : Entries) (queue queue_after : List (Reverse (ℕ × ℕ))) (reserved left idle busy : List KeyShape) (key : KeyShape) (commit until : ℕ) →
     IsSound clock entries queue reserved idle → clock < until → Puts key commit until entries after →
-    ((q : KeyShape) → list_any (same_key q) left ≡ cond (same_key key q) false (list_any (same_key q) reserved)) →
-    ((q : KeyShape) → list_any (same_key q) busy ≡ cond (same_key key q) false (list_any (same_key q) idle)) →
+    ((q : KeyShape) → list_any (same_key q) left ≡ (not (same_key key q) && list_any (same_key q) reserved)) →
+    ((q : KeyShape) → list_any (same_key q) busy ≡ (not (same_key key q) && list_any (same_key q) idle)) →
     IsDistinct same_key (keys_of after) → IsHeap queue_cmp queue_after → IsCovered after queue_after →
     length after ≡ cond (is_some (kept_of key entries)) (length entries) (length entries + 1) →
     (is_active (held_of clock entries) key ≡ true) ⊎ (active_keys (held_of clock entries) < 1000000) →
@@ -122,7 +122,7 @@ len_after true len after is = (let e : after ≡ len = is in omega (arith, e))
 len_after false len after is = (let e : after ≡ len + 1 = is in omega (arith, e))
 
 -- the idle keys without the key
-pub idle_left : (same late was is : Bool) → is ≡ cond same false was → late ≡ true → is ≡ (not (same && late) && was)
+pub idle_left : (same late was is : Bool) → is ≡ (not same && was) → late ≡ true → is ≡ (not (same && late) && was)
 idle_left true late was is left there = left ∙ sym (ap (λ (b : Bool). not b && was) there)
 idle_left false late was is left there = left
 

@@ -1,16 +1,18 @@
 //! The unexpired copies of all keys.
-ghost use Rattle.std.specs.Prelude.{◌≡◌, ◌⊎◌, ℕ, ◌+◌, ◌*◌, ◌<◌, ◌≤◌, max, not, ◌&&◌, ◌||◌, if◌then◌else◌, nat_lt, true, false, [], IsTrue, IfOk, OnOk, OnErr, IfSome, IfNone, All};
+ghost use Rattle.std.specs.Prelude.{◌≡◌, ◌⊎◌, ℕ, ◌+◌, ◌*◌, ◌<◌, ◌≤◌, max, not, ◌&&◌, ◌||◌, if◌then◌else◌, nat_lt, true, false, [], IsTrue, IfOk, OnOk, OnErr, IfSome, IfNone, All, length};
 ghost use Rattle.std.specs.List.{list_any};
 ghost use Rattle.std.specs.BinaryHeap.{heap_items, heap_len, heap_capacity};
 ghost use Rattle.indexmap.specs.IndexMap.{index_map_len, spare};
-ghost use Rattle.indexmap.specs.IndexSet.{spare as set_spare, index_set_len};
+ghost use Rattle.indexmap.specs.IndexSet.{spare as set_spare};
 ghost use Rattle.query_normal.specs.declared.key.KeyShape.{KeyShape as AKey};
 ghost use Rattle.query_normal.specs.Keys.{same_key};
 ghost use Rattle.issued_expiries.specs.Copies.{SameCopies, active_keys, is_active, latest_of, unexpired, with_copy};
 ghost use Rattle.issued_expiries.specs.Expiries.{none_issued, is_idle, is_reserved};
 
 use crate::held::{Held, expire, make_room, put};
+use crate::key_sets::{leave_out, take_all, take_one};
 use crate::queue::Queue;
+use crate::reserved::Reserved;
 use indexmap::{IndexMap, IndexSet};
 use q_base::{Commit, Memory, Moment};
 use query_normal::Key;
@@ -25,15 +27,15 @@ pub struct Expiries {
     clock: u64,
     held: Held,
     queue: Queue,
-    reserved: IndexSet<Key>,
+    reserved: Reserved,
     idle: IndexSet<Key>,
 }
 
 impl Model for Expiries {
-    ghost use Rattle.std.specs.Prelude.{◌+◌, ◌*◌, ◌≤◌};
+    ghost use Rattle.std.specs.Prelude.{◌+◌, ◌*◌, ◌≤◌, length};
     ghost use Rattle.std.specs.BinaryHeap.{heap_items, heap_len, heap_capacity};
     ghost use Rattle.indexmap.specs.IndexMap.{index_map_len, spare};
-    ghost use Rattle.indexmap.specs.IndexSet.{spare as set_spare, index_set_len};
+    ghost use Rattle.indexmap.specs.IndexSet.{spare as set_spare};
     ghost use Rattle.issued_expiries.specs.Entries.{IsSound, held_of};
     ghost use Rattle.issued_expiries.specs.Expiries.{Issued};
 
@@ -42,15 +44,15 @@ impl Model for Expiries {
     ghost view = { λ e. record {
       clock = e.clock;
       held = held_of e.clock e.held.entries;
-      reserved = e.reserved.keys;
+      reserved = e.reserved;
       idle = e.idle.keys;
     } };
 
     ghost invariant = { λ e. record {
-      sound : IsSound e.clock e.held.entries (heap_items e.queue) e.reserved.keys e.idle.keys;
-      map_room : index_set_len e.reserved ≤ spare e.held;
-      idle_room : index_map_len e.held + index_set_len e.reserved ≤ set_spare e.idle;
-      queue_room : heap_len e.queue + index_map_len e.held + 2 * index_set_len e.reserved ≤ heap_capacity e.queue;
+      sound : IsSound e.clock e.held.entries (heap_items e.queue) e.reserved e.idle.keys;
+      map_room : length e.reserved ≤ spare e.held;
+      idle_room : index_map_len e.held + length e.reserved ≤ set_spare e.idle;
+      queue_room : heap_len e.queue + index_map_len e.held + 2 * length e.reserved ≤ heap_capacity e.queue;
     } };
 }
 
@@ -64,7 +66,7 @@ impl Expiries {
             clock: 0,
             held: IndexMap::new(alloc),
             queue: BinaryHeap::new(alloc),
-            reserved: IndexSet::new(alloc),
+            reserved: Reserved::new(alloc),
             idle: IndexSet::new(alloc),
         })
     }
@@ -101,23 +103,19 @@ impl Expiries {
         ensures reserved { (other : AKey) → is_reserved self.new other ≡ (not (same_key key.now other) && is_reserved self.old other) }
         ensures clock { self.new.clock ≡ self.old.clock }
     {
-        match self.reserved.swap_take(key) {
-            Some(copy) => {
-                if until <= self.clock {
-                    return;
-                }
-                self.idle.swap_remove(key);
-                put(
-                    &mut self.held,
-                    &mut self.queue,
-                    self.alloc,
-                    copy,
-                    commit,
-                    until,
-                );
-            }
-            None => unreachable!(),
+        let copy = self.reserved.take(key);
+        if until <= self.clock {
+            return;
         }
+        leave_out(&mut self.idle, key);
+        put(
+            &mut self.held,
+            &mut self.queue,
+            self.alloc,
+            copy,
+            commit,
+            until,
+        );
     }
 
     /// Moves the clock forward to a moment. The copies that are not later expire, and each key of
@@ -184,19 +182,8 @@ impl Expiries {
     pub fn forget_reserved(&mut self)
         ensures { self.new ≡ record self.old { reserved = [] } }
     {
-        take_all(&mut self.reserved);
+        self.reserved.clear();
     }
-}
-
-/// Takes a key out, if there is one.
-fn take_one(keys: &mut IndexSet<Key>) -> Option<Key>
-    ensures some { IfSome result (λ key. IsTrue (list_any (same_key key) keys.old.keys)) }
-    ensures taken { IfSome result (λ key. (other : AKey) → list_any (same_key other) keys.new.keys ≡ (not (same_key key other) && list_any (same_key other) keys.old.keys)) }
-    ensures none { IfNone result (keys.old.keys ≡ []) }
-    ensures unchanged { IfNone result (keys.new.keys ≡ []) }
-    ensures spare { set_spare keys.old ≤ set_spare keys.new }
-{
-    keys.pop()
 }
 
 /// A second, if it is later than another.
@@ -211,20 +198,20 @@ fn stash(
     held: &mut Held,
     queue: &mut Queue,
     idle: &mut IndexSet<Key>,
-    reserved: &mut IndexSet<Key>,
+    reserved: &mut Reserved,
     key: Key,
 ) -> Result<(), Memory>
-    requires map_room { index_set_len reserved.old ≤ spare held.old }
-    requires idle_room { index_map_len held.old + index_set_len reserved.old ≤ set_spare idle.old }
-    requires queue_room { heap_len queue.old + index_map_len held.old + 2 * index_set_len reserved.old ≤ heap_capacity queue.old }
+    requires map_room { length reserved.old ≤ spare held.old }
+    requires idle_room { index_map_len held.old + length reserved.old ≤ set_spare idle.old }
+    requires queue_room { heap_len queue.old + index_map_len held.old + 2 * length reserved.old ≤ heap_capacity queue.old }
     ensures entries { held.new.entries ≡ held.old.entries }
     ensures items { heap_items queue.new ≡ heap_items queue.old }
     ensures idle { idle.new.keys ≡ idle.old.keys }
-    ensures map_room { index_set_len reserved.new ≤ spare held.new }
-    ensures idle_room { index_map_len held.new + index_set_len reserved.new ≤ set_spare idle.new }
-    ensures queue_room { heap_len queue.new + index_map_len held.new + 2 * index_set_len reserved.new ≤ heap_capacity queue.new }
-    ensures ok { OnOk result ((other : AKey) → list_any (same_key other) reserved.new.keys ≡ (same_key key other || list_any (same_key other) reserved.old.keys)) }
-    ensures err { OnErr result (reserved.new.keys ≡ reserved.old.keys) }
+    ensures map_room { length reserved.new ≤ spare held.new }
+    ensures idle_room { index_map_len held.new + length reserved.new ≤ set_spare idle.new }
+    ensures queue_room { heap_len queue.new + index_map_len held.new + 2 * length reserved.new ≤ heap_capacity queue.new }
+    ensures ok { OnOk result ((other : AKey) → list_any (same_key other) reserved.new ≡ (same_key key other || list_any (same_key other) reserved.old)) }
+    ensures err { OnErr result (reserved.new ≡ reserved.old) }
 {
     let more = reserved.len() + 1;
     let keys = more.checked_add(held.len()).ok_or(Memory)?;
@@ -232,17 +219,5 @@ fn stash(
     held.reserve(more)?;
     idle.reserve(keys)?;
     queue.reserve(places)?;
-    reserved.reserve(1)?;
-    match reserved.insert(key) {
-        Ok(_) => Ok(()),
-        Err(_) => unreachable!(),
-    }
-}
-
-/// Takes the keys out one by one, so that it costs nothing for the room that they leave.
-fn take_all(left: &mut IndexSet<Key>)
-    ensures keys { left.new.keys ≡ [] }
-    ensures room { set_spare left.old ≤ set_spare left.new }
-{
-    while left.pop().is_some() {}
+    reserved.add(key)
 }

@@ -6,7 +6,7 @@
 //!    that second, and else the key goes out. So a key goes out exactly when its last copy expires.
 //! 3. Where a key goes out, the last key takes its place, so that place goes in again. An entry of
 //!    a place that no key has any more does nothing.
-ghost use Rattle.std.specs.Prelude.{◌≡◌, ℕ, ◌+◌, ◌++◌, ◌∷◌, [], ◌<◌, ◌≤◌, ◌↔◌, ◌||◌, max, not, if◌then◌else◌, false, slice_get, slice_index_or, None, Some, IsSome, is_some, IfSome, OnOk, OnErr, option_map, length, All};
+ghost use Rattle.std.specs.Prelude.{◌≡◌, ℕ, ◌+◌, ◌++◌, ◌∷◌, [], ◌<◌, ◌≤◌, ◌↔◌, ◌||◌, max, not, if◌then◌else◌, false, slice_get, slice_index_or, None, Some, IsSome, IsTrue, is_some, IfSome, OnOk, OnErr, option_map, length, All};
 ghost use Rattle.std.specs.List.{list_any, IsDistinct};
 ghost use Rattle.std.specs.Map.{keys_of};
 ghost use Rattle.std.specs.BinaryHeap.{IsHeap, heap_items, heap_len, heap_capacity};
@@ -42,19 +42,23 @@ pub fn make_room(held: &mut Held, alloc: Global, key: &Key, clock: u64) -> Resul
     }
 }
 
-/// Adds a copy of a key that is held. It takes no memory.
-fn put_again(held: &mut Held, key: &Key, commit: u64, until: u64)
-    requires held { IsSome (kept_of key.now held.old.entries) }
-    requires room { IfSome (kept_of key.now held.old.entries) HasRoom }
-    ensures puts { Puts key.now commit until held.old.entries held.new.entries }
+/// Adds a copy of a key, if it is held, and answers whether it is. It takes no memory.
+fn put_again(held: &mut Held, key: &Key, commit: u64, until: u64) -> bool
+    requires { IfSome (kept_of key.now held.old.entries) HasRoom }
+    ensures found { result ≡ is_some (kept_of key.now held.old.entries) }
+    ensures puts { IsTrue result → Puts key.now commit until held.old.entries held.new.entries }
     ensures keys { keys_of held.new.entries ≡ keys_of held.old.entries }
     ensures lasts { (i : ℕ) (d : AKey × Kept) → last_until (slice_index_or held.old.entries i d).1 ≤ last_until (slice_index_or held.new.entries i d).1 }
+    ensures same { result ≡ false → held.new.entries ≡ held.old.entries }
     ensures spare { spare held.new ≡ spare held.old }
     ensures len { index_map_len held.new ≡ index_map_len held.old }
 {
     match held.get_mut(key) {
-        Some(copies) => copies.put(commit, until),
-        None => unreachable!(),
+        Some(copies) => {
+            copies.put(commit, until);
+            true
+        }
+        None => false,
     }
 }
 
@@ -107,9 +111,7 @@ pub fn put(held: &mut Held, queue: &mut Queue, alloc: Global, key: Key, commit: 
     ensures capacity { heap_capacity queue.old ≤ heap_capacity queue.new }
     ensures len { index_map_len held.new ≡ (if is_some (kept_of key held.old.entries) then index_map_len held.old else index_map_len held.old + 1) }
 {
-    if held.contains_key(&key) {
-        put_again(held, &key, commit, until);
-    } else {
+    if !put_again(held, &key, commit, until) {
         push_due(queue, until, held.len());
         put_first(held, alloc, key, commit, until);
     }

@@ -22,3 +22,15 @@ fn a_reserved_copy_is_issued_where_there_is_memory(rt: HostRuntime) -> Result<()
     assert!(rt; expiries.next_idle().is_some());
     Ok(())
 }
+
+#[test]
+fn keys_are_reserved_beside_each_other_where_there_is_memory(rt: HostRuntime) -> Result<(), Fail> {
+    let mut expiries = Expiries::new(rt.alloc())?;
+    let ids: [&[u8]; 3] = [b"p1", b"p2", b"p3"];
+    for id in ids {
+        let collection = Name::read(rt.alloc(), b"shop")?;
+        let key = Key::record(rt.alloc(), collection, Name::read(rt.alloc(), id)?)?;
+        expiries.reserve(&key)?;
+    }
+    Ok(())
+}

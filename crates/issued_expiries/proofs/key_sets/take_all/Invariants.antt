@@ -1,7 +1,7 @@
 -- the room only grows, and each turn takes a key
 use Rattle.std.proofs.Common.{◌≤◌}
 use Rattle.indexmap.specs.IndexSet.{spare, index_set_len}
-use Rattle.issued_expiries.proofs.expiries.take_all.Given as goal
+use Rattle.issued_expiries.proofs.key_sets.take_all.Given as goal
 
 abbrev pub invariant-loop : goal.invariant-loop
 invariant-loop l = spare l.initial.left ≤ spare l.left

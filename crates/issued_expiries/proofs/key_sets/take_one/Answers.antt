@@ -1,5 +1,5 @@
 use Rattle.issued_expiries.proofs.IssueLemmas.{popped_is}
-use Rattle.issued_expiries.proofs.expiries.take_one.Goals as goal
+use Rattle.issued_expiries.proofs.key_sets.take_one.Goals as goal
 
 -- the last of them came out
 pub returns-clause-some : goal.returns-clause-some
