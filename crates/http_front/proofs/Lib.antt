@@ -4,7 +4,10 @@ mod DigitLemmas
 mod FieldLemmas
 mod NumberLemmas
 mod PhraseLemmas
+mod PathLemmas
+mod PlainLemmas
 mod QueryLemmas
+mod RecordLemmas
 mod ReplyLemmas
 mod RequestFacts
 mod RouteLemmas

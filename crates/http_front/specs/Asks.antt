@@ -46,6 +46,12 @@ has_length m =
     nat_lt 0 (length (values (codes "content-length") m.fields))
     || nat_lt 0 (length (values (codes "transfer-encoding") m.fields))
 
+-- the request has a condition
+abbrev pub has_condition : Message → Bool
+has_condition m =
+    nat_lt 0 (length (values (codes "if-match") m.fields))
+    || nat_lt 0 (length (values (codes "if-none-match") m.fields))
+
 -- the content has no coding but `identity`
 unfoldable pub is_plain : Message → Bool
 is_plain m =

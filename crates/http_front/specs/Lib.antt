@@ -4,6 +4,7 @@ pub mod Asks
 pub mod Date
 pub mod Given
 pub mod Numbers
+pub mod Paths
 pub mod Phrases
 pub mod Query
 pub mod ReplyText

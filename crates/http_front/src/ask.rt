@@ -1,14 +1,16 @@
 //! What requests ask of the store.
 ghost use Rattle.std.specs.Prelude.{◌≡◌, not, Ok};
 ghost use Rattle.std.specs.Option.{option_copied};
-ghost use Rattle.http_front.specs.Answered.{Answers, unless};
-ghost use Rattle.http_front.specs.Asks.{ask_by, ask_of, check_read, condition_by, condition_of, document_in, method_in, name_in, put_of, query_by, read_of, record_by, refused_for, shape_of};
+ghost use Rattle.http_front.specs.Answered.{Answers, and_then, unless};
+ghost use Rattle.http_front.specs.Asks.{ask_at, ask_by, ask_of, check_read, condition_by, condition_of, delete_of, document_in, method_in, name_in, put_of, query_by, read_of, record_by, refused_for, shape_of};
 ghost use Rattle.http_front.specs.Query.{is_query};
-ghost use Rattle.http_front.specs.Routes.{collection_in, id_in};
+ghost use Rattle.http_front.specs.Routes.{collection_in, id_in, route_of};
+ghost use Rattle.http_front.specs.Target.{path_of, query_of};
+ghost use Rattle.http_front.specs.declared.routes.Route.TheVariants.{Record};
 ghost use Rattle.http_message.specs.declared.refused.Refused.TheVariants.{BadTarget};
 
 use crate::cut::{cut_at, cut_in_two};
-use crate::fields::{has_host, has_length, is_plain};
+use crate::fields::{has_condition, has_host, has_length, is_plain};
 use crate::query::are_fields;
 use crate::routes::{Method, Route, Routes};
 use crate::shape::Shape;
@@ -49,7 +51,7 @@ pub enum Ask {
 }
 
 /// What a request asks, or the first reason why it is refused. A body is read in the room that is
-/// lent.
+/// lent. A record whose names have no escape takes no look at the table of routes.
 #[tactic(auto, unfolding(crate::specs::Asks::ask_of, crate::specs::Target::path_of))]
 pub fn ask_of(
     alloc: Global,
@@ -65,6 +67,45 @@ pub fn ask_of(
     let Some(local) = local_part(request.target()) else {
         return Err(Refused::BadTarget);
     };
+    // names that are read as they stand have no escape and no query behind them
+    if local.starts_with(b"/v1/d/") {
+        let (collection, id) = names_in(local);
+        if let Ok(collection) = Name::read(alloc, collection)
+            && let Ok(id) = Name::read(alloc, id)
+        {
+            return ask_record(alloc, request, collection, id, reading);
+        }
+    }
+    ask_at(alloc, request, local, routes, reading)
+}
+
+/// What a request of a record asks that has no query.
+#[inline(always)]
+fn ask_record(
+    alloc: Global,
+    request: &Request<'_>,
+    collection: Name,
+    id: Name,
+    reading: &mut ReadRoom,
+) -> Result<Ask, Refused>
+    ensures { Answers (and_then (method_in request.now Record) (λ method. record_by request.now collection id method)) result }
+{
+    let method = method_in(request, Route::Record)?;
+    record_by(alloc, request, collection, id, method, reading)
+}
+
+/// What a request of this target asks, which names no server.
+#[inline(never)]
+#[tactic(auto, unfolding(crate::specs::Target::path_of))]
+fn ask_at(
+    alloc: Global,
+    request: &Request<'_>,
+    local: &[u8],
+    routes: &Routes,
+    reading: &mut ReadRoom,
+) -> Result<Ask, Refused>
+    ensures { Answers (ask_at request.now (path_of local.now) (query_of local.now) (route_of (path_of local.now))) result }
+{
     let (path, query) = cut_at(local, b'?');
     let path = or_root(path);
     let Some(route) = routes.route_of(path) else {
@@ -76,6 +117,7 @@ pub fn ask_of(
 }
 
 /// The method of the request, where the route has it.
+#[inline(always)]
 fn method_in(request: &Request<'_>, route: Route) -> Result<Method, Refused>
     ensures { result ≡ method_in request.now route }
 {
@@ -161,6 +203,7 @@ fn query_by(alloc: Global, request: &Request<'_>, collection: &[u8]) -> Result<A
 }
 
 /// What a request of a record asks.
+#[inline(always)]
 fn record_by(
     alloc: Global,
     request: &Request<'_>,
@@ -175,22 +218,13 @@ fn record_by(
         Method::Get => read_of(alloc, request, collection, id, false),
         Method::Head => read_of(alloc, request, collection, id, true),
         Method::Put => put_of(alloc, request, collection, id, reading),
-        Method::Delete => {
-            let condition = condition_of(alloc, request)?;
-            Ok(Ask::Write {
-                change: Change {
-                    collection,
-                    id,
-                    document: None,
-                },
-                condition,
-            })
-        }
+        Method::Delete => delete_of(alloc, request, collection, id),
         Method::Post => Err(Refused::BadMethod(Route::Record.methods())),
     }
 }
 
 /// What a GET or a HEAD of a record asks.
+#[inline(never)]
 fn read_of(
     alloc: Global,
     request: &Request<'_>,
@@ -208,7 +242,29 @@ fn read_of(
     Ok(Ask::Read { key, tags, head })
 }
 
+/// What a DELETE of a record asks.
+#[inline(never)]
+fn delete_of(
+    alloc: Global,
+    request: &Request<'_>,
+    collection: Name,
+    id: Name,
+) -> Result<Ask, Refused>
+    ensures { Answers (delete_of request.now collection id) result }
+{
+    let condition = condition_of(alloc, request)?;
+    Ok(Ask::Write {
+        change: Change {
+            collection,
+            id,
+            document: None,
+        },
+        condition,
+    })
+}
+
 /// What a PUT of a record asks.
+#[inline(never)]
 fn put_of(
     alloc: Global,
     request: &Request<'_>,
@@ -240,6 +296,16 @@ fn put_of(
 fn condition_of(alloc: Global, request: &Request<'_>) -> Result<Condition, Refused>
     ensures { Answers (condition_of request.now) result }
 {
+    if !has_condition(request) {
+        return Ok(Condition::Always);
+    }
+    tagged_condition(alloc, request)
+}
+
+/// The condition of the tags of a write.
+fn tagged_condition(alloc: Global, request: &Request<'_>) -> Result<Condition, Refused>
+    ensures { Answers (condition_of request.now) result }
+{
     let tags = tags_in(alloc, request, b"if-match", Comparison::Strong)?;
     let others = tags_in(alloc, request, b"if-none-match", Comparison::Weak)?;
     condition_by(tags, others)
@@ -260,6 +326,16 @@ fn condition_by(tags: Option<Tags>, others: Option<Tags>) -> Result<Condition, R
 
 /// Refuses the conditions that a read does not have yet.
 fn check_read(alloc: Global, request: &Request<'_>) -> Result<(), Refused>
+    ensures { Answers (check_read request.now) result }
+{
+    if !has_condition(request) {
+        return Ok(());
+    }
+    check_tags(alloc, request)
+}
+
+/// Refuses the tags of a read that are not answered yet.
+fn check_tags(alloc: Global, request: &Request<'_>) -> Result<(), Refused>
     ensures { Answers (check_read request.now) result }
 {
     let _tags = tags_in(alloc, request, b"if-match", Comparison::Strong)?;

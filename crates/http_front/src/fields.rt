@@ -3,7 +3,7 @@ ghost use Rattle.std.specs.Prelude.{◌≡◌, ◌<◌, ◌+◌, ◌++◌, lengt
 ghost use Rattle.std.specs.Option.{option_copied};
 ghost use Rattle.std.specs.Str.{str_eq_ignore_ascii_case};
 ghost use Rattle.http_message.specs.Fields.{values};
-ghost use Rattle.http_front.specs.Asks.{has_host, has_length, is_plain};
+ghost use Rattle.http_front.specs.Asks.{has_condition, has_host, has_length, is_plain};
 
 use http_message::{Named, Request};
 
@@ -37,6 +37,13 @@ pub fn has_length(request: &Request<'_>) -> bool
 {
     request.named(b"content-length") != Named::Absent
         || request.named(b"transfer-encoding") != Named::Absent
+}
+
+/// Whether the request has If-Match or If-None-Match.
+pub fn has_condition(request: &Request<'_>) -> bool
+    ensures { result ≡ has_condition request.now }
+{
+    request.named(b"if-match") != Named::Absent || request.named(b"if-none-match") != Named::Absent
 }
 
 /// Whether the content has no coding but `identity`.

@@ -28,7 +28,7 @@ pub use ask::{Ask, ask_of, shape_of};
 pub use body::write_body;
 pub use give::give_reply;
 pub use head::{Head, MediaType};
-pub use laws::phrases_are_of_http;
+pub use laws::{paths_of_records_have_two_names, phrases_are_of_http};
 pub use reply::{REPLY_ROOM, ReplyRoom, reply_text};
 pub use routes::Routes;
 pub use shape::Shape;

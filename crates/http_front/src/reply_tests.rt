@@ -2,7 +2,7 @@
 use crate::{ReplyRoom, Shape, Told, give_reply, reply_text, write_body};
 use http_message::{Allow, DocumentReason, Refused};
 use hub_model::{Answer, Found, Matched, Outcome, Stats, Written};
-use q_base::{Commit, Moment, Text};
+use q_base::{Commit, Moment, SharedText};
 use q_outside::EndlessSink;
 use std::test::Fail;
 
@@ -181,7 +181,7 @@ fn head_is_answered_without_the_body(rt: HostRuntime) -> Result<(), Fail> {
         clock: Moment::of(100),
         ttl: 3600,
         result: Outcome::Whole {
-            text: Text::of(b"{\"a\":1}".to_vec(rt.alloc())?),
+            text: SharedText::of(rt.alloc(), b"{\"a\":1}".to_vec(rt.alloc())?)?,
             version: Some(1),
         },
     });

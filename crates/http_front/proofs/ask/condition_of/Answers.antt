@@ -1,8 +1,5 @@
-use Rattle.http_front.specs.Asks.{matches, differs}
-use Rattle.http_front.proofs.AskLemmas.{condition_joined}
+use Rattle.http_front.proofs.AskLemmas.{write_free}
 use Rattle.http_front.proofs.ask.condition_of.Goals as goal
 
-pub returns : goal.returns
-returns c =
-    condition_joined (matches c.args.request.now) (differs c.args.request.now) c.in_ok-tags.tags c.in_ok-others.others
-    c.condition_by.result c.in_ok-tags.ensures c.in_ok-others.ensures c.condition_by.ensures
+pub returns-then-not-has_condition : goal.returns-then-not-has_condition
+returns-then-not-has_condition c = write_free c.args.request.now (cc)
