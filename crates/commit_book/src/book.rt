@@ -15,7 +15,7 @@ use crate::index::{Collections, commits_in, make_room_in, push_in};
 use crate::refusal::BookRefusal;
 use crate::row::{Row, cost_of, text_of};
 use indexmap::IndexMap;
-use q_base::{Commit, Memory, Name};
+use q_base::{Commit, Memory, Name, SharedText};
 use q_doc::Doc;
 use std::alloc::Global;
 use std::marker::Model;
@@ -82,7 +82,7 @@ impl Book {
         if bytes > self.capacity {
             return Err(BookRefusal::Full { bytes });
         }
-        let row = Row::of(change, text)?;
+        let row = Row::of(self.alloc, change, text)?;
         self.rows.reserve(1)?;
         make_room_in(&mut self.collections, &change.collection, &change.id)?;
         self.reserved = Some(row);
@@ -168,7 +168,7 @@ impl Book {
         commit: Commit,
         collection: &Name,
         id: &Name,
-    ) -> Option<(Commit, &'a [u8])>
+    ) -> Option<(Commit, &'a SharedText)>
         requires { commit ≤ length self.now.journal }
         ensures { option_map (λ t. (t.0, t.1.now)) result ≡ text_at self.now.journal commit collection.now id.now }
     {

@@ -5,7 +5,7 @@ ghost use Rattle.commit_book.specs.Index.{AreCommits, version_of, change_of};
 ghost use Rattle.commit_book.specs.Journal.{put_at, printed_of};
 
 use crate::row::Row;
-use q_base::Commit;
+use q_base::{Commit, SharedText};
 use q_doc::Doc;
 use std::alloc::AllocError;
 
@@ -48,7 +48,7 @@ pub fn document_of<'a>(commit: Commit, row: &'a Row) -> Option<(Commit, &'a Doc)
 }
 
 /// The printed text of the document that the row of a commit puts, and the commit.
-pub fn printed_of<'a>(commit: Commit, row: &'a Row) -> Option<(Commit, &'a [u8])>
+pub fn printed_of<'a>(commit: Commit, row: &'a Row) -> Option<(Commit, &'a SharedText)>
     ensures { option_map (λ t. (t.0, t.1.now)) result ≡ printed_of (put_at commit row.now.document) }
 {
     if row.has_document() {

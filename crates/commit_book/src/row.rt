@@ -3,7 +3,7 @@ ghost use Rattle.std.specs.Prelude.{◌≡◌, ◌≤◌, ◌^◌, ◌+◌, IfOk
 ghost use Rattle.commit_book.specs.Journal.{text_of, cost_of};
 
 use crate::change::Change;
-use q_base::Memory;
+use q_base::{Memory, SharedText};
 use q_doc::Doc;
 use std::alloc::{AllocError, Global};
 use std::marker::Model;
@@ -12,7 +12,7 @@ use std::marker::Model;
 #[derive(Drop)]
 pub struct Row {
     change: Change,
-    text: Vec<u8>,
+    text: SharedText,
 }
 
 impl Model for Row {
@@ -28,18 +28,18 @@ impl Model for Row {
 
     ghost view = { λ r. r.change };
 
-    ghost invariant = { λ r. r.text.items ≡ text_of r.change.document };
+    ghost invariant = { λ r. r.text ≡ text_of r.change.document };
 }
 
 impl Row {
     /// A copy of a change, with the text of its document.
-    pub fn of(change: &Change, text: Vec<u8>) -> Result<Row, AllocError>
+    pub fn of(alloc: Global, change: &Change, text: Vec<u8>) -> Result<Row, AllocError>
         requires { text.items ≡ text_of change.now.document }
         ensures { IfOk result (λ row. row ≡ change.now) }
     {
         Ok(Row {
             change: change.clone()?,
-            text,
+            text: SharedText::of(alloc, text)?,
         })
     }
 
@@ -58,17 +58,17 @@ impl Row {
     }
 
     /// The printed text of the document; a deletion has none.
-    pub fn text(&self) -> &[u8]
+    pub fn text(&self) -> &SharedText
         ensures { result.now ≡ text_of self.now.document }
     {
-        self.text.as_slice()
+        &self.text
     }
 
     /// What the row takes of the capacity, in bytes.
     pub fn cost(&self) -> u64
         ensures { result ≡ cost_of self.now }
     {
-        cost_of(&self.change, &self.text)
+        cost_of(&self.change, self.text.as_slice())
     }
 
     /// Whether the row puts a document.

@@ -68,7 +68,7 @@ fn has_text(book: &Book, commit: u64, shop: &Name, id: &Name, want: &[u8]) -> bo
         return false;
     }
     match book.text_at(commit, shop, id) {
-        Some((_, text)) => text == want,
+        Some((_, text)) => text.as_slice() == want,
         None => want.is_empty(),
     }
 }

@@ -108,7 +108,7 @@ impl Copies {
     fn lifetime(&self, key: &Key) -> u32
         ensures { result ≡ lifetime self.now key.now }
     {
-        if !self.issued.active(key) && self.config.active() <= self.issued.active_count() {
+        if self.config.active() <= self.issued.active_count() && !self.issued.active(key) {
             0
         } else {
             self.config.ttl_high()

@@ -19,7 +19,7 @@ use hub_model::{
     Answer, Change, Condition, Found, Matched, Outcome, Stats, Tags, Written, bits_in_any_order,
     keys_in_any_order, matches_record_commit_by_commit, record_changes_by_its_own_commits,
 };
-use q_base::{Commit, Memory, Moment, Text};
+use q_base::{Commit, Memory, Moment};
 use query_normal::{Key, KeyShape};
 use std::alloc::Global;
 use std::marker::Model;
@@ -126,7 +126,7 @@ impl Hub {
         ensures memory { OnErr result (self.new ≡ self.old) }
     {
         let commit = self.book.count();
-        let result = outcome_at(self.alloc, &self.book, commit, key)?;
+        let result = outcome_at(&self.book, commit, key)?;
         self.copies.reserve(key)?;
         self.copies.advance(moment);
         let ttl = self.copies.hand_out(key, commit);
@@ -254,15 +254,15 @@ fn found(book: &Book, change: &Change) -> Found
     }
 }
 
-/// What a read tells of a key at a commit: a copy of the text that the book keeps.
-fn outcome_at(alloc: Global, book: &Book, commit: Commit, key: &Key) -> Result<Outcome, Memory>
+/// What a read tells of a key at a commit: the text that the book keeps, which is shared.
+fn outcome_at(book: &Book, commit: Commit, key: &Key) -> Result<Outcome, Memory>
     requires { commit ≤ length book.now.journal }
     ensures { IfOk result (λ o. o ≡ outcome_of (result_at key.now book.now.journal commit)) }
 {
     let KeyShape::Record { collection, id } = key.shape();
     match book.text_at(commit, collection, id) {
         Some((version, text)) => Ok(Outcome::Whole {
-            text: Text::of(text.to_vec(alloc)?),
+            text: text.clone()?,
             version: Some(version),
         }),
         None => Ok(Outcome::Absent),

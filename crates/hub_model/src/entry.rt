@@ -1,7 +1,7 @@
 //! The entries of a history, and the replies to them.
 use crate::commits::Commits;
 use commit_book::Change;
-use q_base::{Commit, Moment, Text};
+use q_base::{Commit, Moment, SharedText};
 use query_normal::Key;
 
 /// What a write asks of the record that it changes.
@@ -93,7 +93,10 @@ pub enum Written {
 #[derive(Debug, Drop)]
 pub enum Outcome {
     /// The result's text, and the version of a record's document.
-    Whole { text: Text, version: Option<Commit> },
+    Whole {
+        text: SharedText,
+        version: Option<Commit>,
+    },
     /// There is no document.
     Absent,
 }
