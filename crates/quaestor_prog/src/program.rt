@@ -10,6 +10,7 @@ use q_base::Moment;
 use q_outside::{Clock, FixedClock, Sink, Source, give_all};
 use quaestor_server::{Config, Owned, Room, serve_connection};
 use std::alloc::Global;
+use std::mem::ManuallyDrop;
 
 /// The line that is written for words that no command takes.
 const USAGE: &[u8] = b"usage: quaestor pipe, serve, read or world\n";
@@ -82,6 +83,8 @@ fn pipe<S: Source, K: Sink, C: Clock>(
         Err(_) => return Status::Memory,
     };
     let served = serve_connection(alloc, &mut desk, source, sink, clock, &mut room);
+    // The process ends next, and gives the store's memory back at once.
+    let _left = ManuallyDrop::new(desk);
     Status::of(served.why)
 }
 
