@@ -1,4 +1,5 @@
 pub mod CandidateLemmas
+pub mod ChangeLemmas
 pub mod FilterLemmas
 pub mod Firsts
 pub mod Rising

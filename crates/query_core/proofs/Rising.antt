@@ -15,6 +15,16 @@ use denote.Param.Members.{Mut}
 use mathlib.Core.List.{append_assoc, append-nil}
 use Rattle.query_core.specs.Window.{placed, in_order}
 
+-- two tests in either order
+pub filters_swap : {X : Type 0} (p r : X → Bool) (xs : List X) → filter p (filter r xs) ≡ filter r (filter p xs)
+filters_swap p r [] = refl
+filters_swap p r (x ∷ xs) =
+    let rest = filters_swap p r xs in
+    elim (cases_Bool (p x)) [
+      | inl e ↦ elim (cases_Bool (r x)) [ inl f ↦ rw (e, f, e) (ap (λ l. x ∷ l) rest) | inr f ↦ rw (e, f) rest ]
+      | inr e ↦ elim (cases_Bool (r x)) [ inl f ↦ rw (e, f, e) rest | inr f ↦ rw (e, f) rest ]
+    ]
+
 module _ {X : Type 0} (cmp : X → X → Ordering) (total : IsTotalOrder cmp) where
   abbrev less : X → X → Bool
   less x y = is_lt (cmp x y)
@@ -177,6 +187,22 @@ module _ {X : Type 0} (cmp : X → X → Ordering) (total : IsTotalOrder cmp) wh
   -- lists with the same ties come to the same
   pub in_order_alike : (xs ys : List X) → ((z : X) → filter (tied z) xs ≡ filter (tied z) ys) → in_order cmp xs ≡ in_order cmp ys
   in_order_alike xs ys h = rises_in_order ys (in_order cmp xs) (in_order_rises xs) (λ z. in_order_ties z xs ∙ h z)
+
+  -- ---- parts of a list in order
+
+  filter_under : (r : X → Bool) (x : X) (xs : List X) → Under x xs → Under x (filter r xs)
+  filter_under r x [] u = tt
+  filter_under r x (y ∷ ys) u = elim (cases_Bool (r y)) [ inl e ↦ rw e (u.0, filter_under r x ys u.1) | inr e ↦ rw e (filter_under r x ys u.1) ]
+
+  filter_rises : (r : X → Bool) (xs : List X) → Rises xs → Rises (filter r xs)
+  filter_rises r [] u = tt
+  filter_rises r (x ∷ xs) u = elim (cases_Bool (r x)) [ inl e ↦ rw e (filter_under r x xs u.0, filter_rises r xs u.1) | inr e ↦ rw e (filter_rises r xs u.1) ]
+
+  -- the items that pass a test, in order, are those in order that pass it
+  pub filter-in_order : (r : X → Bool) (xs : List X) → filter r (in_order cmp xs) ≡ in_order cmp (filter r xs)
+  filter-in_order r xs =
+      rises_in_order (filter r xs) (filter r (in_order cmp xs)) (filter_rises r (in_order cmp xs) (in_order_rises xs))
+      (λ z. filters_swap (tied z) r (in_order cmp xs) ∙ ap (filter r) (in_order_ties z xs) ∙ sym (filters_swap (tied z) r xs))
 
   -- ---- sorts
 

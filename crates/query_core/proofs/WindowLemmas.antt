@@ -25,7 +25,7 @@ tie_is_Equal Less p e h = absurd (cc)
 tie_is_Equal Equal p e h = refl
 tie_is_Equal Greater p e h = absurd (let k : (not (is_lt p)) ≡ false = ap (λ x. not (is_lt x)) e in cc)
 
-tied_ids : (order : Order) (a b : Row) → tied (rows_cmp order) (rows_cmp_total order) a b ≡ true → bytes_eq a.0 b.0 ≡ true
+pub tied_ids : (order : Order) (a b : Row) → tied (rows_cmp order) (rows_cmp_total order) a b ≡ true → bytes_eq a.0 b.0 ≡ true
 tied_ids order a b h =
     let e = tie_is_Equal (rows_cmp order a b) (rows_cmp order b a) ((rows_cmp_total order).antisymm b a) h in
     let ids = then_Equal (paths_cmp order a.2 b.2) (slice_cmp nat_cmp a.0 b.0) e in
@@ -45,7 +45,7 @@ filter_narrow t s p h (x ∷ xs) =
       | inr e ↦ elim (cases_Bool (s x)) [ inl g ↦ rw (e, g, e) rest | inr g ↦ rw (e, g) rest ]
     ]
 
-matches_alike : (q : Query) (docs others : List Row) → ((id : List ℕ) → filter (λ (row : Row). bytes_eq id row.0) docs ≡ filter (λ (row : Row). bytes_eq id row.0) others) → matches q docs ≡ matches q others
+pub matches_alike : (q : Query) (docs others : List Row) → ((id : List ℕ) → filter (λ (row : Row). bytes_eq id row.0) docs ≡ filter (λ (row : Row). bytes_eq id row.0) others) → matches q docs ≡ matches q others
 matches_alike q docs others h =
     let p : Row → Bool = λ row. satisfies q.filter row.2 in
     in_order_alike (rows_cmp q.order) (rows_cmp_total q.order) (filter p docs) (filter p others)

@@ -1,9 +1,11 @@
 pub mod Candidates
+pub mod Changes
 pub mod Code
 pub mod Filters
 pub mod Limits
 pub mod Meaning
 pub mod Print
+pub mod QueryCode
 pub mod Same
 pub mod SameLaws
 pub mod Shape

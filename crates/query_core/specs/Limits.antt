@@ -7,6 +7,28 @@ use Rattle.q_doc.specs.Document.{IsValue, HasTexts}
 use Rattle.query_core.specs.declared.query.Query.{Query}
 use Rattle.query_core.specs.Filters.{Filter, constant, compared, listed, having, present, negated, every, some, Operands, no_operands, operand, operand_list, height}
 
+-- ---- the limits
+
+-- the most atoms and listed values of a filter
+abbrev pub most_leaves : ℕ
+most_leaves = 256
+
+-- the greatest height of a filter, where an atom has height 1
+abbrev pub most_height : ℕ
+most_height = 32
+
+-- the most paths of an order
+abbrev pub most_paths : ℕ
+most_paths = 4
+
+-- the most rows that are left out
+abbrev pub most_skip : ℕ
+most_skip = 10000
+
+-- the most rows that are kept
+abbrev pub most_take : ℕ
+most_take = 1000
+
 -- ---- the size of a filter
 
 abbrev mutual
@@ -70,12 +92,10 @@ abbrev mutual
 -- a query of the language
 pub record IsQuery (q : Query) : Type 0 where
   pub filter_is : IsFilter q.filter
-  -- at most 256 atoms and listed values
-  pub few_leaves : leaves q.filter ≤ 256
-  -- an atom has height 1
-  pub low : height q.filter ≤ 32
+  pub few_leaves : leaves q.filter ≤ most_leaves
+  pub low : height q.filter ≤ most_height
   pub paths : All (λ p. IsUtf8Path p.0) q.order
-  pub few_paths : length q.order ≤ 4
-  pub skip_limit : q.skip ≤ 10000
+  pub few_paths : length q.order ≤ most_paths
+  pub skip_limit : q.skip ≤ most_skip
   pub take_some : 1 ≤ q.take
-  pub take_limit : q.take ≤ 1000
+  pub take_limit : q.take ≤ most_take

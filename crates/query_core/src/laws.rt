@@ -1,13 +1,14 @@
 //! Laws of orders, windows and equality. Each is a function that does nothing, and whose contract
 //! is the law.
-ghost use Rattle.std.specs.Prelude.{◌≡◌, ◌≤◌, ℕ, List, length, map, filter, Contains};
+ghost use Rattle.std.specs.Prelude.{◌≡◌, ◌≤◌, ℕ, List, true, length, map, filter, Contains, Option};
 ghost use Rattle.std.specs.Bool.{Decides};
 ghost use Rattle.std.specs.Cmp.{IsTotalOrder};
 ghost use Rattle.std.specs.Str.{bytes_eq};
 ghost use Rattle.query_core.specs.declared.query.Query.{Query as AQuery};
+ghost use Rattle.query_core.specs.Changes.{IsChange, after_change, is_of, list_of, passes_by, tree_of_row};
 ghost use Rattle.query_core.specs.Filters.{Filter as Test};
 ghost use Rattle.query_core.specs.Same.{same_filter, same_query};
-ghost use Rattle.query_core.specs.Window.{Row as ARow, Order as Paths, rows_cmp, window};
+ghost use Rattle.query_core.specs.Window.{Row as ARow, Order as Paths, rows_cmp, matches, window};
 
 /// The order of rows is total.
 pub fn rows_are_ordered()
@@ -32,6 +33,19 @@ pub fn windows_are_told_by_versions()
 /// A window has no more rows than the query takes.
 pub fn window_is_cut_off()
     ensures { (q : AQuery) (docs : List ARow) → length (window q docs) ≤ q.take }
+{}
+
+/// After a change of one document the rows that satisfy, in order, are those of before, from which
+/// the old row is taken out, and into which the new one is put if it satisfies.
+pub fn matches_follow_a_change()
+    ensures { (q : AQuery) (docs others : List ARow) (id : List ℕ) (new : Option ARow) → IsChange id new docs others
+        → matches q others ≡ after_change q id new (matches q docs) }
+{}
+
+/// A change that passes by a query leaves the rows that satisfy it as they were.
+pub fn matches_stay_where_a_change_passes_by()
+    ensures { (q : AQuery) (docs others : List ARow) (id : List ℕ) (old new : Option ARow) → IsChange id new docs others
+        → filter (is_of id) docs ≡ list_of old → passes_by q q.collection (tree_of_row old) (tree_of_row new) ≡ true → matches q others ≡ matches q docs }
 {}
 
 /// The tests of equality tell exactly which filters and which queries are the same.

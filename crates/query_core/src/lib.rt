@@ -18,7 +18,7 @@ mod words;
 pub use compare::compare_rows;
 pub use filter::{Filter, Form, Op};
 pub use meaning::satisfies;
-pub use print::print_query;
+pub use print::{print_filter, print_order, print_query};
 pub use query::{Kind, Order, Query, Verdict};
 pub use rows::{Docs, Row, Rows};
 pub use windows::window;

@@ -20,6 +20,24 @@ pub fn print_query(alloc: Global, query: &Query) -> Result<Text, Memory>
     Ok(Text::of(out))
 }
 
+/// The printed text of a filter.
+pub fn print_filter(alloc: Global, filter: &Filter) -> Result<Text, Memory>
+    ensures { IfOk result (λ text. text ≡ filter_text filter.now) }
+{
+    let mut out = Vec::with_capacity(alloc, 64)?;
+    write_filter(&mut out, filter)?;
+    Ok(Text::of(out))
+}
+
+/// The printed text of an order, which is empty where there are no paths.
+pub fn print_order(alloc: Global, order: &Order) -> Result<Text, Memory>
+    ensures { IfOk result (λ text. text ≡ order_text order.now) }
+{
+    let mut out = Vec::new(alloc);
+    write_order(&mut out, order)?;
+    Ok(Text::of(out))
+}
+
 fn write_query(out: &mut Vec<u8>, query: &Query) -> Result<(), AllocError>
     ensures { OnOk result (out.new.items ≡ out.old.items ++ print_query query.now) }
 {

@@ -3,15 +3,14 @@ use Rattle.std.proofs.Common.{◌≡◌, ℕ, suc, ◌+◌, ◌-◌, ◌^◌, mi
 use Rattle.std.proofs.lemmas.Bool.{cases_lt}
 use Rattle.std.proofs.lemmas.Bool.Decides.{nat_tests}
 use Rattle.query_core.specs.Filters.{Filter, constant, negated, height}
-use Rattle.query_core.specs.Limits.{leaves}
-use Rattle.query_lang.specs.declared.operands.TheConstants.{MAX_HEIGHT}
+use Rattle.query_core.specs.Limits.{leaves, most_height}
 use Rattle.query_lang.specs.FilterReading.{capped_sum, kept, negated_times, State, atom}
 use Rattle.query_lang.specs.declared.filter_reader.Level.{Level}
 use Rattle.query_lang.specs.declared.filter_reader.Pending.{Pending}
 use Rattle.query_lang.specs.declared.filter_reader.Pending.TheVariants as pending
 
 -- the limit is far below the greatest number
-pub above_limit : (n : ℕ) → nat_lt MAX_HEIGHT (min n (2 ^ 64 - 1)) ≡ nat_lt MAX_HEIGHT n
+pub above_limit : (n : ℕ) → nat_lt most_height (min n (2 ^ 64 - 1)) ≡ nat_lt most_height n
 above_limit n = grind (arith, nat_tests)
 
 -- a filter is kept by its height or by its capped height
@@ -27,8 +26,8 @@ kept_negated h k f =
           let same : h + suc k ≡ suc h + k = omega arith in
           ap (λ n. kept (h + n) (negated_times n f)) next ∙ ap (λ n. kept n (negated_times k (negated f))) same)
       | inr large ↦ (
-          let left : nat_lt MAX_HEIGHT (h + capped_sum k 1) ≡ true = grind (arith, nat_tests) in
-          let right : nat_lt MAX_HEIGHT (suc h + k) ≡ true = grind (arith, nat_tests) in
+          let left : nat_lt most_height (h + capped_sum k 1) ≡ true = grind (arith, nat_tests) in
+          let right : nat_lt most_height (suc h + k) ≡ true = grind (arith, nat_tests) in
           rw (left, right) refl)
     ]
 

@@ -3,9 +3,8 @@ use Rattle.std.proofs.Common.{◌≡◌, ℕ, suc, ◌+◌, ◌≤◌, max, true
 use Rattle.std.proofs.lemmas.Bool.{cases_lt, lt-ltb, le-ltb}
 use Rattle.std.proofs.lemmas.List.{map-append}
 use Rattle.query_core.specs.Filters.{Filter, constant, operands_of, height, operands_height}
-use Rattle.query_core.specs.Limits.{leaves, operands_leaves}
+use Rattle.query_core.specs.Limits.{leaves, operands_leaves, most_height}
 use Rattle.query_lang.specs.declared.filter_reader.Level.{Level}
-use Rattle.query_lang.specs.declared.operands.TheConstants.{MAX_HEIGHT}
 use Rattle.query_lang.specs.declared.operands.Join.{Join}
 use Rattle.query_lang.specs.declared.operands.Join.TheVariants as join
 use Rattle.query_lang.specs.declared.filter_reader.Pending.TheVariants as pending
@@ -93,7 +92,7 @@ total-append (f ∷ fs) gs = omega (arith, total-append fs gs)
 all_kept : (fs : List Filter) → most fs ≤ 32 → map keep fs ≡ fs
 all_kept [] low = refl
 all_kept (f ∷ fs) low =
-    let here : nat_lt MAX_HEIGHT (height f) ≡ false = le-ltb 32 (height f) (omega arith) in
+    let here : nat_lt most_height (height f) ≡ false = le-ltb 32 (height f) (omega arith) in
     ap (λ b. cond b (constant true) f ∷ map keep fs) here ∙ ap (λ gs. f ∷ gs) (all_kept fs (omega arith))
 
 -- filters joined; one stands for itself
@@ -133,8 +132,8 @@ many_kept : (how : Join) (fs : List Filter) → kept (capped_sum (capped (most f
 many_kept how fs =
     elim (cases_lt 32 (suc (most fs))) [
       | inl high ↦ (
-          let left : nat_lt MAX_HEIGHT (capped_sum (capped (most fs)) 1) ≡ true = lt-ltb 32 (capped_sum (capped (most fs)) 1) (omega arith) in
-          let right : nat_lt MAX_HEIGHT (suc (most fs)) ≡ true = lt-ltb 32 (suc (most fs)) high in
+          let left : nat_lt most_height (capped_sum (capped (most fs)) 1) ≡ true = lt-ltb 32 (capped_sum (capped (most fs)) 1) (omega arith) in
+          let right : nat_lt most_height (suc (most fs)) ≡ true = lt-ltb 32 (suc (most fs)) high in
           ap (λ b. cond b (constant true) (join_of how (operands_of (map keep fs)))) left ∙ sym (ap (λ b. cond b (constant true) (join_of how (operands_of fs))) right))
       | inr low ↦ (
           let same : capped_sum (capped (most fs)) 1 ≡ suc (most fs) = omega arith in
@@ -283,12 +282,12 @@ keep_negated k f =
     elim (cases_lt 32 (height f + k)) [
       | inl high ↦ (
           let h = height f in
-          let left : nat_lt MAX_HEIGHT (capped_sum (capped h) k) ≡ true = lt-ltb 32 (capped_sum (capped h) k) (omega arith) in
-          let right : nat_lt MAX_HEIGHT (h + k) ≡ true = lt-ltb 32 (h + k) high in
+          let left : nat_lt most_height (capped_sum (capped h) k) ≡ true = lt-ltb 32 (capped_sum (capped h) k) (omega arith) in
+          let right : nat_lt most_height (h + k) ≡ true = lt-ltb 32 (h + k) high in
           ap (λ b. cond b (constant true) (negated_times k (keep f))) left ∙ sym (ap (λ b. cond b (constant true) (negated_times k f)) right))
       | inr low ↦ (
           let h = height f in
-          let here : nat_lt MAX_HEIGHT h ≡ false = le-ltb 32 h (omega arith) in
+          let here : nat_lt most_height h ≡ false = le-ltb 32 h (omega arith) in
           let same : capped_sum (capped h) k ≡ h + k = omega arith in
           ap (λ n. kept n (negated_times k (keep f))) same ∙ ap (λ b. kept (h + k) (negated_times k (cond b (constant true) f))) here)
     ]

@@ -3,22 +3,19 @@ pub mod QuotedLemmas
 pub mod Utf8Lemmas
 pub mod UnescapeLemmas
 pub mod NumeralLemmas
+mod StandardFacts
 pub mod StandsLemmas
 pub mod ReadingLemmas
 pub mod QuotedSpelling
-pub mod QuotedEnds
 pub mod WordSpelling
 pub mod SignSpelling
 pub mod NumberSpelling
 pub mod TokenSpelling
-pub mod LexemeCases
-pub mod BadNumbers
 pub mod TextReading
-pub mod Refused
-pub mod SpelledOut
 pub mod FilterTextReading
 pub mod OrderTextReading
 pub mod QueryTextReading
+pub mod ReadQueries
 pub mod PrintedSpelling
 pub mod PrintedReading
 pub mod Runs
@@ -26,10 +23,5 @@ pub mod Capped
 pub mod Steps
 pub mod Frames
 pub mod Shadows
-pub mod Growing
 pub mod Soundness
-pub mod Completing
-pub mod FilterMending
-pub mod OrderMending
-pub mod NumberMending
 pub mod Completeness

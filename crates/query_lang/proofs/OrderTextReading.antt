@@ -5,7 +5,7 @@ use Rattle.std.proofs.lemmas.List.{map-append, length-map}
 use Rattle.query_core.specs.Window.{Order}
 use Rattle.query_lang.specs.declared.order_reader.OrderPending.{OrderPending}
 use Rattle.query_lang.specs.declared.order_reader.OrderPending.TheVariants as pending
-use Rattle.query_lang.specs.declared.order_reader.TheConstants.{MAX_PATHS}
+use Rattle.query_core.specs.Limits.{most_paths}
 use Rattle.query_lang.specs.declared.refusal.Cause.{Cause}
 use Rattle.query_lang.specs.declared.refusal.QueryRefusal.{QueryRefusal}
 use Rattle.query_lang.specs.declared.token.Reserved.TheVariants.{And, Or, Not, In, Has, Exists, True, False, Null, Asc, Desc}
@@ -232,11 +232,11 @@ taken c t x s e follows = let same : x ≡ s = cc in subst (Follows c t) same fo
 item_taken : (s : State) (t : Token) (s' : State) → on_item s (segment_of t) ≡ Ok s'
     → (seg : Segment) × (segment_token seg ≡ t) × (length s.paths < 4) × (record s { pending = pending.Path (segment_key seg ∷ []) } ≡ s')
 unfolding on_item
-item_taken s (name k) s' e = elim (tested (nat_lt (length s.paths) MAX_PATHS)) [
+item_taken s (name k) s' e = elim (tested (nat_lt (length s.paths) most_paths)) [
   | inl room ↦ (let ok : Ok (record s { pending = pending.Path (k ∷ []) }) ≡ Ok s' = rw room at e in (bare k, refl, ltb-true (length s.paths) 4 room, let same : record s { pending = pending.Path (k ∷ []) } ≡ s' = cc in same))
   | inr full ↦ (let no = rw full at e in cc)
 ]
-item_taken s (quoted k) s' e = elim (tested (nat_lt (length s.paths) MAX_PATHS)) [
+item_taken s (quoted k) s' e = elim (tested (nat_lt (length s.paths) most_paths)) [
   | inl room ↦ (let ok : Ok (record s { pending = pending.Path (k ∷ []) }) ≡ Ok s' = rw room at e in (in_quotes k, refl, ltb-true (length s.paths) 4 room, let same : record s { pending = pending.Path (k ∷ []) } ≡ s' = cc in same))
   | inr full ↦ (let no = rw full at e in cc)
 ]

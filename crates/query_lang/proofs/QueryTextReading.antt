@@ -6,19 +6,19 @@ use Rattle.std.proofs.lemmas.Slice.Eq.{bytes_eq-Decides}
 use Rattle.std.specs.Fmt.{decimal}
 use Rattle.std.specs.Str.{bytes_eq}
 use Rattle.query_core.specs.Filters.{Filter, constant, height}
-use Rattle.query_core.specs.Limits.{leaves}
+use Rattle.query_core.specs.Limits.{leaves, most_skip, most_take}
 use Rattle.query_core.specs.Window.{Order}
 use Rattle.query_core.specs.declared.query.Query.{Query}
 use Rattle.query_core.specs.declared.query.Kind.{Kind}
 use Rattle.query_core.specs.declared.query.Kind.TheVariants.{Objects, Ids}
 use Rattle.query_lang.specs.Bytes.{is_digit, is_letter}
 use Rattle.query_lang.specs.declared.query.Fields.{Fields}
-use Rattle.query_lang.specs.declared.query.TheConstants.{MAX_SKIP, MAX_TAKE, DEFAULT_TAKE}
 use Rattle.query_lang.specs.declared.refusal.QueryRefusal.{QueryRefusal}
 use Rattle.query_lang.specs.declared.refusal.QueryRefusal.TheVariants.{Syntax, BadNumber}
 use Rattle.query_lang.specs.FilterReading.{read_filter, ended}
 use Rattle.query_lang.specs.Reading.{tokens}
 use Rattle.query_lang.specs.FilterText.{IsFilterText, decided, IsWhole}
+use Rattle.query_lang.specs.Limits.{usual_take}
 use Rattle.query_lang.specs.Lexing.{number_at, lexeme_at, lexeme}
 use Rattle.query_lang.specs.Numbers.{read_number, number_of_lexeme, number_of_token, number_within}
 use Rattle.query_lang.specs.OrderReading.{read_order}
@@ -215,8 +215,8 @@ unfolding read_query
 query_found collection fields r e =
     elim (bind_ok (filter_field (bytes_of fields.f)) _ r e) [
       | both f f_is e1 ↦ elim (bind_ok (read_order (bytes_of fields.o)) _ r e1) [
-        | both o o_is e2 ↦ elim (bind_ok (number_field 115 0 MAX_SKIP 0 (bytes_of fields.s)) _ r e2) [
-          | both s s_is e3 ↦ elim (bind_ok (number_field 110 1 MAX_TAKE DEFAULT_TAKE (bytes_of fields.n)) _ r e3) [
+        | both o o_is e2 ↦ elim (bind_ok (number_field 115 0 most_skip 0 (bytes_of fields.s)) _ r e2) [
+          | both s s_is e3 ↦ elim (bind_ok (number_field 110 1 most_take usual_take (bytes_of fields.n)) _ r e3) [
             | both n n_is e4 ↦ elim (bind_ok (kind_field (bytes_of fields.k)) _ r e4) [
               | both k k_is e5 ↦ (
                   let q : Query = record { collection = collection; filter = f; order = o; skip = s; take = n } in
@@ -225,8 +225,8 @@ query_found collection fields r e =
                     of_collection = refl;
                     filter = filter_found (bytes_of fields.f) f f_is;
                     order = read_order_text (bytes_of fields.o) o o_is;
-                    skip = number_found 115 0 MAX_SKIP 0 (bytes_of fields.s) s s_is;
-                    take = number_found 110 1 MAX_TAKE DEFAULT_TAKE (bytes_of fields.n) n n_is;
+                    skip = number_found 115 0 most_skip 0 (bytes_of fields.s) s s_is;
+                    take = number_found 110 1 most_take usual_take (bytes_of fields.n) n n_is;
                     kind = kind_found (bytes_of fields.k) k k_is;
                   }))
             ]
@@ -242,8 +242,8 @@ query_only collection fields q k text =
     rw (
       filter_only (bytes_of fields.f) q.filter text.filter,
       order_text_read (bytes_of fields.o) q.order text.order,
-      number_only 115 0 MAX_SKIP 0 (bytes_of fields.s) q.skip (lit< tt) text.skip,
-      number_only 110 1 MAX_TAKE DEFAULT_TAKE (bytes_of fields.n) q.take (lit< tt) text.take,
+      number_only 115 0 most_skip 0 (bytes_of fields.s) q.skip (lit< tt) text.skip,
+      number_only 110 1 most_take usual_take (bytes_of fields.n) q.take (lit< tt) text.take,
       kind_only (bytes_of fields.k) k text.kind,
     )
     (ap (λ c. Ok (record q { collection = c }, k)) (sym text.of_collection))

@@ -10,7 +10,7 @@ use Rattle.query_lang.specs.declared.filter_reader.PathUse.TheVariants.{Exists a
 use Rattle.query_lang.specs.declared.filter_reader.Asked.{Asked}
 use Rattle.query_lang.specs.declared.filter_reader.Asked.TheVariants.{Compare as AsksCompare, Has as AsksHas}
 use Rattle.query_lang.specs.declared.filter_reader.Pending.TheVariants as pending
-use Rattle.query_lang.specs.declared.filter_reader.TheConstants.{MAX_OPEN}
+use Rattle.query_lang.specs.Limits.{most_open}
 use Rattle.query_lang.specs.declared.refusal.Cause.{Cause}
 use Rattle.query_lang.specs.declared.refusal.Cause.TheVariants as cause
 use Rattle.query_lang.specs.declared.refusal.QueryRefusal.TheVariants as refusal
@@ -419,9 +419,9 @@ open_follows : (ws : List Waiting) (w : Waiting) (s : State) (s' : State) → le
     → ShadowFits (inside ws w operand_here) → opened s ≡ Ok s' → Follows (inside ws w operand_here) (sign Open) s'
 unfolding opened
 open_follows ws w s s' outer (ws_fit, ors_fit, ands_fit, here) e =
-    elim (tested (nat_lt (length s.outer) MAX_OPEN)) [
+    elim (tested (nat_lt (length s.outer) most_open)) [
       | inl room ↦ (
-          let lt : length s.outer < MAX_OPEN = ltb-true (length s.outer) MAX_OPEN room in
+          let lt : length s.outer < most_open = ltb-true (length s.outer) most_open room in
           taken (inside ws w operand_here) (sign Open) _ s' (rw room at e) (record {
             shadow = inside (w ∷ ws) nothing operand_here;
             same_pending = refl;

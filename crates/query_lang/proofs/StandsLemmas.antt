@@ -11,7 +11,7 @@ use Rattle.query_lang.specs.FilterReading.{State, may_stand_behind, without_pend
 use Rattle.query_lang.specs.OrderReading as order
 use Rattle.query_lang.specs.declared.order_reader.OrderPending.{OrderPending}
 use Rattle.query_lang.specs.declared.order_reader.OrderPending.TheVariants as pending_o
-use Rattle.query_lang.specs.declared.order_reader.TheConstants.{MAX_PATHS}
+use Rattle.query_core.specs.Limits.{most_paths}
 use Rattle.query_lang.specs.Reading.{example, may_stand}
 
 -- a choice is an `Ok` where its test is true
@@ -63,10 +63,10 @@ stands s what = stands_at s.pending (without_pending s) what
 -- behind this much of a path
 order_stands_at : (p : OrderPending) (s : order.State) (what : Beginning) → order.may_stand_behind (length s.paths) p what ≡ is_ok (order.on_token p s (example what))
 unfolding order.on_token order.on_item order.on_segment order.on_path
-order_stands_at pending_o.Start s beginning.Text = ok_if (nat_lt (length s.paths) MAX_PATHS) (record s { pending = pending_o.Path ([] ∷ []) }) cause.TooManyPaths
+order_stands_at pending_o.Start s beginning.Text = ok_if (nat_lt (length s.paths) most_paths) (record s { pending = pending_o.Path ([] ∷ []) }) cause.TooManyPaths
 order_stands_at pending_o.Start s beginning.Number = refl
 order_stands_at pending_o.Start s beginning.Unequal = refl
-order_stands_at pending_o.Item s beginning.Text = ok_if (nat_lt (length s.paths) MAX_PATHS) (record s { pending = pending_o.Path ([] ∷ []) }) cause.TooManyPaths
+order_stands_at pending_o.Item s beginning.Text = ok_if (nat_lt (length s.paths) most_paths) (record s { pending = pending_o.Path ([] ∷ []) }) cause.TooManyPaths
 order_stands_at pending_o.Item s beginning.Number = refl
 order_stands_at pending_o.Item s beginning.Unequal = refl
 order_stands_at (pending_o.Segment path) s beginning.Text = ok_if (nat_lt (length path) 8) (record s { pending = pending_o.Path (path ++ [] ∷ []) }) cause.Syntax

@@ -12,8 +12,8 @@ use Rattle.query_lang.specs.declared.filter_reader.Level.{Level}
 use Rattle.query_lang.specs.declared.operands.Join.{Join}
 use Rattle.query_lang.specs.declared.operands.Join.TheVariants as join
 use Rattle.query_lang.specs.declared.filter_reader.FilterReader.{FilterReader}
-use Rattle.query_lang.specs.declared.filter_reader.TheConstants.{MAX_LEAVES, MAX_OPEN}
-use Rattle.query_lang.specs.declared.operands.TheConstants.{MAX_HEIGHT}
+use Rattle.query_core.specs.Limits.{most_leaves, most_height}
+use Rattle.query_lang.specs.Limits.{most_segments, most_open}
 use Rattle.query_lang.specs.declared.refusal.Cause.{Cause}
 use Rattle.query_lang.specs.declared.refusal.Cause.TheVariants as cause
 use Rattle.query_lang.specs.declared.token.Reserved.TheVariants.{And, Or, Not, In, Has, Exists, True, False, Null}
@@ -65,7 +65,7 @@ negated_times (suc n) f = negated_times n (negated f)
 -- A filter of this height, where the height is within the limit. A higher one is refused once the whole text was read,
 -- and until then a constant stands in its place.
 abbrev pub kept : ℕ → Filter → Filter
-kept height f = if nat_lt MAX_HEIGHT height then constant true else f
+kept height f = if nat_lt most_height height then constant true else f
 
 -- a level whose next operand is whole, and has this height without its negations
 abbrev pub with_operand : ℕ → Level → Level
@@ -142,11 +142,11 @@ value_of (sign s) = Err cause.Syntax
 
 -- ---- what a token does, by what was read before it
 
--- a segment behind these, of which a path has 8 at most
+-- a segment behind these, of which a path has only so many
 unfoldable pub segment_at : State → PathUse → List (List ℕ) → Option (List ℕ) → Result State Cause
 segment_at s used path None = Err cause.Syntax
 segment_at s used path (Some segment) =
-    if nat_lt (length path) 8 then Ok (record s { pending = pending.Path used (path ++ segment ∷ []) }) else Err cause.Syntax
+    if nat_lt (length path) most_segments then Ok (record s { pending = pending.Path used (path ++ segment ∷ []) }) else Err cause.Syntax
 
 -- a value of a list, behind these
 unfoldable pub item_at : State → List (List ℕ) → List Tree → Result Tree Cause → Result State Cause
@@ -156,7 +156,7 @@ item_at s path values (Err e) = Err e
 -- an opening parenthesis
 unfoldable pub opened : State → Result State Cause
 opened s =
-    if nat_lt (length s.outer) MAX_OPEN then Ok (record s { pending = pending.Operand; level = level_above (length s.operands); outer = s.level ∷ s.outer })
+    if nat_lt (length s.outer) most_open then Ok (record s { pending = pending.Operand; level = level_above (length s.operands); outer = s.level ∷ s.outer })
     else Err cause.TooNested
 
 -- where an operand must come
@@ -261,7 +261,7 @@ step s t = on_token s.pending (without_pending s) t
 abbrev pub may_stand_behind : Pending → Beginning → Bool
 may_stand_behind pending.Operand what = is_text what
 may_stand_behind pending.ExistsSegment what = is_text what
-may_stand_behind (pending.Segment used path) what = is_text what && nat_lt (length path) 8
+may_stand_behind (pending.Segment used path) what = is_text what && nat_lt (length path) most_segments
 may_stand_behind (pending.Path ForExists path) what = false
 may_stand_behind (pending.Path Tested path) what = is_unequal what
 may_stand_behind (pending.Value path asks) what = not (is_unequal what)
@@ -289,8 +289,8 @@ judged s =
     let whole = join_all s in
     let parts = drop whole.level.any_from whole.operands in
     let height = joined_height whole.level.any_height parts in
-    if nat_lt MAX_LEAVES s.leaves then Err (TooMany s.leaves)
-    else (if nat_lt MAX_HEIGHT height then Err (TooDeep height) else Ok (joined join.Or whole.level.any_height parts))
+    if nat_lt most_leaves s.leaves then Err (TooMany s.leaves)
+    else (if nat_lt most_height height then Err (TooDeep height) else Ok (joined join.Or whole.level.any_height parts))
 
 -- a whole filter, or none
 abbrev pub judged_if : ℕ → Result State Cause → Result Filter QueryRefusal

@@ -1,7 +1,7 @@
 -- Which texts are filters, and what is told of one that passes a limit.
 use Rattle.std.specs.Prelude.{◌≡◌, ℕ, ◌-◌, ◌^◌, min, nat_lt, if◌then◌else◌, List, [], Result, Ok, Err}
 use Rattle.query_core.specs.Filters.{Filter, height}
-use Rattle.query_core.specs.Limits.{leaves}
+use Rattle.query_core.specs.Limits.{leaves, most_leaves, most_height}
 use Rattle.query_lang.specs.declared.refusal.QueryRefusal.{QueryRefusal}
 use Rattle.query_lang.specs.declared.refusal.QueryRefusal.TheVariants.{Syntax, BadNumber, TooManyPaths, TooMany, TooNested, TooDeep, Memory}
 use Rattle.query_lang.specs.Grammar.{FilterTree, filter_tokens, filter_meaning, FilterFits}
@@ -21,8 +21,8 @@ capped n = min n (2 ^ 64 - 1)
 -- the filter where it is within the limits of whole filters, or the first limit that it passes
 abbrev pub decided : Filter → Result Filter QueryRefusal
 decided f =
-    if nat_lt 256 (leaves f) then Err (TooMany (capped (leaves f)))
-    else (if nat_lt 32 (height f) then Err (TooDeep (capped (height f))) else Ok f)
+    if nat_lt most_leaves (leaves f) then Err (TooMany (capped (leaves f)))
+    else (if nat_lt most_height (height f) then Err (TooDeep (capped (height f))) else Ok f)
 
 -- the answer is a filter, or tells a limit of whole filters
 abbrev pub IsWhole : Result Filter QueryRefusal → Type 0

@@ -20,6 +20,7 @@ use Rattle.query_core.specs.Filters.{Filter, constant, compared, listed, having,
 use Rattle.query_core.specs.Window.{Order}
 use Rattle.query_lang.specs.declared.token.Reserved.TheVariants.{And, Or, Not, In, Has, Exists, True, False, Null, Asc, Desc}
 use Rattle.query_lang.specs.declared.token.Sign.TheVariants.{Compare, Open, Close, OpenList, CloseList, Comma, Dot}
+use Rattle.query_lang.specs.Limits.{most_segments, most_open}
 use Rattle.query_lang.specs.Tokens.{Token, word, name, quoted, number, sign}
 
 -- ---- segments, paths and values
@@ -198,7 +199,7 @@ abbrev mutual
   atom_meaning (listing s ss vs) = listed (path_keys s ss) (map value_tree vs)
   atom_meaning (holding s ss v) = having (path_keys s ss) (value_tree v)
 
--- Each path has 8 segments at most, and at most 64 parentheses are open, where so many are open around the tree.
+-- Each path has few segments, and few parentheses are open, where so many are open around the tree.
 abbrev mutual
   -- of a filter
   pub FilterFits : ℕ → FilterTree → Type 0
@@ -225,13 +226,13 @@ abbrev mutual
 
   -- of an atom
   pub AtomFits : ℕ → Atom → Type 0
-  AtomFits open_around (nested t) = (open_around < 64) × FilterFits (suc open_around) t
+  AtomFits open_around (nested t) = (open_around < most_open) × FilterFits (suc open_around) t
   AtomFits open_around always = Unit {0}
   AtomFits open_around never = Unit {0}
-  AtomFits open_around (existing s ss) = length ss < 8
-  AtomFits open_around (comparing s ss op v) = length ss < 8
-  AtomFits open_around (listing s ss vs) = length ss < 8
-  AtomFits open_around (holding s ss v) = length ss < 8
+  AtomFits open_around (existing s ss) = length ss < most_segments
+  AtomFits open_around (comparing s ss op v) = length ss < most_segments
+  AtomFits open_around (listing s ss vs) = length ss < most_segments
+  AtomFits open_around (holding s ss v) = length ss < most_segments
 
 -- ---- orders
 
@@ -274,7 +275,7 @@ item_meaning i = (path_keys i.first i.others, is_descending i.direction)
 abbrev pub order_meaning : List Item → Order
 order_meaning is = map item_meaning is
 
--- each path has 8 segments at most
+-- each path has few segments
 abbrev pub ItemsFit : List Item → Type 0
 ItemsFit [] = Unit {0}
-ItemsFit (i ∷ is) = (length i.others < 8) × ItemsFit is
+ItemsFit (i ∷ is) = (length i.others < most_segments) × ItemsFit is

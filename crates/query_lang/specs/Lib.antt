@@ -3,7 +3,7 @@ pub mod FilterReading
 pub mod FilterText
 pub mod Grammar
 pub mod Lexing
-pub mod Mending
+pub mod Limits
 pub mod Numbers
 pub mod OrderReading
 pub mod OrderText
@@ -14,5 +14,6 @@ pub mod Quoted
 pub mod Reading
 pub mod Refusals
 pub mod Seen
+pub mod Sentence
 pub mod Spelling
 pub mod Tokens

@@ -4,7 +4,8 @@ use Rattle.query_core.specs.Window.{Order}
 use Rattle.query_lang.specs.declared.order_reader.OrderPending.{OrderPending}
 use Rattle.query_lang.specs.declared.order_reader.OrderPending.TheVariants as pending
 use Rattle.query_lang.specs.declared.order_reader.OrderReader.{OrderReader}
-use Rattle.query_lang.specs.declared.order_reader.TheConstants.{MAX_PATHS}
+use Rattle.query_core.specs.Limits.{most_paths}
+use Rattle.query_lang.specs.Limits.{most_segments}
 use Rattle.query_lang.specs.declared.refusal.Cause.{Cause}
 use Rattle.query_lang.specs.declared.refusal.Cause.TheVariants as cause
 use Rattle.query_lang.specs.declared.refusal.QueryRefusal.{QueryRefusal}
@@ -39,13 +40,13 @@ with_path path descending after s = record { pending = after; paths = s.paths ++
 unfoldable pub on_item : State → Option (List ℕ) → Result State Cause
 on_item s None = Err cause.Syntax
 on_item s (Some segment) =
-    if nat_lt (length s.paths) MAX_PATHS then Ok (record s { pending = pending.Path (segment ∷ []) }) else Err cause.TooManyPaths
+    if nat_lt (length s.paths) most_paths then Ok (record s { pending = pending.Path (segment ∷ []) }) else Err cause.TooManyPaths
 
--- where a segment must come behind these, of which a path has 8 at most
+-- where a segment must come behind these, of which a path has only so many
 unfoldable pub on_segment : State → List (List ℕ) → Option (List ℕ) → Result State Cause
 on_segment s path None = Err cause.Syntax
 on_segment s path (Some segment) =
-    if nat_lt (length path) 8 then Ok (record s { pending = pending.Path (path ++ segment ∷ []) }) else Err cause.Syntax
+    if nat_lt (length path) most_segments then Ok (record s { pending = pending.Path (path ++ segment ∷ []) }) else Err cause.Syntax
 
 -- behind a segment
 unfoldable pub on_path : State → List (List ℕ) → Token → Result State Cause
@@ -78,9 +79,9 @@ step s t = on_token s.pending (without_pending s) t
 
 -- whether a token of this kind may stand behind so many paths and this much of one
 abbrev pub may_stand_behind : ℕ → OrderPending → Beginning → Bool
-may_stand_behind count pending.Start what = is_text what && nat_lt count MAX_PATHS
-may_stand_behind count pending.Item what = is_text what && nat_lt count MAX_PATHS
-may_stand_behind count (pending.Segment path) what = is_text what && nat_lt (length path) 8
+may_stand_behind count pending.Start what = is_text what && nat_lt count most_paths
+may_stand_behind count pending.Item what = is_text what && nat_lt count most_paths
+may_stand_behind count (pending.Segment path) what = is_text what && nat_lt (length path) most_segments
 may_stand_behind count (pending.Path path) what = false
 may_stand_behind count pending.Joint what = false
 

@@ -7,7 +7,8 @@ use Rattle.query_core.specs.declared.query.Query.{Query}
 use Rattle.query_core.specs.declared.query.Kind.{Kind}
 use Rattle.query_core.specs.declared.query.Kind.TheVariants.{Objects, Ids}
 use Rattle.query_lang.specs.declared.query.Fields.{Fields}
-use Rattle.query_lang.specs.declared.query.TheConstants.{MAX_SKIP, MAX_TAKE, DEFAULT_TAKE}
+use Rattle.query_core.specs.Limits.{most_skip, most_take}
+use Rattle.query_lang.specs.Limits.{usual_take}
 use Rattle.query_lang.specs.declared.refusal.QueryRefusal.{QueryRefusal}
 use Rattle.query_lang.specs.declared.refusal.QueryRefusal.TheVariants.{Syntax}
 use Rattle.query_lang.specs.FilterReading.{read_filter}
@@ -45,7 +46,7 @@ unfoldable pub read_query : List ℕ → Fields → Result (Query × Kind) Query
 read_query collection fields = do
   filter ← filter_field (bytes_of fields.f)
   order ← read_order (bytes_of fields.o)
-  skip ← number_field 115 0 MAX_SKIP 0 (bytes_of fields.s)
-  take ← number_field 110 1 MAX_TAKE DEFAULT_TAKE (bytes_of fields.n)
+  skip ← number_field 115 0 most_skip 0 (bytes_of fields.s)
+  take ← number_field 110 1 most_take usual_take (bytes_of fields.n)
   kind ← kind_field (bytes_of fields.k)
   Ok (record { collection = collection; filter = filter; order = order; skip = skip; take = take }, kind)

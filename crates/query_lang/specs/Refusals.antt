@@ -1,5 +1,5 @@
 -- Refusals, and how an answer of the code stands to the one that is wanted.
-use Rattle.std.specs.Prelude.{◌≡◌, ℕ, List, codes, Option, Some, None, Result, Ok, Err}
+use Rattle.std.specs.Prelude.{◌≡◌, ℕ, List, codes, Result, Ok, Err}
 use Rattle.query_lang.specs.declared.refusal.QueryRefusal.{QueryRefusal}
 use Rattle.query_lang.specs.declared.refusal.QueryRefusal.TheVariants.{Syntax, BadNumber, TooManyPaths, TooMany, TooNested, TooDeep, Memory}
 use Rattle.query_lang.specs.declared.refusal.Cause.{Cause}
@@ -12,16 +12,6 @@ refused field place cause.BadNumber = BadNumber field place
 refused field place cause.TooManyPaths = TooManyPaths place
 refused field place cause.TooNested = TooNested place
 refused field place cause.Memory = Memory
-
--- the place that a refusal tells, if it tells one
-abbrev pub told_place : QueryRefusal → Option ℕ
-told_place (Syntax field place) = Some place
-told_place (BadNumber field place) = Some place
-told_place (TooManyPaths place) = Some place
-told_place (TooMany leaves) = None
-told_place (TooNested place) = Some place
-told_place (TooDeep depth) = None
-told_place Memory = None
 
 -- the refusal's word in replies
 abbrev pub word : QueryRefusal → List ℕ

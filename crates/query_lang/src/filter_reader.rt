@@ -10,20 +10,16 @@ ghost use Rattle.query_lang.specs.FilterReading.{seen, start, kept, negated_time
 ghost use Rattle.query_core.specs.Filters.{constant, listed};
 ghost use Rattle.query_core.specs.Shape.{filter_of};
 
-use crate::operands::{Join, MAX_HEIGHT, joined, negated};
+use crate::limits::{MAX_HEIGHT, MAX_LEAVES, MAX_OPEN};
+use crate::operands::{Join, joined, negated};
 use crate::parts::{segment_text, value_of};
 use crate::refusal::{Cause, QueryRefusal};
 use crate::segments::{Segments, Values};
 use crate::token::{Beginning, Reserved, Sign, TokenKind};
+use q_doc::MAX_SEGMENTS;
 use query_core::{Filter, Form, Op};
 use std::alloc::Global;
 use std::mem;
-
-/// The most atoms and listed values of a filter.
-pub const MAX_LEAVES: usize = 256;
-
-/// The most open parentheses.
-pub const MAX_OPEN: usize = 64;
 
 /// For what a path is read.
 #[derive(Clone, Copy, Debug, PartialEq, Eq)]
@@ -227,7 +223,7 @@ impl FilterReader {
     ) -> Result<(), Cause>
         ensures { Takes (λ _. seen self.new) result (segment_at (seen self.old) used path (segment_of (seen_kind token.entry))) }
     {
-        if path.len() >= 8 {
+        if path.len() >= MAX_SEGMENTS {
             return Err(Cause::Syntax);
         }
         let Some(text) = segment_text(self.alloc, token)? else {
@@ -421,7 +417,7 @@ impl FilterReader {
         match &self.pending {
             Pending::Operand => what.is_text(),
             Pending::ExistsSegment => what.is_text(),
-            Pending::Segment { path, .. } => what.is_text() && path.len() < 8,
+            Pending::Segment { path, .. } => what.is_text() && path.len() < MAX_SEGMENTS,
             Pending::Path { used, .. } => match used {
                 PathUse::Exists => false,
                 PathUse::Tested => what.is_unequal(),

@@ -5,11 +5,9 @@ ghost use Rattle.std.specs.Prelude.{◌≡◌, ◌+◌, ◌-◌, ◌<◌, ◌≤
 ghost use Rattle.query_core.specs.Filters.{constant};
 ghost use Rattle.query_lang.specs.FilterReading.{joined, joined_height, kept, negated_times};
 
+use crate::limits::MAX_HEIGHT;
 use query_core::{Filter, Form};
 use std::alloc::{AllocError, Global};
-
-/// The greatest height of a filter.
-pub const MAX_HEIGHT: usize = 32;
 
 /// How operands are joined.
 #[derive(Clone, Copy)]

@@ -5,17 +5,15 @@ ghost use Rattle.query_lang.specs.Seen.{seen_kind};
 ghost use Rattle.query_lang.specs.FilterReading.{segment_of};
 ghost use Rattle.query_lang.specs.OrderReading.{seen, start, on_item, on_segment, on_path, step, with_path, may_stand_behind, ended, order_rules, without_pending};
 
+use crate::limits::MAX_PATHS;
 use crate::parts::segment_text;
 use crate::refusal::{Cause, QueryRefusal};
 use crate::segments::Segments;
 use crate::token::{Beginning, Reserved, Sign, TokenKind};
-use q_doc::Path;
+use q_doc::{MAX_SEGMENTS, Path};
 use query_core::Order;
 use std::alloc::Global;
 use std::mem;
-
-/// The most paths of an order.
-pub const MAX_PATHS: usize = 4;
 
 /// What was read of a path, and so what may stand next.
 #[derive(Drop)]
@@ -93,7 +91,7 @@ impl OrderReader {
     fn on_segment(&mut self, path: Segments, token: TokenKind<'_>) -> Result<(), Cause>
         ensures { Takes (λ _. seen self.new) result (on_segment (seen self.old) path (segment_of (seen_kind token.entry))) }
     {
-        if path.len() >= 8 {
+        if path.len() >= MAX_SEGMENTS {
             return Err(Cause::Syntax);
         }
         let Some(text) = segment_text(self.alloc, token)? else {
@@ -137,7 +135,7 @@ impl OrderReader {
         match &self.pending {
             OrderPending::Start => what.is_text() && self.paths.len() < MAX_PATHS,
             OrderPending::Item => what.is_text() && self.paths.len() < MAX_PATHS,
-            OrderPending::Segment { path } => what.is_text() && path.len() < 8,
+            OrderPending::Segment { path } => what.is_text() && path.len() < MAX_SEGMENTS,
             OrderPending::Path { .. } => false,
             OrderPending::Joint => false,
         }

@@ -1,5 +1,6 @@
 //! Queries, read from the five fields of a request.
 ghost use Rattle.std.specs.Prelude.{◌≡◌, ◌+◌, ◌-◌, ◌<◌, ◌≤◌, ◌^◌, length, Ok, IfOk};
+ghost use Rattle.query_core.specs.Limits.{IsQuery};
 ghost use Rattle.query_core.specs.declared.query.Query.{Query};
 ghost use Rattle.query_core.specs.declared.query.Kind.{Kind};
 ghost use Rattle.query_lang.specs.Numbers.{read_number, number_within};
@@ -9,21 +10,13 @@ ghost use Rattle.query_lang.specs.Refusals.{Gives};
 
 use crate::bytes::first;
 use crate::lexer::number;
+use crate::limits::{DEFAULT_TAKE, MAX_SKIP, MAX_TAKE};
 use crate::reading::{read_filter, read_order};
 use crate::refusal::QueryRefusal;
 use crate::token::{Lexeme, TokenKind};
 use q_base::Name;
 use query_core::{Filter, Form, Kind, Query};
 use std::alloc::Global;
-
-/// The most rows that a query leaves out.
-pub const MAX_SKIP: u32 = 10_000;
-
-/// The most rows that a query keeps.
-pub const MAX_TAKE: u32 = 1_000;
-
-/// How many rows a query keeps where it does not say.
-pub const DEFAULT_TAKE: u32 = 100;
 
 /// The fields of a query. An absent field and an empty one mean the same.
 #[derive(Clone, Copy)]
@@ -49,6 +42,8 @@ pub fn read_query(
 ) -> Result<(Query, Kind), QueryRefusal>
     // What is read is a query of the grammar, within its limits.
     ensures found { IfOk result (λ read. IsQueryText collection fields.now read.0 read.1) }
+    // It is within all limits, and its texts are UTF-8.
+    ensures is_query { IfOk result (λ read. IsQuery read.0) }
     // Such a query is read, unless memory runs out.
     ensures only { (query : Query) (kind : Kind) → IsQueryText collection fields.now query kind → Gives (λ read. read) result (Ok (query, kind)) }
 
@@ -65,7 +60,8 @@ fn read_fields(
     collection: Name,
     fields: &Fields<'_>,
 ) -> Result<(Query, Kind), QueryRefusal>
-    ensures { Gives (λ read. read) result (read_query collection fields.now) }
+    ensures gives { Gives (λ read. read) result (read_query collection fields.now) }
+    ensures is_query { IfOk result (λ read. IsQuery read.0) }
 {
     let filter = filter_field(alloc, text_of(fields.f))?;
     let order = read_order(alloc, text_of(fields.o))?;

@@ -58,6 +58,11 @@ impl QueryRefusal {
 }
 
 impl fmt::Display for QueryRefusal {
+    ghost use Rattle.std.specs.Prelude.{Some};
+    ghost use Rattle.query_lang.specs.Sentence.{sentence};
+
+    ghost output = { λ refusal. Some (sentence refusal) };
+
     fn fmt<W: fmt::Write>(&self, f: &mut fmt::Formatter<W>) -> fmt::Result {
         match self {
             QueryRefusal::Syntax { field, place } => {

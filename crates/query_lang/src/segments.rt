@@ -1,12 +1,13 @@
 //! The parts of an atom while they are read.
 ghost use Rattle.std.specs.Prelude.{◌≡◌, ◌+◌, ◌<◌, ◌≤◌, length, [], ◌∷◌, ◌++◌, OnOk, IfOk};
 ghost use Rattle.q_doc.specs.PathLength.{IsPath};
+ghost use Rattle.query_lang.specs.Limits.{most_segments};
 
 use q_doc::{Node, Path, Text};
 use std::alloc::{AllocError, Global};
 use std::marker::Model;
 
-/// The segments of a path so far, from 1 to 8. Contracts see the list of them.
+/// The segments of a path so far, at least one, and no more than a path has. Contracts see the list of them.
 #[derive(Drop)]
 pub(crate) struct Segments {
     texts: Vec<Text>,
@@ -33,7 +34,7 @@ impl Segments {
         Ok(Segments { texts })
     }
 
-    /// Whether there are 8 segments.
+    /// The number of segments.
     pub(crate) fn len(&self) -> usize
         ensures { result ≡ length self.now }
     {
@@ -42,7 +43,7 @@ impl Segments {
 
     /// The segments with one more at the end.
     pub(crate) fn with(self, text: Text) -> Result<Segments, AllocError>
-        requires { length self < 8 }
+        requires { length self < most_segments }
         ensures { IfOk result (λ s. s ≡ self ++ text ∷ []) }
     {
         let mut texts = self.texts;
