@@ -131,6 +131,7 @@ impl<V: Drop> ExpiringMap<V> {
         ensures found { is_some result ≡ is_some (lookup (same_key key.now) self.now.entries) }
         ensures within { IfSome result (λ place. place < length self.now.entries) }
         ensures value { IfSome result (λ place. option_map (λ e. e.1) (slice_get self.now.entries place) ≡ lookup (same_key key.now) self.now.entries) }
+        ensures once { IsDistinct same_key (keys_of self.now.entries) }
     {
         self.held.get_index_of(key)
     }
