@@ -287,10 +287,6 @@ ages_then moment first second third a b c (inl before) (inr (kept, is, past, gon
 ages_then moment first second third a b c (inr (kept, is, past, gone, idle)) (inl after) = inr (kept, is, past, after.0 ∙ gone, after.1 ∙ idle)
 ages_then moment first second third a b c (inr (kept, is, past, gone, idle)) (inr (other, other_is, other_past, other_gone, other_idle)) = inr (kept, is, past, other_gone, other_idle)
 
--- nothing yet
-pub ages_none : (moment : ℕ) (before : Option Kept) (was : Bool) → Ages moment before before was was
-ages_none moment before was = inl (refl, refl)
-
 -- the key whose last copy expired went, and no other
 pub ages_expired : (moment : ℕ) (key : KeyShape) (value : Kept) (held rest : Held) (idle after : List KeyShape) → AreTied held → IsDistinct same_key (keys_of (copies_in held)) → Expires moment key value held rest →
     ((q : KeyShape) → list_any (same_key q) after ≡ (same_key key q || list_any (same_key q) idle)) →
@@ -337,7 +333,3 @@ unexpired_all moment held tied later key =
     All-lookup (λ (kept : Kept). moment < last_until kept) (same_key key) (copies_in held)
     (All-map (λ (e : KeyShape × Kept). moment < last_until e.1) (λ (e : KeyShape × Timed Kept). (e.0, e.1.value)) held
     (λ k d low. (let t = tied k d low in let l = later k d low in omega (arith, t, l))))
-
--- the last of one copy
-pub last_one : (kept : Kept) (commit until : ℕ) → kept ≡ record { copies = (commit, until) ∷ []; capacity = 1 } → last_until kept ≡ until
-last_one kept commit until is = ap last_until is ∙ (let e : max until 0 ≡ until = omega arith in e)
