@@ -1,5 +1,5 @@
 -- The held keys and their copies.
-use Rattle.std.proofs.Common.{◌≡◌, ◌⊎◌, cond, zero, ℕ, ◌+◌, ◌<◌, ◌≤◌, suc, max, Bool, true, false, ◌||◌, List, [], ◌∷◌, ◌++◌, length, map, filter, get_or, All, Option, Some, None, IsSome, IfSome, is_some, option_map, nat_lt, position, Result, Ok, Err, OnOk, length-append, refl, sym, ap, ◌∙◌, subst, arith, inl, inr}
+use Rattle.std.proofs.Common.{◌≡◌, cond, zero, ℕ, ◌+◌, ◌<◌, suc, max, Bool, true, false, ◌||◌, List, [], ◌∷◌, ◌++◌, length, map, filter, All, Option, Some, None, IsSome, IfSome, is_some, option_map, nat_lt, position, Result, Ok, Err, OnOk, length-append, refl, sym, ap, ◌∙◌, subst, arith, inl, inr}
 use Rattle.std.specs.List.{list_any, IsDistinct, position_or_len, slice_get}
 use Rattle.std.specs.List.Sorted.{IsPermutation}
 use Rattle.std.specs.Map.{lookup, keys_of, set_value}
@@ -13,7 +13,7 @@ use Rattle.query_normal.specs.declared.key.KeyShape.{KeyShape}
 use Rattle.query_normal.specs.Keys.{same_key}
 use Rattle.query_normal.specs.SameKey.{same_key-Decides, same_key_equiv}
 use Rattle.expiring_map.specs.declared.timed.Timed.{Timed}
-use Rattle.expiring_map.specs.Entries.{with_value_at, extended_at, Removes, Expires}
+use Rattle.expiring_map.specs.Entries.{with_value_at, extended_at, Expires}
 use Rattle.issued_expiries.specs.KeyCopies.{Kept, HasRoom, greatest, is_later, last_until}
 use Rattle.issued_expiries.specs.Entries.{Entries, copies_in, kept_of, held_of, greatest_in, Ages, AreTied, AreUnexpired, Puts, Trims}
 use Rattle.issued_expiries.specs.Copies.{Copy}
