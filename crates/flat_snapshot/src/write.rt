@@ -75,13 +75,7 @@ fn write_fields(
 }
 
 /// The head of a page.
-fn head_of(
-    log2_bits: u8,
-    hashes: u8,
-    front: Commit,
-    commits: Commit,
-    moment: Moment,
-) -> [u8; HEAD_BYTES]
+fn head_of(log2_bits: u8, hashes: u8, front: Commit, commits: Commit, moment: Moment) -> [u8; 30]
     ensures { result ≡ head_text log2_bits hashes front commits moment }
 {
     let f = front.to_be_bytes();
