@@ -1,7 +1,8 @@
 //! What no contract says: that calls succeed where there is memory, on worked queries.
 
 use crate::{
-    Docs, Filter, Form, Op, Order, Query, Row, compare_rows, print_query, satisfies, window,
+    Docs, Filter, Form, Op, Order, Query, Row, compare_rows, print_filter, print_order,
+    print_query, satisfies, window,
 };
 use q_base::Name;
 use q_doc::{Doc, Node, NodeText, Path, Shape, Text};
@@ -161,6 +162,11 @@ fn a_copy_is_printed_as_the_query_is(rt: HostRuntime) -> Result<(), Fail> {
     let printed = print_query(rt.alloc(), &copy)?;
     let wanted = b"f=(not a < 3 or b in [1, \"x\\\"\"]) and exists \"in\";o=b desc;s=5;n=10";
     assert_eq!(rt; printed.as_slice(), wanted.as_slice());
+    let filter = print_filter(rt.alloc(), &query.filter)?;
+    let order = print_order(rt.alloc(), &query.order)?;
+    let wanted = b"(not a < 3 or b in [1, \"x\\\"\"]) and exists \"in\"";
+    assert_eq!(rt; filter.as_slice(), wanted.as_slice());
+    assert_eq!(rt; order.as_slice(), b"b desc".as_slice());
     Ok(())
 }
 
