@@ -8,8 +8,8 @@ use Rattle.http_message.specs.declared.line.Sought.{Sought}
 use Rattle.http_message.specs.declared.line.Sought.TheVariants.{Line, Trailers}
 use Rattle.http_message.specs.declared.line.TextFound.{TextFound}
 use Rattle.http_message.specs.declared.line.TextFound.TheVariants.{Whole, Overlong}
-use Rattle.http_message.specs.declared.scan.End.{End as TextEnd}
-use Rattle.http_message.specs.declared.scan.End.TheVariants.{At, Behind}
+use Rattle.http_message.specs.declared.scan.TextEnd.{TextEnd}
+use Rattle.http_message.specs.declared.scan.TextEnd.TheVariants.{At, Behind}
 use Rattle.http_message.specs.declared.stopped.Stopped.{Stopped}
 
 -- the length of what is looked for, where it is whole

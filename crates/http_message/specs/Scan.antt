@@ -3,8 +3,8 @@ use Rattle.std.specs.Prelude.{◌≡◌, ℕ, ◌+◌, ◌<◌, ◌≤◌, List,
 use Rattle.httparse.specs.Ascii.{line_feed, carriage_return}
 use Rattle.http_message.specs.Text.{empty_line, blank_length, head_length}
 use Rattle.http_message.specs.declared.scan.Scan.{Scan}
-use Rattle.http_message.specs.declared.scan.End.{End}
-use Rattle.http_message.specs.declared.scan.End.TheVariants.{At, Behind}
+use Rattle.http_message.specs.declared.scan.TextEnd.{TextEnd}
+use Rattle.http_message.specs.declared.scan.TextEnd.TheVariants.{At, Behind}
 
 -- the empty line at the front has this length, whatever follows
 pub record IsLine (rest : List ℕ) (size : ℕ) : Type 0 where
@@ -39,6 +39,6 @@ pub record IsFeed (bytes : List ℕ) (feed : ℕ) : Type 0 where
   pub is : slice_index bytes feed ≡ line_feed
 
 -- where a head ends, or that it does not yet
-abbrev pub IsEnd : List ℕ → End → Type 0
+abbrev pub IsEnd : List ℕ → TextEnd → Type 0
 IsEnd bytes (At size) = head_length bytes ≡ Some size
 IsEnd bytes (Behind passed) = (head_length bytes ≡ None) × Passes bytes passed

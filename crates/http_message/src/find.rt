@@ -7,7 +7,7 @@ ghost use Rattle.http_message.specs.Text.{window};
 
 use crate::input::Input;
 use crate::limits::HEAD_LIMIT;
-use crate::scan::{End, Scan, begins_bare_return, find_end, pass_blank};
+use crate::scan::{Scan, TextEnd, begins_bare_return, find_head_end, pass_blank};
 use crate::stopped::Stopped;
 use q_outside::Source;
 
@@ -50,13 +50,13 @@ fn look(bytes: &[u8], scan: Scan) -> Result<Found, Scan>
     if begins_bare_return(rest) {
         return Ok(Found::BareReturn { lead: scan.blank });
     }
-    match find_end(rest, scan.passed) {
-        End::At(size) => Ok(Found::Text {
+    match find_head_end(rest, scan.passed) {
+        TextEnd::At(size) => Ok(Found::Text {
             lead: scan.blank,
             size,
         }),
-        End::Behind(_) if bytes.len() >= HEAD_LIMIT => Ok(Found::TooLarge),
-        End::Behind(passed) => Err(Scan {
+        TextEnd::Behind(_) if bytes.len() >= HEAD_LIMIT => Ok(Found::TooLarge),
+        TextEnd::Behind(passed) => Err(Scan {
             blank: scan.blank,
             passed,
         }),

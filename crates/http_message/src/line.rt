@@ -8,7 +8,7 @@ ghost use Rattle.http_message.specs.Scan.{Passes};
 ghost use Rattle.http_message.specs.declared.line.Sought.TheVariants.{Line, Trailers};
 
 use crate::input::Input;
-use crate::scan::{End, empty_line, find_end};
+use crate::scan::{TextEnd, empty_line, find_head_end};
 use crate::stopped::Stopped;
 use memchr::memchr;
 use q_outside::Source;
@@ -61,9 +61,9 @@ fn look_for(bytes: &[u8], sought: Sought, room: usize, passed: usize) -> Result<
     ensures { IsSight sought room bytes.now result }
 {
     match end_of(first(bytes, room), sought, passed) {
-        End::At(size) => Ok(TextFound::Whole(size)),
-        End::Behind(_) if bytes.len() >= room => Ok(TextFound::Overlong),
-        End::Behind(further) => Err(further),
+        TextEnd::At(size) => Ok(TextFound::Whole(size)),
+        TextEnd::Behind(_) if bytes.len() >= room => Ok(TextFound::Overlong),
+        TextEnd::Behind(further) => Err(further),
     }
 }
 
@@ -78,7 +78,7 @@ fn first(bytes: &[u8], most: usize) -> &[u8]
 }
 
 /// Where it ends, which it does not in the bytes that were passed.
-fn end_of(bytes: &[u8], sought: Sought, passed: usize) -> End
+fn end_of(bytes: &[u8], sought: Sought, passed: usize) -> TextEnd
     requires { IsPassed sought bytes.now passed }
     ensures { IsEndOf sought bytes.now result }
 {
@@ -89,24 +89,24 @@ fn end_of(bytes: &[u8], sought: Sought, passed: usize) -> End
 }
 
 /// Where the line ends.
-fn line_end(bytes: &[u8], passed: usize) -> End
+fn line_end(bytes: &[u8], passed: usize) -> TextEnd
     requires { PassesLine bytes.now passed }
     ensures { IsEndOf Line bytes.now result }
 {
     match memchr(b'\n', &bytes[passed..]) {
-        None => End::Behind(bytes.len()),
-        Some(place) => End::At(passed + place + 1),
+        None => TextEnd::Behind(bytes.len()),
+        Some(place) => TextEnd::At(passed + place + 1),
     }
 }
 
 /// Where the trailers end.
-fn trailers_end(bytes: &[u8], passed: usize) -> End
+fn trailers_end(bytes: &[u8], passed: usize) -> TextEnd
     requires { Passes bytes.now passed }
     ensures { IsEndOf Trailers bytes.now result }
 {
     match empty_line(bytes) {
-        None => End::Behind(0),
-        Some(0) => find_end(bytes, passed),
-        Some(size) => End::At(size),
+        None => TextEnd::Behind(0),
+        Some(0) => find_head_end(bytes, passed),
+        Some(size) => TextEnd::At(size),
     }
 }

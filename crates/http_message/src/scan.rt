@@ -22,10 +22,10 @@ impl Scan {
     };
 }
 
-/// Where a head ends.
+/// Where a text ends: a head, a chunk's line, or trailers.
 #[derive(Clone, Copy, Debug, PartialEq, Eq)]
-pub enum End {
-    /// The length of the head.
+pub enum TextEnd {
+    /// The length of the text.
     At(usize),
     /// The length of the bytes in which it does not end.
     Behind(usize),
@@ -91,20 +91,21 @@ pub fn begins_bare_return(rest: &[u8]) -> bool
     rest.len() >= 2 && rest[0] == b'\r' && rest[1] != b'\n'
 }
 
-/// Where the head ends, which it does not in the bytes that were passed.
-pub fn find_end(rest: &[u8], passed: usize) -> End
+/// Where the head ends, which it does not in the bytes that were passed. It serves for the head of a
+/// request and for that of a response.
+pub fn find_head_end(rest: &[u8], passed: usize) -> TextEnd
     requires { Passes rest.now passed }
     ensures { IsEnd rest.now result }
 {
     let mut at = passed;
     loop {
         let Some(feed) = next_line_feed(rest, at) else {
-            return End::Behind(rest.len());
+            return TextEnd::Behind(rest.len());
         };
         match empty_line(&rest[feed + 1..]) {
-            None => return End::Behind(feed),
+            None => return TextEnd::Behind(feed),
             Some(0) => at = feed + 1,
-            Some(size) => return End::At(feed + 1 + size),
+            Some(size) => return TextEnd::At(feed + 1 + size),
         }
     }
 }
