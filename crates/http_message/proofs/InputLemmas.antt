@@ -102,29 +102,27 @@ module _ (short : List ℕ → Type 0) where
   stop_is first middle last xs ys zs stopped a b cut =
       (subst short (sym b.same) cut, stopped_later first middle last stopped a.took.count b.is)
 
--- what a call did may be said otherwise
-pub reads_as : {T U : Type 0} (source last : End) (held rest : List ℕ) (short others : List ℕ → Type 0)
-    (is : T → List ℕ → Type 0) (later : U → List ℕ → Type 0) (reply : T) (answer : U)
-    → ((bytes : List ℕ) → short bytes → others bytes) → ((bytes : List ℕ) → is reply bytes → later answer bytes)
-    → Reads source last held rest short is (Ok reply) → Reads source last held rest others later (Ok answer)
-reads_as source last held rest short others is later reply answer cut fine r = record {
-  got = r.got;
-  took = r.took;
-  waits = elim r.waits [ inl idle ↦ inl idle | inr few ↦ inr (cut held few) ];
-  came = record { used = r.came.used; splits = r.came.splits; says = fine r.came.used r.came.says };
-}
+-- What a call did may be said otherwise.
+module _ {T U : Type 0} {source last : End} {held rest : List ℕ} {short : List ℕ → Type 0} {is : T → List ℕ → Type 0}
+    (others : List ℕ → Type 0) (later : U → List ℕ → Type 0) (cut : (bytes : List ℕ) → short bytes → others bytes) where
+  pub reads_as : {reply : T} (answer : U) → Reads source last held rest short is (Ok reply)
+      → ((bytes : List ℕ) → is reply bytes → later answer bytes) → Reads source last held rest others later (Ok answer)
+  reads_as answer r fine = record {
+    got = r.got;
+    took = r.took;
+    waits = elim r.waits [ inl idle ↦ inl idle | inr few ↦ inr (cut held few) ];
+    came = record { used = r.came.used; splits = r.came.splits; says = fine r.came.used r.came.says };
+  }
 
--- and why it stopped
-pub reads_stop : {T U : Type 0} (source last : End) (held rest rest' : List ℕ) (short others : List ℕ → Type 0)
-    (is : T → List ℕ → Type 0) (later : U → List ℕ → Type 0) (stopped : Stopped)
-    → ((bytes : List ℕ) → short bytes → others bytes) → Reads source last held rest short is (Err stopped)
-    → Reads source last held rest' others later (Err stopped)
-reads_stop source last held rest rest' short others is later stopped cut r = record {
-  got = r.got;
-  took = r.took;
-  waits = elim r.waits [ inl idle ↦ inl idle | inr few ↦ inr (cut held few) ];
-  came = (cut (held ++ r.got) r.came.0, r.came.1);
-}
+  -- and why it stopped
+  pub reads_stop : {stopped : Stopped} (rest' : List ℕ) → Reads source last held rest short is (Err stopped)
+      → Reads source last held rest' others later (Err stopped)
+  reads_stop rest' r = record {
+    got = r.got;
+    took = r.took;
+    waits = elim r.waits [ inl idle ↦ inl idle | inr few ↦ inr (cut held few) ];
+    came = (cut (held ++ r.got) r.came.0, r.came.1);
+  }
 
 -- A call that used bytes, and a second one that is made behind them.
 pub record Behind
@@ -135,7 +133,7 @@ pub record Behind
   pub cut : (bytes : List ℕ) → short bytes → others bytes
   pub cut_behind : (bytes : List ℕ) → behind bytes → others (used ++ bytes)
 
-module _ (source middle last : End) (held rest got used : List ℕ) (short behind others : List ℕ → Type 0)
+module _ {source middle last : End} {held rest got used : List ℕ} {short behind others : List ℕ → Type 0}
     (first : Behind source middle last held rest got used short behind others) where
   -- all the bytes
   behind_all : (more : List ℕ) → used ++ (rest ++ more) ≡ held ++ (got ++ more)

@@ -43,8 +43,7 @@ pub content_reads : {T : Type 0} (source middle last : End) (held rest held' int
     → Reads source last held held' (λ bytes. length bytes < length into + 2) (IsContent into) result
 content_reads {T} source middle last held rest held' into filled result first second =
     let used = first.came.used in
-    reads_behind source middle last held rest first.got used
-    (λ bytes. length bytes < length into) (λ bytes. length bytes < 2) (λ bytes. length bytes < length into + 2)
+    reads_behind
     (behind_read source middle last held rest (λ bytes. length bytes < length into) (λ (_ : T) xs. xs ≡ into)
     (λ bytes. length bytes < 2) (λ bytes. length bytes < length into + 2) filled first
     (λ bytes few. omega (arith, few)) (λ bytes few. content_short into used bytes first.came.says few))
@@ -64,27 +63,23 @@ module _ (source last : End) (held rest held' content body body' : List ℕ) (at
   pub chunk_stops : (rest' : List ℕ) (stopped : Stopped)
       → Reads source last rest held' (λ bytes. length bytes < length content + 2) (IsContent content) (Err stopped)
       → Reads source last held rest' (IsCutShort at.coded at.got) (IsPart at body body') (Err stopped)
-  chunk_stops rest' stopped second =
-      behind_stop source source last held rest [] (take line held) (λ _. ⊥) (λ bytes. length bytes < length content + 2)
-      (IsCutShort at.coded at.got) chunk_behind held' rest' (IsContent content) (IsPart at body body') stopped second
+  chunk_stops rest' stopped = behind_stop chunk_behind held' rest' (IsContent content) (IsPart at body body') stopped
 
   pub chunk_taken : (next : Progress) → next.coded ≡ at.coded + line + size + 2 → next.got ≡ at.got + size
       → take next.got body' ≡ take at.got body ++ content
       → Reads source last rest held' (λ bytes. length bytes < length content + 2) (IsContent content) (Ok true)
       → Reads source last held held' (IsCutShort at.coded at.got) (IsPart at body body') (Ok (part.Chunk next))
-  chunk_taken next coded_is got_is content_is second =
-      behind_ok source source last held rest [] (take line held) (λ _. ⊥) (λ bytes. length bytes < length content + 2)
-      (IsCutShort at.coded at.got) chunk_behind held' (IsContent content) (IsPart at body body') true (part.Chunk next)
-      (λ bytes came. chunk_whole at line size held a some fit next content body body' bytes size_is coded_is got_is content_is came) second
+  chunk_taken next coded_is got_is content_is =
+      behind_ok chunk_behind held' (IsContent content) (IsPart at body body') true (part.Chunk next)
+      (λ bytes came. chunk_whole at line size held a some fit next content body body' bytes size_is coded_is got_is content_is came)
 
   pub chunk_refused : Reads source last rest held' (λ bytes. length bytes < length content + 2) (IsContent content) (Ok false)
       → Reads source last held held' (IsCutShort at.coded at.got) (IsPart at body body')
       (Ok (part.Broken BadLength (at.coded + line + size + 2)))
-  chunk_refused second =
-      behind_ok source source last held rest [] (take line held) (λ _. ⊥) (λ bytes. length bytes < length content + 2)
-      (IsCutShort at.coded at.got) chunk_behind held' (IsContent content) (IsPart at body body') false
+  chunk_refused =
+      behind_ok chunk_behind held' (IsContent content) (IsPart at body body') false
       (part.Broken BadLength (at.coded + line + size + 2))
-      (λ bytes came. chunk_bad at line size held a some fit content bytes size_is came) second
+      (λ bytes came. chunk_bad at line size held a some fit content bytes size_is came)
 
 -- the last line was taken
 pub ending_reads : (source last : End) (held rest held' body : List ℕ) (at : Progress) (line : ℕ) (result : Result Part Stopped)
@@ -92,8 +87,7 @@ pub ending_reads : (source last : End) (held rest held' body : List ℕ) (at : P
     → Reads source last rest held' (λ bytes. EndsCoding (at.coded + line) bytes Unfinished) (IsEnding (at.coded + line)) result
     → Reads source last held held' (IsCutShort at.coded at.got) (IsPart at body body) result
 ending_reads source last held rest held' body at line result a skipped second =
-    reads_behind source source last held rest [] (take line held) (λ _. ⊥)
-    (λ bytes. EndsCoding (at.coded + line) bytes Unfinished) (IsCutShort at.coded at.got)
+    reads_behind
     (behind_held source last held rest line (λ bytes. EndsCoding (at.coded + line) bytes Unfinished) (IsCutShort at.coded at.got)
     skipped (ending_short at line held a))
     held' (IsEnding (at.coded + line)) (IsPart at body body) result (ending_part at line held a body) second
@@ -104,12 +98,11 @@ module _ (source middle : End) (held grown : List ℕ) (at : Progress) (most : �
   pub part_reads : (last : End) (held' body body' : List ℕ) (result : Result Part Stopped)
       → Reads middle last grown held' (IsCutShort at.coded at.got) (IsPart at body body') result
       → Reads source last held held' (IsCutShort at.coded at.got) (IsPart at body body') result
-  part_reads last held' body body' result second =
-      reads_behind source middle last held grown grows.got [] (IsOpenIn Line most) (IsCutShort at.coded at.got)
-      (IsCutShort at.coded at.got)
+  part_reads last held' body body' result =
+      reads_behind
       (behind_grown source middle last held grown (IsOpenIn Line most) (IsCutShort at.coded at.got) (IsCutShort at.coded at.got) grows
       (line_short at.coded at.got most is) (λ bytes cut. cut))
-      held' (IsPart at body body') (IsPart at body body') result (λ reply bytes came. came) second
+      held' (IsPart at body body') (IsPart at body body') result (λ reply bytes came. came)
 
   pub part_overlong : (rest body body' : List ℕ) → Overruns Line most grown → rest ≡ drop most grown
       → Reads source middle held rest (IsCutShort at.coded at.got) (IsPart at body body')
@@ -121,9 +114,9 @@ module _ (source middle : End) (held grown : List ℕ) (at : Progress) (most : �
 
   pub part_stops : (rest body body' : List ℕ) (stopped : Stopped) → IsOpenIn Line most grown × IsStopped source middle stopped
       → Reads source middle held rest (IsCutShort at.coded at.got) (IsPart at body body') (Err stopped)
-  part_stops rest body body' stopped why =
+  part_stops rest body body' stopped =
       reads_short source middle held grown rest (IsOpenIn Line most) (IsCutShort at.coded at.got) (IsPart at body body') stopped grows
-      (line_short at.coded at.got most is) why
+      (line_short at.coded at.got most is)
 
 -- a part behind the chunks so far
 module _ (source middle last : End) (held grown held' body body' : List ℕ) (at : Progress)
@@ -136,36 +129,31 @@ module _ (source middle last : End) (held grown held' body body' : List ℕ) (at
   pub coding_more : (next : Progress)
       → Reads middle last grown held' (IsCutShort at.coded at.got) (IsPart at body body') (Ok (part.Chunk next))
       → Reads source last held held' (IsCutShort 0 0) (DecodesTo body') (Ok next)
-  coding_more next second =
-      behind_ok source middle last held grown d.got d.came.used (IsCutShort 0 0) (IsCutShort at.coded at.got) (IsCutShort 0 0)
-      chunks_behind held' (IsPart at body body') (DecodesTo body') (part.Chunk next) next
-      (λ bytes came. decoding_more body body' at next d.came.used d.came.says bytes came) second
+  coding_more next =
+      behind_ok chunks_behind held' (IsPart at body body') (DecodesTo body') (part.Chunk next) next
+      (λ bytes came. decoding_more body body' at next d.came.used d.came.says bytes came)
 
   pub coding_ends : (total : ℕ)
       → Reads middle last grown held' (IsCutShort at.coded at.got) (IsPart at body body') (Ok (part.End total))
       → Reads source last held held' (IsCutShort 0 0) (IsCoded body') (Ok (coded.Whole at.got total))
-  coding_ends total second =
-      behind_ok source middle last held grown d.got d.came.used (IsCutShort 0 0) (IsCutShort at.coded at.got) (IsCutShort 0 0)
-      chunks_behind held' (IsPart at body body') (IsCoded body') (part.End total) (coded.Whole at.got total)
+  coding_ends total =
+      behind_ok chunks_behind held' (IsPart at body body') (IsCoded body') (part.End total) (coded.Whole at.got total)
       (λ bytes came.
       let P : List ℕ → Type 0 = λ xs. IsCoded xs (coded.Whole at.got total) (d.came.used ++ bytes) in
       subst P (sym came.1)
-      (d.came.says.limits.got, decoding_ends body at total d.came.used d.came.says bytes came.0)) second
+      (d.came.says.limits.got, decoding_ends body at total d.came.used d.came.says bytes came.0))
 
   pub coding_breaks : (refused : FramingRefusal) (total : ℕ)
       → Reads middle last grown held' (IsCutShort at.coded at.got) (IsPart at body body') (Ok (part.Broken refused total))
       → Reads source last held held' (IsCutShort 0 0) (IsCoded body') (Ok (coded.Broken refused total))
-  coding_breaks refused total second =
-      behind_ok source middle last held grown d.got d.came.used (IsCutShort 0 0) (IsCutShort at.coded at.got) (IsCutShort 0 0)
-      chunks_behind held' (IsPart at body body') (IsCoded body') (part.Broken refused total) (coded.Broken refused total)
-      (λ bytes came. decoding_breaks body at total refused d.came.used d.came.says bytes came) second
+  coding_breaks refused total =
+      behind_ok chunks_behind held' (IsPart at body body') (IsCoded body') (part.Broken refused total) (coded.Broken refused total)
+      (λ bytes came. decoding_breaks body at total refused d.came.used d.came.says bytes came)
 
   pub coding_stops : (rest' : List ℕ) (stopped : Stopped)
       → Reads middle last grown held' (IsCutShort at.coded at.got) (IsPart at body body') (Err stopped)
       → Reads source last held rest' (IsCutShort 0 0) (IsCoded body') (Err stopped)
-  coding_stops rest' stopped second =
-      behind_stop source middle last held grown d.got d.came.used (IsCutShort 0 0) (IsCutShort at.coded at.got) (IsCutShort 0 0)
-      chunks_behind held' rest' (IsPart at body body') (IsCoded body') stopped second
+  coding_stops rest' stopped = behind_stop chunks_behind held' rest' (IsPart at body body') (IsCoded body') stopped
 
 -- a body of a stated length
 module _ {T : Type 0} (source last : End) (held held' into behind : List ℕ) (size : ℕ) (long : length into ≡ size) where
@@ -173,24 +161,20 @@ module _ {T : Type 0} (source last : End) (held held' into behind : List ℕ) (s
       → Reads source last held held' (λ bytes. length bytes < length into) (λ (_ : T) used. used ≡ into) (Ok filled)
       → Reads source last held held' (IsCut (Sized size)) (IsBody (Sized size) (into ++ behind)) (Ok (coded.Whole size size))
   sized_reads filled small first =
-      reads_as source last held held' (λ bytes. length bytes < length into) (IsCut (Sized size)) (λ (_ : T) used. used ≡ into)
-      (IsBody (Sized size) (into ++ behind)) filled (coded.Whole size size) (cut_sized size (length into) long)
-      (λ bytes same. body_sized into behind bytes size long small same) first
+      reads_as (IsCut (Sized size)) (IsBody (Sized size) (into ++ behind)) (cut_sized size (length into) long)
+      (coded.Whole size size) first (λ bytes same. body_sized into behind bytes size long small same)
 
   pub sized_stops : (rest' : List ℕ) (stopped : Stopped)
       → Reads source last held held' (λ bytes. length bytes < length into) (λ (_ : T) used. used ≡ into) (Err stopped)
       → Reads source last held rest' (IsCut (Sized size)) (IsBody (Sized size) (into ++ behind)) (Err stopped)
   sized_stops rest' stopped first =
-      reads_stop source last held held' rest' (λ bytes. length bytes < length into) (IsCut (Sized size)) (λ (_ : T) used. used ≡ into)
-      (IsBody (Sized size) (into ++ behind)) stopped (cut_sized size (length into) long) first
+      reads_stop (IsCut (Sized size)) (IsBody (Sized size) (into ++ behind)) (cut_sized size (length into) long) rest' first
 
 -- and a chunked one
 pub coded_reads : (source last : End) (held held' body : List ℕ) (result : Result Coded Stopped) → length body ≡ body_limit
     → Reads source last held held' (IsCutShort 0 0) (IsCoded body) result
     → Reads source last held held' (IsCut Chunked) (IsBody Chunked body) result
 coded_reads source last held held' body (Ok answer) long r =
-    reads_as source last held held' (IsCutShort 0 0) (IsCut Chunked) (IsCoded body) (IsBody Chunked body) answer answer
-    (λ bytes cut. chunked bytes cut) (body_coded body long answer) r
+    reads_as (IsCut Chunked) (IsBody Chunked body) (λ (bytes : List ℕ) (cut : IsCutShort 0 0 bytes). chunked bytes cut) answer r (body_coded body long answer)
 coded_reads source last held held' body (Err stopped) long r =
-    reads_stop source last held held' held' (IsCutShort 0 0) (IsCut Chunked) (IsCoded body) (IsBody Chunked body) stopped
-    (λ bytes cut. chunked bytes cut) r
+    reads_stop (IsCut Chunked) (IsBody Chunked body) (λ (bytes : List ℕ) (cut : IsCutShort 0 0 bytes). chunked bytes cut) held' r
