@@ -10,9 +10,10 @@ mod HeadLemmas
 mod InputLemmas
 mod ItemLemmas
 mod LineLemmas
-mod LookLemmas
+pub mod LookLemmas
 mod OptionLemmas
-mod ScanLemmas
+mod PartLemmas
+pub mod ScanLemmas
 pub mod SplitLemmas
 mod StandardFacts
 mod StepLemmas

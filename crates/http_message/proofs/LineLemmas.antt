@@ -9,8 +9,8 @@ use Rattle.http_message.specs.Scan.{IsLine, IsEnd}
 use Rattle.http_message.specs.Text.{empty_line, head_length}
 use Rattle.http_message.specs.declared.line.Sought.{Sought}
 use Rattle.http_message.specs.declared.line.Sought.TheVariants.{Line, Trailers}
-use Rattle.http_message.specs.declared.scan.End.{End}
-use Rattle.http_message.specs.declared.scan.End.TheVariants.{At, Behind}
+use Rattle.http_message.specs.declared.scan.TextEnd.{TextEnd}
+use Rattle.http_message.specs.declared.scan.TextEnd.TheVariants.{At, Behind}
 use Rattle.http_message.proofs.FrontLemmas.{line_front, line_cut, line_fits, head_bounds, head_cut, suc_inv, take_past}
 use Rattle.http_message.proofs.LookLemmas.{passes_append}
 use Rattle.http_message.proofs.ScanLemmas.{step_step, suc_step, no_step}
@@ -264,6 +264,6 @@ overlong_here sought most bytes more is size =
 pub line_here : (bytes : List ℕ) (size : ℕ) → IsLine bytes size → empty_line bytes ≡ size
 line_here bytes size line = ap empty_line (sym (append-nil bytes)) ∙ line.all []
 
-pub end_filled : (bytes : List ℕ) (end : End) → IsLine bytes 0 → IsEnd bytes end → IsEndOf Trailers bytes end
+pub end_filled : (bytes : List ℕ) (end : TextEnd) → IsLine bytes 0 → IsEnd bytes end → IsEndOf Trailers bytes end
 end_filled bytes (At size) line is = trailers_filled bytes (line_here bytes 0 line) ∙ is
 end_filled bytes (Behind passed) line is = (trailers_filled bytes (line_here bytes 0 line) ∙ is.0, is.1)

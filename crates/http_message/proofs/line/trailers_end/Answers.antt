@@ -4,8 +4,8 @@ use Rattle.http_message.proofs.line.trailers_end.Goals as goal
 
 pub returns-in-Some-eq0 : goal.returns-in-Some-eq0
 returns-in-Some-eq0 c =
-    end_filled c.args.bytes.now c.find_end.result (rw c.in-Some-eq0.field-0-test at c.in-Some-eq0.ensures.some)
-    c.find_end.ensures
+    end_filled c.args.bytes.now c.find_head_end.result (rw c.in-Some-eq0.field-0-test at c.in-Some-eq0.ensures.some)
+    c.find_head_end.ensures
 
 pub returns-in-Some : goal.returns-in-Some
 returns-in-Some c =

@@ -1,6 +1,6 @@
 use Rattle.std.proofs.Common.{◌-◌, length}
 use Rattle.http_message.specs.Scan.{Passes}
-use Rattle.http_message.proofs.scan.find_end.Given as goal
+use Rattle.http_message.proofs.scan.find_head_end.Given as goal
 
 abbrev pub invariant-loop-feed : goal.invariant-loop-feed
 invariant-loop-feed l = Passes l.rest l.at

@@ -1,7 +1,7 @@
 use Rattle.std.proofs.Common.{◌<◌, arith}
 use Rattle.std.proofs.lemmas.List.{take_rest}
 use Rattle.http_message.proofs.ScanLemmas.{feed_cut, feed_ends, passes_feed, passes_all}
-use Rattle.http_message.proofs.scan.find_end.Goals as goal
+use Rattle.http_message.proofs.scan.find_head_end.Goals as goal
 
 pub returns-in_default : goal.returns-in_default
 returns-in_default c =
