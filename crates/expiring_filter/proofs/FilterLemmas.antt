@@ -1,5 +1,5 @@
 -- What a filter shows of what it keeps.
-use Rattle.std.proofs.Common.{◌≡◌, ℕ, zero, suc, ◌+◌, ◌*◌, ◌/◌, ◌^◌, ◌<◌, ◌≤◌, Bool, true, false, List, [], ◌∷◌, length, map, get_or, All, Option, Some, None, IfSome, find, position, is_some, replicate, nat_lt, max, refl, sym, ap, ◌∙◌, subst, arith, inl, inr, ◌-◌, ◌%◌, lit<, pow-add}
+use Rattle.std.proofs.Common.{◌≡◌, ℕ, zero, suc, ◌+◌, ◌*◌, ◌/◌, ◌^◌, ◌<◌, ◌≤◌, Bool, true, false, List, [], ◌∷◌, length, map, get_or, All, Option, Some, None, IfSome, find, position, is_some, replicate, nat_lt, refl, sym, ap, ◌∙◌, subst, arith, inl, inr, ◌-◌, ◌%◌, lit<, pow-add}
 use Rattle.std.proofs.Math.Nat.{pow-le-pow_right, mod-eq_of_lt, one-mul}
 use Rattle.std.specs.List.{range_with_len}
 use Rattle.std.specs.Map.{lookup}
@@ -14,7 +14,7 @@ use Rattle.std.proofs.lemmas.Map.Made.{IfSome-find_same}
 use Rattle.std.proofs.lemmas.Bool.{cases_Bool}
 use Rattle.std.proofs.lemmas.List.{ext_get_or, length-map, get_or-map, length-replicate, get_or-replicate}
 use Rattle.std.proofs.lemmas.List.FromFn.{length-map-range_with_len, get_or-map-range_with_len}
-use Rattle.std.proofs.lemmas.List.Sorted.{All-permutation, IsPermutation-refl}
+use Rattle.std.proofs.lemmas.List.Sorted.{IsPermutation-refl}
 use Rattle.query_normal.specs.declared.key.KeyShape.{KeyShape}
 use Rattle.query_normal.specs.Keys.{same_key}
 use Rattle.query_normal.specs.SameKey.{same_key-Decides}
@@ -23,7 +23,7 @@ use Rattle.query_normal.specs.Bits.{flat_bits}
 use Rattle.query_normal.proofs.BitLemmas.{flat_bits-zeros}
 use Rattle.expiring_filter.specs.Counts.{IsFlat}
 use Rattle.expiring_filter.specs.Due.{queue_cmp}
-use Rattle.expiring_filter.specs.Held.{count_among, IsCounted, IsSound, is_among, put_until}
+use Rattle.expiring_filter.specs.Held.{count_among, IsCounted, IsSound, is_among}
 
 -- the bits are those of the counts
 pub bits_counted : (log2_bits hashes : ℕ) (held : List (KeyShape × ℕ)) (counters bytes : List ℕ) → IsCounted log2_bits hashes held counters bytes →
@@ -81,7 +81,7 @@ size_shifted log2_bits most =
 
 -- nothing is held at first
 pub sound_first : (log2_bits hashes : ℕ) (held : List (KeyShape × ℕ)) (queue : List (Reverse (ℕ × ℕ))) (counters bytes : List ℕ) → log2_bits ≤ 22 → hashes ≤ 16 → held ≡ [] → queue ≡ [] → IsHeap queue_cmp queue →
-    counters ≡ replicate (2 ^ log2_bits) 0 → bytes ≡ replicate (2 ^ log2_bits / 8) 0 → 8 * (2 ^ log2_bits / 8) ≡ 2 ^ log2_bits → IsSound log2_bits hashes 0 held queue counters bytes
+    counters ≡ replicate (2 ^ log2_bits) 0 → bytes ≡ replicate (2 ^ log2_bits / 8) 0 → 8 * (2 ^ log2_bits / 8) ≡ 2 ^ log2_bits → IsSound log2_bits hashes held queue counters bytes
 sound_first log2_bits hashes held queue counters bytes most few none empty ordered zeros clear whole =
     let size = length-replicate {A = ℕ} (2 ^ log2_bits) 0 in
     let counted : IsCounted log2_bits hashes [] (replicate (2 ^ log2_bits) 0) (replicate (2 ^ log2_bits / 8) 0) = record {
@@ -92,16 +92,15 @@ sound_first log2_bits hashes held queue counters bytes most few none empty order
       counted = λ j low. get_or-replicate (2 ^ log2_bits) j 0 0 (omega (arith, low, size));
       flat = flat_first (2 ^ log2_bits / 8) (2 ^ log2_bits) whole;
     } in
-    let sound : IsSound log2_bits hashes 0 [] [] (replicate (2 ^ log2_bits) 0) (replicate (2 ^ log2_bits / 8) 0) = record {
+    let sound : IsSound log2_bits hashes [] [] (replicate (2 ^ log2_bits) 0) (replicate (2 ^ log2_bits / 8) 0) = record {
       counted = counted;
       ordered = subst (λ (xs : List (Reverse (ℕ × ℕ))). IsHeap queue_cmp xs) empty ordered;
       covered = λ i low. absurd (omega (arith, low));
-      unexpired = λ k d low. absurd (omega (arith, low));
     } in
-    subst (λ (xs : List (KeyShape × ℕ)). IsSound log2_bits hashes 0 xs queue counters bytes) (sym none)
-    (subst (λ (xs : List (Reverse (ℕ × ℕ))). IsSound log2_bits hashes 0 [] xs counters bytes) (sym empty)
-    (subst (λ (xs : List ℕ). IsSound log2_bits hashes 0 [] [] xs bytes) (sym zeros)
-    (subst (λ (xs : List ℕ). IsSound log2_bits hashes 0 [] [] (replicate (2 ^ log2_bits) 0) xs) (sym clear) sound)))
+    subst (λ (xs : List (KeyShape × ℕ)). IsSound log2_bits hashes xs queue counters bytes) (sym none)
+    (subst (λ (xs : List (Reverse (ℕ × ℕ))). IsSound log2_bits hashes [] xs counters bytes) (sym empty)
+    (subst (λ (xs : List ℕ). IsSound log2_bits hashes [] [] xs bytes) (sym zeros)
+    (subst (λ (xs : List ℕ). IsSound log2_bits hashes [] [] (replicate (2 ^ log2_bits) 0) xs) (sym clear) sound)))
 
 -- a key that is not found is no one's
 pub others_of : (key : KeyShape) (held : List (KeyShape × ℕ)) → lookup (same_key key) held ≡ None → All (λ (x : KeyShape × ℕ). same_key key x.0 ≡ false) held
@@ -130,29 +129,6 @@ removed key held rest e parted hit absent =
 -- nothing goes where the key is not found
 pub removed_none : (key : KeyShape) (held : List (KeyShape × ℕ)) → lookup (same_key key) held ≡ None → Removes key held held
 removed_none key held absent = record { gone = []; parted = IsPermutation-refl held; same = λ k d low. absurd (omega (arith, low)); others = others_of key held absent }
-
--- what is left of unexpired keys is unexpired
-pub unexpired_rest : (clock : ℕ) (held rest : List (KeyShape × ℕ)) (e : KeyShape × ℕ) → IsPermutation held (e ∷ rest) → All (λ (x : KeyShape × ℕ). clock < x.1) held → All (λ (x : KeyShape × ℕ). clock < x.1) rest
-unexpired_rest clock held rest e parted all k d low = All-permutation (λ (x : KeyShape × ℕ). clock < x.1) held (e ∷ rest) parted all (suc k) d (omega (arith, low))
-
--- the first rose
-risen_first : (clock : ℕ) (e : KeyShape × ℕ) (held : List (KeyShape × ℕ)) (until : ℕ) → All (λ (x : KeyShape × ℕ). clock < x.1) (e ∷ held) → All (λ (x : KeyShape × ℕ). clock < x.1) ((e.0, max e.1 until) ∷ held)
-risen_first clock e held until all zero d low = (let first = all 0 e (omega arith) in omega (arith, first))
-risen_first clock e held until all (suc k) d low = all (suc k) d low
-
--- one more in front
-unexpired_behind : (clock : ℕ) (e : KeyShape × ℕ) (held : List (KeyShape × ℕ)) → clock < e.1 → All (λ (x : KeyShape × ℕ). clock < x.1) held → All (λ (x : KeyShape × ℕ). clock < x.1) (e ∷ held)
-unexpired_behind clock e held first rest zero d low = first
-unexpired_behind clock e held first rest (suc k) d low = rest k d (omega (arith, low))
-
--- a put later than the clock leaves all unexpired
-pub unexpired_put : (clock : ℕ) (held : List (KeyShape × ℕ)) (key : KeyShape) (until : ℕ) → clock < until → All (λ (x : KeyShape × ℕ). clock < x.1) held → All (λ (x : KeyShape × ℕ). clock < x.1) (put_until held key until)
-unexpired_put clock [] key until late all = unexpired_behind clock (key, until) [] late all
-unexpired_put clock (e ∷ held) key until late all =
-    elim (cases_Bool (same_key key e.0)) [
-      | inl hit ↦ rw hit (risen_first clock e held until all)
-      | inr other ↦ rw other (unexpired_behind clock e (put_until held key until) (all 0 e (omega arith)) (unexpired_put clock held key until late (λ k d low. all (suc k) d (omega (arith, low)))))
-    ]
 
 -- what a set's look-up takes out is the key
 pub taken_is : (key copy : KeyShape) (keys : List KeyShape) → Some copy ≡ find (same_key key) keys → copy ≡ key

@@ -18,7 +18,6 @@ use Rattle.query_normal.specs.Pages.{positions}
 use Rattle.expiring_filter.specs.Counts.{times, IsFlat}
 use Rattle.expiring_filter.specs.Due.{due, IsCovered}
 use Rattle.expiring_filter.specs.Held.{count_among, IsCounted, IsSound, put_until, is_among}
-use Rattle.expiring_filter.proofs.FilterLemmas.{unexpired_put}
 use Rattle.expiring_filter.proofs.HeldLemmas.{whole_written, due_later}
 
 -- what a put gives, where the key is held
@@ -279,15 +278,14 @@ among_found (e ∷ held) key among =
     ]
 
 -- what is kept where a held key is given the later second
-pub sound_delayed : (log2_bits hashes clock : ℕ) (held after : List (KeyShape × ℕ)) (queue : List (Reverse (ℕ × ℕ))) (counters bytes : List ℕ) (key : KeyShape) (until : ℕ) → IsTrue (is_among held key) → clock < until →
-    after ≡ put_until held key until → IsSound log2_bits hashes clock held queue counters bytes → IsSound log2_bits hashes clock after queue counters bytes
-sound_delayed log2_bits hashes clock held after queue counters bytes key until among late is sound =
+pub sound_delayed : (log2_bits hashes : ℕ) (held after : List (KeyShape × ℕ)) (queue : List (Reverse (ℕ × ℕ))) (counters bytes : List ℕ) (key : KeyShape) (until : ℕ) → IsTrue (is_among held key) →
+    after ≡ put_until held key until → IsSound log2_bits hashes held queue counters bytes → IsSound log2_bits hashes after queue counters bytes
+sound_delayed log2_bits hashes held after queue counters bytes key until among is sound =
     let there = among_found held key among in
     let r = put_replaces held key there.0 until there.1 in
-    subst (λ (xs : List (KeyShape × ℕ)). IsSound log2_bits hashes clock xs queue counters bytes) (sym is)
+    subst (λ (xs : List (KeyShape × ℕ)). IsSound log2_bits hashes xs queue counters bytes) (sym is)
     (record {
       counted = counted_risen log2_bits hashes held (put_until held key until) key until counters bytes r sound.counted;
       ordered = sound.ordered;
       covered = covered_risen held (put_until held key until) queue key until r sound.covered;
-      unexpired = unexpired_put clock held key until late sound.unexpired;
     })

@@ -43,9 +43,8 @@ put_until (e ∷ held) key until = if same_key key e.0 then (e.0, max e.1 until)
 abbrev pub is_among : List (KeyShape × ℕ) → KeyShape → Bool
 is_among held key = list_any (λ e. same_key key e.0) held
 
--- the counters, the bits and the queue are those of the held keys, of which none is past the clock
-pub record IsSound (log2_bits hashes clock : ℕ) (held : List (KeyShape × ℕ)) (queue : List (Reverse (ℕ × ℕ))) (counters bytes : List ℕ) : Type 0 where
+-- the counters, the bits and the queue are those of the held keys
+pub record IsSound (log2_bits hashes : ℕ) (held : List (KeyShape × ℕ)) (queue : List (Reverse (ℕ × ℕ))) (counters bytes : List ℕ) : Type 0 where
   pub counted : IsCounted log2_bits hashes held counters bytes
   pub ordered : IsHeap queue_cmp queue
   pub covered : IsCovered held queue
-  pub unexpired : All (λ e. clock < e.1) held

@@ -1,5 +1,5 @@
 //! The counting filter.
-ghost use Rattle.std.specs.Prelude.{◌≡◌, ◌⊎◌, ◌+◌, ◌*◌, ◌^◌, ◌<◌, ◌≤◌, max, not, ◌&&◌, if◌then◌else◌, true, false, [], IsTrue, IfOk, OnOk, OnErr, length, map};
+ghost use Rattle.std.specs.Prelude.{◌≡◌, ◌⊎◌, ◌+◌, ◌*◌, ◌^◌, ◌<◌, ◌≤◌, not, ◌&&◌, if◌then◌else◌, true, false, [], IsTrue, IfOk, OnOk, OnErr, length, map};
 ghost use Rattle.query_normal.specs.declared.key.KeyShape.{KeyShape as AKey};
 ghost use Rattle.query_normal.specs.Bits.{flat_bits};
 ghost use Rattle.query_normal.specs.Keys.{same_key};
@@ -23,7 +23,6 @@ use std::marker::Model;
 /// The bits of the counts above 0 are kept beside them.
 #[derive(Drop)]
 pub struct CountingFilter {
-    clock: u64,
     held: Held,
     reserved: IndexSet<Key>,
     queue: Queue,
@@ -43,13 +42,12 @@ impl Model for CountingFilter {
     ghost view = { λ f. record {
       log2_bits = f.counters.log2_bits;
       hashes = f.counters.hashes;
-      clock = f.clock;
       held = f.held.entries;
       reserved = f.reserved.keys;
     } };
 
     ghost invariant = { λ f. record {
-      sound : IsSound f.counters.log2_bits f.counters.hashes f.clock f.held.entries (heap_items f.queue) f.counters.counts.items f.counters.bits.items;
+      sound : IsSound f.counters.log2_bits f.counters.hashes f.held.entries (heap_items f.queue) f.counters.counts.items f.counters.bits.items;
       map_room : index_set_len f.reserved ≤ spare f.held;
       queue_room : heap_len f.queue + index_map_len f.held + 2 * index_set_len f.reserved ≤ heap_capacity f.queue;
     } };
@@ -67,7 +65,6 @@ impl CountingFilter {
         let counts = vec![in alloc; 0u32; size]?;
         let bits = vec![in alloc; 0u8; size / 8]?;
         Ok(CountingFilter {
-            clock: 0,
             held: IndexMap::new(alloc),
             reserved: IndexSet::new(alloc),
             queue: BinaryHeap::new(alloc),
@@ -100,7 +97,6 @@ impl CountingFilter {
     pub fn add(&mut self, key: &Key, until: u64)
         requires reserved { IsTrue (is_reserved self.old key.now) ⊎ IsTrue (is_held self.old key.now) }
         requires few { IsTrue (is_held self.old key.now) ⊎ (length self.old.held < 1000000) }
-        requires later { self.old.clock < until }
         ensures held { self.new.held ≡ put_until self.old.held key.now until }
         ensures reserved { (other : AKey) → is_reserved self.new other ≡ (not (same_key key.now other) && is_reserved self.old other) }
         ensures rest { self.new ≡ record self.old { held = self.new.held; reserved = self.new.reserved } }
@@ -117,17 +113,17 @@ impl CountingFilter {
         }
     }
 
-    /// Moves the clock forward to a moment, and drops each key whose second is not above it.
+    /// Drops each key whose second is not above a moment.
     pub fn advance(&mut self, moment: Moment)
-        ensures clock { self.new.clock ≡ max self.old.clock moment }
-        ensures expired { Expires self.new.clock self.old.held self.new.held }
-        ensures rest { self.new ≡ record self.old { clock = self.new.clock; held = self.new.held } }
+        ensures expired { Expires moment self.old.held self.new.held }
+        ensures rest { self.new ≡ record self.old { held = self.new.held } }
     {
-        let seconds = moment.seconds();
-        if self.clock < seconds {
-            self.clock = seconds;
-            expire(&mut self.held, &mut self.queue, &mut self.counters, seconds);
-        }
+        expire(
+            &mut self.held,
+            &mut self.queue,
+            &mut self.counters,
+            moment.seconds(),
+        );
     }
 
     /// Drops a key, if it is held.

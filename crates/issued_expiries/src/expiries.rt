@@ -36,6 +36,7 @@ impl Model for Expiries {
     ghost use Rattle.std.specs.BinaryHeap.{heap_items, heap_len, heap_capacity};
     ghost use Rattle.indexmap.specs.IndexMap.{index_map_len, spare};
     ghost use Rattle.indexmap.specs.IndexSet.{spare as set_spare};
+    ghost use Rattle.q_base.specs.declared.moment.TheConstants.{GREATEST_SECONDS};
     ghost use Rattle.issued_expiries.specs.Entries.{IsSound, held_of};
     ghost use Rattle.issued_expiries.specs.Expiries.{Issued};
 
@@ -49,6 +50,7 @@ impl Model for Expiries {
     } };
 
     ghost invariant = { λ e. record {
+      capped : e.clock ≤ GREATEST_SECONDS;
       sound : IsSound e.clock e.held.entries (heap_items e.queue) e.reserved e.idle.keys;
       map_room : length e.reserved ≤ spare e.held;
       idle_room : index_map_len e.held + length e.reserved ≤ set_spare e.idle;
@@ -131,6 +133,13 @@ impl Expiries {
             self.clock = seconds;
             expire(&mut self.held, &mut self.idle, &mut self.queue, seconds);
         }
+    }
+
+    /// The greatest moment so far.
+    pub fn clock(&self) -> Moment
+        ensures { result ≡ self.now.clock }
+    {
+        Moment::of(self.clock)
     }
 
     /// Whether the key has an unexpired copy.

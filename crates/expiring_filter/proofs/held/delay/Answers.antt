@@ -1,5 +1,5 @@
 -- a held key is found, and its place keeps the later second
-use Rattle.std.proofs.Common.{false, true, IsTrue, sym, subst, ◌≡◌}
+use Rattle.std.proofs.Common.{false, true, IsTrue, subst, ◌≡◌}
 use Rattle.indexmap.proofs.CallerLemmas.{index_map_len-with_value_at}
 use Rattle.expiring_filter.proofs.FilterLemmas.{none_found}
 use Rattle.expiring_filter.proofs.PutLemmas.{delay_put, not_among}

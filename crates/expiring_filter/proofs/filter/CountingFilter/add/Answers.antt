@@ -1,8 +1,8 @@
-use Rattle.std.proofs.Common.{◌≡◌, true, false, inl, inr, ◌<◌, ◌⊎◌, ℕ, List, All, IsTrue, length, sym, subst, ap, ◌∙◌, arith}
+use Rattle.std.proofs.Common.{◌≡◌, true, false, inl, inr, ◌<◌, ◌⊎◌, IsTrue, length, sym, subst, ap, ◌∙◌, arith}
 use Rattle.query_normal.specs.declared.key.KeyShape.{KeyShape}
 use Rattle.expiring_filter.specs.Filter.{Filter, is_held, is_reserved}
 use Rattle.expiring_filter.specs.Held.{is_among, put_until}
-use Rattle.expiring_filter.proofs.FilterLemmas.{taken_is, unexpired_put}
+use Rattle.expiring_filter.proofs.FilterLemmas.{taken_is}
 use Rattle.expiring_filter.proofs.PutLemmas.{sound_delayed}
 use Rattle.expiring_filter.proofs.filter.CountingFilter.add.Goals as goal
 
@@ -11,23 +11,6 @@ pub put-requires-clause-few : goal.put-requires-clause-few
 put-requires-clause-few c =
     subst (λ (k : KeyShape). IsTrue (is_among c.self.inside.held.entries k) ⊎ (length c.self.inside.held.entries < 1000000)) (sym (taken_is c.args.key.now _ _ c.in-Some.ensures.key))
     (subst (λ (f : Filter). IsTrue (is_among f.held c.args.key.now) ⊎ (length f.held < 1000000)) (sym c.self.view_is) c.requires.few)
-
--- the key leaves later than the clock
-pub invariant_of-self : goal.invariant_of-self
-invariant_of-self c =
-    let late = subst (λ (f : Filter). f.clock < c.args.until) (sym c.self.view_is) c.requires.later in
-    record {
-      sound = record {
-        counted = c.put.ensures.counted;
-        ordered = c.put.ensures.ordered;
-        covered = c.put.ensures.covered;
-        unexpired =
-            subst (λ (xs : List (KeyShape × ℕ)). All (λ (e : KeyShape × ℕ). c.self.inside.clock < e.1) xs) (sym c.put.ensures.held)
-            (unexpired_put c.self.inside.clock c.self.inside.held.entries c.in-Some.copy c.args.until late c.self.invariant.sound.unexpired);
-      };
-      map_room = omega (arith, c.in-Some.ensures.len, c.self.invariant.map_room, c.put.ensures.spare);
-      queue_room = omega (arith, c.in-Some.ensures.len, c.self.invariant.queue_room, c.put.ensures.room, c.put.ensures.capacity);
-    }
 
 pub returns-in-Some-clause-held : goal.returns-in-Some-clause-held
 returns-in-Some-clause-held c =
@@ -44,10 +27,8 @@ held_is c =
     ]
 
 pub invariant_of-self-in-None : goal.invariant_of-self-in-None
-invariant_of-self-in-None c =
-    let late = subst (λ (f : Filter). f.clock < c.args.until) (sym c.self.view_is) c.requires.later in
-    record {
-      sound = sound_delayed _ _ c.self.inside.clock c.self.inside.held.entries _ _ _ _ c.args.key.now c.args.until (held_is c) late c.delay.ensures.held c.self.invariant.sound;
-      map_room = omega (arith, c.in-None.ensures.len, c.self.invariant.map_room, c.delay.ensures.spare);
-      queue_room = omega (arith, c.in-None.ensures.len, c.self.invariant.queue_room, c.delay.ensures.len);
-    }
+invariant_of-self-in-None c = record {
+  sound = sound_delayed _ _ c.self.inside.held.entries _ _ _ _ c.args.key.now c.args.until (held_is c) c.delay.ensures.held c.self.invariant.sound;
+  map_room = omega (arith, c.in-None.ensures.len, c.self.invariant.map_room, c.delay.ensures.spare);
+  queue_room = omega (arith, c.in-None.ensures.len, c.self.invariant.queue_room, c.delay.ensures.len);
+}

@@ -1,22 +1,7 @@
-use Rattle.std.proofs.Common.{subst, arith}
+use Rattle.std.proofs.Common.{subst}
 use Rattle.expiring_filter.specs.Filter.{Filter, Removes}
-use Rattle.expiring_filter.proofs.FilterLemmas.{placed_entry, removed, removed_none, none_found, unexpired_rest}
+use Rattle.expiring_filter.proofs.FilterLemmas.{placed_entry, removed, removed_none, none_found}
 use Rattle.expiring_filter.proofs.filter.CountingFilter.remove.Goals as goal
-
--- what is left is unexpired
-pub invariant_of-self : goal.invariant_of-self
-invariant_of-self c =
-    let entry = placed_entry c.args.key.now c.self.inside.held.entries c.in-Some.place c.in-Some.ensures.index c.in-Some.ensures.within in
-    record {
-      sound = record {
-        counted = c.drop_at.ensures.counted;
-        ordered = c.drop_at.ensures.ordered;
-        covered = c.drop_at.ensures.covered;
-        unexpired = unexpired_rest c.self.inside.clock _ _ entry.0 (c.drop_at.ensures.held entry.0 entry.1) c.self.invariant.sound.unexpired;
-      };
-      map_room = omega (arith, c.self.invariant.map_room, c.drop_at.ensures.spare);
-      queue_room = omega (arith, c.self.invariant.queue_room, c.drop_at.ensures.queue_len, c.drop_at.ensures.len, c.drop_at.ensures.capacity);
-    }
 
 -- the key went
 pub returns-in-Some-clause-held : goal.returns-in-Some-clause-held

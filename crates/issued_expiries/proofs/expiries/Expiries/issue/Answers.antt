@@ -24,6 +24,7 @@ invariant_of-self-2 c =
     let len = c.put.ensures.len ∙ ap (λ (k : KeyShape). cond (is_some (kept_of k c.self.inside.held.entries)) (length c.self.inside.held.entries) (length c.self.inside.held.entries + 1)) is in
     let more = len_after (is_some (kept_of c.args.key.now c.self.inside.held.entries)) (length c.self.inside.held.entries) (length c.put.new.held.entries) len in
     record {
+      capped = c.self.invariant.capped;
       sound =
           sound_put c.self.inside.clock c.self.inside.held.entries c.put.new.held.entries (heap_items c.self.inside.queue) (heap_items c.put.new.queue) c.self.inside.reserved c.take-copy.new.self
           c.self.inside.idle.keys c.leave_out.new.keys.keys c.args.key.now c.args.commit c.args.until

@@ -5,6 +5,7 @@ use Rattle.issued_expiries.proofs.expiries.Expiries.reserve.Goals as goal
 
 pub invariant_of-self : goal.invariant_of-self
 invariant_of-self c = record {
+  capped = c.self.invariant.capped;
   sound =
       sound_trimmed c.self.inside.clock c.args.key.now c.self.inside.held.entries c.make_room.new.held.entries (heap_items c.self.inside.queue) c.self.inside.reserved c.self.inside.reserved c.self.inside.idle.keys
       c.self.invariant.sound c.make_room.ensures.trims
@@ -20,6 +21,7 @@ invariant_of-self-2 c =
     let others = room_others c.self.inside.clock c.args.key.now c.self.inside.held.entries c.make_room.new.held.entries c.self.inside.reserved c.make_room.ensures.trims absent c.self.invariant.sound.room in
     let room = room_with c.stash.result c.args.key.now c.in_ok-copy.copy c.make_room.new.held.entries c.self.inside.reserved c.stash.new.reserved (sym c.in_ok-copy.ensures.cases) others c.in_ok-make_room.ensures.room c.stash.ensures.ok c.stash.ensures.err in
     record {
+      capped = c.self.invariant.capped;
       sound =
           sound_stashed c.self.inside.clock c.make_room.new.held.entries c.stash.new.held.entries (heap_items c.self.inside.queue) (heap_items c.stash.new.queue) c.stash.new.reserved c.self.inside.idle.keys c.stash.new.idle.keys
           c.stash.ensures.entries c.stash.ensures.items c.stash.ensures.idle
