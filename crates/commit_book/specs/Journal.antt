@@ -48,3 +48,7 @@ cost_of change = 64 + length change.collection + length change.id + length (text
 -- what the changes take together
 abbrev pub kept : List Change → ℕ
 kept journal = sum_by cost_of journal
+
+-- what they take with one change more, by which a write is accepted
+abbrev pub kept_with : List Change → Change → ℕ
+kept_with journal change = kept journal + cost_of change
