@@ -53,6 +53,6 @@ cost_of change = row_bytes + length change.collection + length change.id + lengt
 abbrev pub kept : List Change → ℕ
 kept journal = sum_by cost_of journal
 
--- what they take with one change more
+-- what they take with one change more, by which a write is accepted
 abbrev pub kept_with : List Change → Change → ℕ
 kept_with journal change = kept journal + cost_of change

@@ -6,6 +6,7 @@ mod Covered
 mod Handed
 mod Histories
 mod KeySets
+mod LaterStates
 mod Moves
 mod Readings
 mod Recorded
