@@ -123,6 +123,7 @@ impl Book {
     pub fn add(&mut self, change: &Change) -> Result<Commit, BookRefusal>
         ensures told { (result ≡ Err NoMemory) ⊎ (result ≡ added self.old change.now) }
         ensures after { OnOk result (self.new ≡ with_commit self.old change.now self.new.names) }
+        ensures names { OnOk result (AreNamesOf self.new.journal self.new.names) }
         ensures reserved { self.old.reserved ≡ Some change.now → IsOk result }
         ensures err { OnErr result (self.new ≡ self.old) }
     {
