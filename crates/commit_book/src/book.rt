@@ -1,19 +1,20 @@
 //! The book: its rows, and what finds them.
-ghost use Rattle.std.specs.Prelude.{◌≡◌, ◌⊎◌, ◌+◌, ◌≤◌, ◌^◌, Some, Err, IsOk, IsSome, IfOk, OnOk, OnErr, length, slice_get, option_map, is_some, ◌<◌, ℕ};
+ghost use Rattle.std.specs.Prelude.{◌≡◌, ◌⊎◌, ◌+◌, ◌≤◌, ◌^◌, Some, Err, IsOk, IsErr, IsSome, IfOk, OnOk, OnErr, length, slice_get, option_map, is_some, ◌<◌, ℕ};
 ghost use Rattle.commit_book.specs.declared.change.Change.{Change as AChange};
 ghost use Rattle.commit_book.specs.declared.refusal.BookRefusal.TheVariants.{Memory as NoMemory};
-ghost use Rattle.commit_book.specs.Contents.{empty_book, judged, added, is_reserved, with_commit};
+ghost use Rattle.commit_book.specs.Contents.{empty_book, judged, added, refusal_of, is_reserved, with_commit};
 ghost use Rattle.commit_book.specs.CommitRows.{commit_row, commit_rows};
 ghost use Rattle.commit_book.specs.Documents.{docs, HasDocuments};
 ghost use Rattle.commit_book.specs.Index.{put_of};
 ghost use Rattle.commit_book.specs.Journal.{document_at, text_at, alteration, kept};
+ghost use Rattle.commit_book.specs.Names.{AreNamesOf};
 
 use crate::change::{Change, CommitRow, copy_of, is_same};
 use crate::documents::documents_under;
 use crate::found::{copy_of_found, document_of, printed_of, row_at};
-use crate::index::{Collections, commits_in, make_room_in, push_in};
+use crate::index::{Collections, commits_in, place_in, push_in};
 use crate::refusal::BookRefusal;
-use crate::row::{Row, cost_of, text_of};
+use crate::row::{Reserved, Row, cost_of, text_of};
 use indexmap::IndexMap;
 use q_base::{Commit, Memory, Name, SharedText};
 use q_doc::Doc;
@@ -31,14 +32,15 @@ pub struct Book {
     rows: Vec<Row>,
     /// The commits of each record.
     collections: Collections,
-    reserved: Option<Row>,
+    reserved: Option<Reserved>,
 }
 
 impl Model for Book {
     ghost use Rattle.std.specs.Coded.{codes};
     ghost use Rattle.q_doc.specs.Code.{tree_code};
     ghost use Rattle.commit_book.specs.Contents.{Contents};
-    ghost use Rattle.commit_book.specs.Index.{IsSound};
+    ghost use Rattle.std.specs.Prelude.{option_map};
+    ghost use Rattle.commit_book.specs.Index.{IsSound, names_of};
 
     ghost Value = { Contents };
 
@@ -47,7 +49,8 @@ impl Model for Book {
     ghost view = { λ b. record {
       capacity = b.capacity;
       journal = b.rows.items;
-      reserved = b.reserved;
+      reserved = option_map (λ r. r.row) b.reserved;
+      names = names_of b.collections;
     } };
 
     ghost invariant = { λ b. IsSound b.capacity b.bytes b.rows b.collections b.reserved };
@@ -74,36 +77,55 @@ impl Book {
     /// that was reserved before.
     pub fn reserve(&mut self, change: &Change) -> Result<(), BookRefusal>
         ensures told { (result ≡ Err NoMemory) ⊎ (result ≡ judged self.old change.now) }
+        ensures full { IsErr (judged self.old change.now) → result ≡ judged self.old change.now }
         ensures after { OnOk result (self.new ≡ record self.old { reserved = Some change.now }) }
         ensures err { OnErr result (self.new ≡ self.old) }
     {
-        let text = text_of(self.alloc, change)?;
+        let text = match text_of(self.alloc, change) {
+            Ok(text) => text,
+            Err(Memory) => return Err(self.refusal_of(change)),
+        };
         let bytes = self.bytes + cost_of(change, &text);
         if bytes > self.capacity {
             return Err(BookRefusal::Full { bytes });
         }
         let row = Row::of(self.alloc, change, text)?;
         self.rows.reserve(1)?;
-        make_room_in(&mut self.collections, &change.collection, &change.id)?;
-        self.reserved = Some(row);
+        let place = place_in(&mut self.collections, &change.collection, &change.id)?;
+        self.reserved = Some(Reserved { row, place });
         Ok(())
+    }
+
+    /// Why a change is refused for whose text there is no memory: that it is above the capacity, if it is.
+    #[cold]
+    fn refusal_of(&self, change: &Change) -> BookRefusal
+        ensures { result ≡ refusal_of self.now change.now }
+    {
+        let bytes = self.bytes + change.cost();
+        if bytes > self.capacity {
+            BookRefusal::Full { bytes }
+        } else {
+            BookRefusal::Memory
+        }
     }
 
     /// Adds the change that was reserved, as the next commit. It takes no memory.
     pub fn add_reserved(&mut self) -> Commit
         requires { IsSome self.old.reserved }
         ensures commit { result ≡ length self.old.journal + 1 }
-        ensures after { (change : AChange) → self.old.reserved ≡ Some change → self.new ≡ with_commit self.old change }
+        ensures after { (change : AChange) → self.old.reserved ≡ Some change → self.new ≡ with_commit self.old change self.new.names }
+        ensures names { AreNamesOf self.new.journal self.new.names }
         ensures fits { kept self.new.journal ≤ self.new.capacity }
     {
         match self.reserved.take() {
-            Some(row) => {
+            Some(Reserved { row, place }) => {
                 let commit = self.rows.len() as u64 + 1;
                 let change = row.change();
                 push_in(
                     &mut self.collections,
                     &change.collection,
                     &change.id,
+                    place,
                     commit,
                 );
                 self.bytes += row.cost();
@@ -117,7 +139,9 @@ impl Book {
     /// Adds a change as the next commit. It takes no memory where the change was reserved.
     pub fn add(&mut self, change: &Change) -> Result<Commit, BookRefusal>
         ensures told { (result ≡ Err NoMemory) ⊎ (result ≡ added self.old change.now) }
-        ensures after { OnOk result (self.new ≡ with_commit self.old change.now) }
+        ensures full { IsErr (added self.old change.now) → result ≡ added self.old change.now }
+        ensures after { OnOk result (self.new ≡ with_commit self.old change.now self.new.names) }
+        ensures names { OnOk result (AreNamesOf self.new.journal self.new.names) }
         ensures reserved { self.old.reserved ≡ Some change.now → IsOk result }
         ensures err { OnErr result (self.new ≡ self.old) }
     {
@@ -132,14 +156,15 @@ impl Book {
         ensures { result ≡ is_reserved self.now change.now }
     {
         match &self.reserved {
-            Some(row) => is_same(row.change(), change),
+            Some(reserved) => is_same(reserved.row.change(), change),
             None => false,
         }
     }
 
-    /// The number of commits.
+    /// The number of commits. The index has the names of their records, and no others.
     pub fn count(&self) -> Commit
         ensures count { result ≡ length self.now.journal }
+        ensures names { AreNamesOf self.now.journal self.now.names }
         ensures fits { kept self.now.journal ≤ self.now.capacity }
     {
         self.rows.len() as u64
