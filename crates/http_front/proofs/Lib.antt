@@ -3,12 +3,12 @@ mod CutLemmas
 mod DigitLemmas
 mod FieldLemmas
 mod NumberLemmas
-mod PhraseLemmas
+mod HeadLines
+mod StatusLemmas
 mod PathLemmas
 mod PlainLemmas
 mod QueryLemmas
 mod RecordLemmas
-mod ReplyLemmas
 mod RequestFacts
 mod RouteLemmas
 mod StandardFacts

@@ -2,11 +2,13 @@ pub mod Added
 pub mod Answered
 pub mod Asks
 pub mod Date
+pub mod Early
 pub mod Given
+pub mod Lines
 pub mod Numbers
 pub mod Paths
-pub mod Phrases
 pub mod Query
+pub mod Reply
 pub mod ReplyText
 pub mod Routes
 pub mod Tags

@@ -3,6 +3,7 @@ ghost use Rattle.q_outside.specs.Told.{Counts};
 ghost use Rattle.http_front.specs.Given.{GivesReply};
 
 use crate::body::{NUMBERS_ROOM, body_of, given};
+use crate::head::Head;
 use crate::reply::ReplyRoom;
 use crate::shape::Shape;
 use crate::told::Told;
@@ -23,7 +24,8 @@ pub fn give_reply<K: Sink>(
 {
     let mut numbers = [0; NUMBERS_ROOM];
     let body = body_of(told, page, &mut numbers);
-    room.write_head(shape, told, body.len(), close);
+    let head = Head::of(shape, told, body.len(), close);
+    room.write_head(&head, told.clock());
     let behind = given(shape, body);
     if room.put_where_it_fits(behind) {
         give_all(sink, room.bytes())

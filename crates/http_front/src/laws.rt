@@ -1,11 +1,5 @@
 //! Laws of the routes, and of the texts of replies.
 ghost use Rattle.http_front.specs.Paths.{PathsOfRecordsHaveTwoNames};
-ghost use Rattle.http_front.specs.Phrases.{PhrasesAreOfHttp};
-
-/// The phrase of each status is the one that the crate `http` gives to its code.
-pub fn phrases_are_of_http()
-    ensures { PhrasesAreOfHttp }
-{}
 
 /// A path has the route of a record exactly where it is UTF-8, and `/v1/d/` with two parts behind it
 /// that a slash parts.

@@ -11,9 +11,11 @@ mod fields;
 mod give;
 mod head;
 mod laws;
+mod names;
 mod number;
 mod put;
 mod query;
+mod refused;
 mod reply;
 #[cfg(test)]
 mod reply_tests;
@@ -28,9 +30,12 @@ pub use ask::{Ask, ask_of, shape_of};
 pub use body::write_body;
 pub use give::give_reply;
 pub use head::{Head, MediaType};
-pub use laws::{paths_of_records_have_two_names, phrases_are_of_http};
+pub use laws::paths_of_records_have_two_names;
+pub use query::{FieldValue, fields_in};
+pub use refused::{
+    Allow, DocumentReason, FilterReason, FilterRefusal, FramingRefusal, QueryField, Refused,
+};
 pub use reply::{REPLY_ROOM, ReplyRoom, reply_text};
-pub use routes::Routes;
+pub use routes::{ALL_ROUTES, Route, Routes, Served};
 pub use shape::Shape;
-pub use status::Status;
 pub use told::Told;
