@@ -8,6 +8,7 @@ pub mod Lines
 pub mod Numbers
 pub mod Paths
 pub mod Query
+pub mod ReadBack
 pub mod Reply
 pub mod ReplyText
 pub mod Routes

@@ -30,7 +30,10 @@ pub use ask::{Ask, ask_of, shape_of};
 pub use body::write_body;
 pub use give::give_reply;
 pub use head::{Head, MediaType};
-pub use laws::paths_of_records_have_two_names;
+pub use laws::{
+    one_reply_is_read, paths_of_records_have_two_names, replies_are_framed, replies_have_one_text,
+    replies_read_back,
+};
 pub use query::{FieldValue, fields_in};
 pub use refused::{
     Allow, DocumentReason, FilterReason, FilterRefusal, FramingRefusal, QueryField, Refused,
