@@ -5,9 +5,11 @@ mod DigitLemmas
 mod FieldLemmas
 mod NumberLemmas
 mod FramingLemmas
+mod GiveLemmas
 mod HeadLines
 mod StatusLemmas
 mod PathLemmas
+mod PieceLemmas
 mod PlainLemmas
 mod QueryLemmas
 mod ReadLemmas

@@ -13,6 +13,7 @@ mod head;
 mod laws;
 mod names;
 mod number;
+mod pieces;
 mod put;
 mod query;
 mod refused;
@@ -34,10 +35,9 @@ pub use laws::{
     one_reply_is_read, paths_of_records_have_two_names, replies_are_framed, replies_have_one_text,
     replies_read_back,
 };
+pub use pieces::{Body, Bytes, Parts, give_pieces};
 pub use query::{FieldValue, fields_in};
-pub use refused::{
-    Allow, DocumentReason, FilterReason, FilterRefusal, FramingRefusal, QueryField, Refused,
-};
+pub use refused::{Allow, DocumentReason, FilterReason, FilterRefusal, QueryField, Refused};
 pub use reply::{REPLY_ROOM, ReplyRoom, reply_text};
 pub use routes::{ALL_ROUTES, Route, Routes, Served};
 pub use shape::Shape;

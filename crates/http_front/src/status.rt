@@ -5,8 +5,9 @@ ghost use Rattle.http_front.specs.ReplyText.{refusal, write_status};
 ghost use Rattle.http_front.specs.declared.refused.Refused.TheVariants.{Framing};
 
 use crate::put::{put, put_number};
-use crate::refused::{FramingRefusal, Refused};
+use crate::refused::Refused;
 use http::StatusCode;
+use http_message::FramingRefusal;
 use hub_model::Found;
 
 /// The room that a status line is written into.
