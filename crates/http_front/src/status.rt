@@ -14,7 +14,7 @@ use hub_model::Found;
 pub(crate) const STATUS_ROOM: usize = 63;
 
 /// Writes the line of a status at the front of a room.
-#[tactic(auto, using(crate::proofs::StatusLemmas::line_200, crate::proofs::StatusLemmas::line_201, crate::proofs::StatusLemmas::line_404))]
+#[tactic(auto, using(crate::proofs::StatusLemmas::known_lines))]
 #[inline(always)]
 pub(crate) fn put_status(room: &mut [u8], status: StatusCode) -> usize
     requires { STATUS_ROOM ≤ length room.old }
