@@ -1,7 +1,10 @@
 //! What no clause says: that a request is read into what it asks where there is memory.
 
-use crate::{Ask, Routes, ask_of};
-use http_message::{Allow, DocumentReason, Refused, RequestRoom, next_request};
+use crate::{
+    ALL_ROUTES, Allow, Ask, DocumentReason, QueryField, Refused, Route, Routes, Served, ask_of,
+    fields_in,
+};
+use http_message::{RequestRoom, next_request};
 use hub_model::{Condition, Tags};
 use q_base::Memory;
 use q_doc::ReadRoom;
@@ -20,22 +23,19 @@ fn room_of(alloc: Global, bytes: &[u8]) -> Result<RequestRoom, Memory> {
 }
 
 /// What the request of these bytes asks.
-fn asked(alloc: Global, bytes: &[u8]) -> Result<Ask, Refused> {
-    let Ok(routes) = Routes::new(alloc) else {
-        return Err(Refused::Memory);
-    };
-    match room_of(alloc, bytes) {
-        Ok(room) => ask_of(alloc, &room.request(), &routes, &mut ReadRoom::new(alloc)),
-        Err(Memory) => Err(Refused::Memory),
-    }
+fn asked(alloc: Global, bytes: &[u8]) -> Result<Result<Ask, Refused>, Memory> {
+    let routes = Routes::new(alloc)?;
+    let room = room_of(alloc, bytes)?;
+    ask_of(alloc, &room.request(), &routes, &mut ReadRoom::new(alloc))
 }
 
 /// Checks that the request of these bytes is refused so.
-fn refuses(rt: &impl Abort, alloc: Global, bytes: &[u8], wanted: Refused) {
-    match asked(alloc, bytes) {
+fn refuses(rt: &impl Abort, alloc: Global, bytes: &[u8], wanted: Refused) -> Result<(), Memory> {
+    match asked(alloc, bytes)? {
         Ok(_) => assert!(rt; false),
         Err(refused) => assert_eq!(rt; refused, wanted),
     }
+    Ok(())
 }
 
 #[test]
@@ -98,7 +98,7 @@ fn the_first_cause_is_answered(rt: HostRuntime) -> Result<(), Fail> {
         ),
     ];
     for (bytes, wanted) in cases {
-        refuses(&rt, rt.alloc(), bytes, wanted);
+        refuses(&rt, rt.alloc(), bytes, wanted)?;
     }
     Ok(())
 }
@@ -107,7 +107,7 @@ fn the_first_cause_is_answered(rt: HostRuntime) -> Result<(), Fail> {
 fn the_first_16_strong_tags_that_name_a_commit_count(rt: HostRuntime) -> Result<(), Fail> {
     let bytes =
         b"PUT /v1/d/sh%6Fp/p1 HTTP/1.1\r\nHost: a\r\nContent-Length: 2\r\nIf-Match: W/\"99\", \"a,b\", \"01\"\r\nIf-Match: \"1\",\"2\",\"3\",\"4\",\"5\",\"6\",\"7\",\"8\",\"9\",\"10\",\"11\",\"12\",\"13\",\"14\",\"15\",\"16\",\"17\"\r\n\r\n{}";
-    let Ok(Ask::Write { change, condition }) = asked(rt.alloc(), bytes) else {
+    let Ok(Ask::Write { change, condition }) = asked(rt.alloc(), bytes)? else {
         assert!(rt; false);
         return Ok(());
     };
@@ -128,9 +128,9 @@ fn each_call_is_asked(rt: HostRuntime) -> Result<(), Fail> {
     let read = asked(
         alloc,
         b"HEAD /v1/d/shop/p1 HTTP/1.1\r\nHost: a\r\nIf-Match: \"7\"\r\n\r\n",
-    );
+    )?;
     assert!(rt; matches!(&read, Ok(Ask::Read { head: true, .. })));
-    let delete = asked(alloc, b"DELETE /v1/d/shop/p1 HTTP/1.1\r\nHost: a\r\n\r\n");
+    let delete = asked(alloc, b"DELETE /v1/d/shop/p1 HTTP/1.1\r\nHost: a\r\n\r\n")?;
     assert!(rt;
         matches!(
             &delete,
@@ -140,11 +140,42 @@ fn each_call_is_asked(rt: HostRuntime) -> Result<(), Fail> {
             })
         )
     );
-    let fetch = asked(alloc, b"GET http://b/v1/filter HTTP/1.1\r\nHost: a\r\n\r\n");
+    let fetch = asked(alloc, b"GET http://b/v1/filter HTTP/1.1\r\nHost: a\r\n\r\n")?;
     assert!(rt; matches!(&fetch, Ok(Ask::Fetch { head: false })));
-    let matched = asked(alloc, b"POST /v1/match HTTP/1.0\r\n\r\n");
+    let matched = asked(alloc, b"POST /v1/match HTTP/1.0\r\n\r\n")?;
     assert!(rt; matches!(&matched, Ok(Ask::MatchAll)));
-    let stats = asked(alloc, b"GET /v1/stats HTTP/1.1\r\nHost: a\r\n\r\n");
+    let stats = asked(alloc, b"GET /v1/stats HTTP/1.1\r\nHost: a\r\n\r\n")?;
     assert!(rt; matches!(&stats, Ok(Ask::Stats { head: false })));
+    Ok(())
+}
+
+#[test]
+fn the_fields_of_a_query_are_decoded(rt: HostRuntime) -> Result<(), Fail> {
+    let query = b"f=a+%3D+1&o=%2Dyear".as_slice();
+    let Some(values) = fields_in(rt.alloc(), Route::Query, Some(query))? else {
+        assert!(rt; false);
+        return Ok(());
+    };
+    assert_eq!(rt; values.len(), 2);
+    assert_eq!(rt; values[0].field(), QueryField::Filter);
+    assert_eq!(rt; values[0].value(), b"a = 1".as_slice());
+    assert_eq!(rt; values[1].field(), QueryField::Order);
+    assert_eq!(rt; values[1].value(), b"-year".as_slice());
+    Ok(())
+}
+
+#[test]
+fn a_part_of_the_routes_is_served(rt: HostRuntime) -> Result<(), Fail> {
+    let alloc = rt.alloc();
+    let routes = Routes::of(
+        alloc,
+        Served {
+            records: false,
+            ..ALL_ROUTES
+        },
+    )?;
+    let room = room_of(alloc, b"GET /v1/d/shop/p1 HTTP/1.1\r\nHost: a\r\n\r\n")?;
+    let asked = ask_of(alloc, &room.request(), &routes, &mut ReadRoom::new(alloc))?;
+    assert!(rt; matches!(&asked, Err(Refused::NoRoute)));
     Ok(())
 }
