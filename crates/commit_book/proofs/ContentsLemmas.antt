@@ -1,10 +1,12 @@
 -- What an addition answers and leaves.
-use Rattle.std.proofs.Common.{◌≡◌, ℕ, ◌+◌, ◌≤◌, true, false, [], ◌∷◌, ◌++◌, Option, Some, None, IfSome, length, nat_le, ap, ◌∙◌, subst, arith}
+use Rattle.std.proofs.Common.{◌≡◌, ℕ, List, ◌+◌, ◌≤◌, true, false, [], ◌∷◌, ◌++◌, Option, Some, None, IfSome, option_map, length, nat_le, sym, ap, ◌∙◌, subst, arith}
 use Rattle.std.specs.Option.{option_map_or}
 use Rattle.std.specs.declared.result.Result.TheVariants.{Ok}
 use Rattle.std.proofs.lemmas.Bool.{le-leb}
 use Rattle.commit_book.specs.declared.change.Change.{Change}
 use Rattle.commit_book.specs.Contents.{Contents, added, is_reserved, with_commit}
+use Rattle.commit_book.specs.Names.{Names}
+use Rattle.commit_book.specs.declared.row.Reserved.{Reserved}
 use Rattle.commit_book.specs.Journal.{cost_of, kept}
 use Rattle.commit_book.specs.Same.{same_change}
 use Rattle.commit_book.proofs.GrowLemmas.{kept_more}
@@ -27,9 +29,21 @@ pub is_reserved_from : (book : Contents) (change : Change) → book.reserved ≡
 is_reserved_from book change h = ap (λ (o : Option Change). option_map_or (λ (r : Change). same_change r change) o false) h ∙ same_itself change
 
 -- a change that was added had its place
-pub told_added : (old new : Contents) (change : Change) (commit : ℕ) → new ≡ with_commit old change → kept new.journal ≤ new.capacity → commit ≡ length old.journal + 1 → Ok commit ≡ added old change
+pub told_added : (old new : Contents) (change : Change) (commit : ℕ) → new ≡ with_commit old change new.names → kept new.journal ≤ new.capacity → commit ≡ length old.journal + 1 → Ok commit ≡ added old change
 told_added old new change commit after fits number =
     let within : kept (old.journal ++ change ∷ []) ≤ old.capacity = subst (λ (b : Contents). kept b.journal ≤ b.capacity) after fits in
     let sum = kept_more old.journal change in
     let low : nat_le (kept old.journal + cost_of change) old.capacity ≡ true = le-leb (kept old.journal + cost_of change) old.capacity (omega (arith, within, sum)) in
     rw low (ap Ok number)
+
+-- what is seen of a book when its reserved change was added
+pub seen_added : (capacity : ℕ) (journal items : List Change) (reserved left : Option Reserved) (were names : Names) (old : Contents) (r : Reserved) (change : Change) →
+    record { capacity = capacity; journal = journal; reserved = option_map (λ (x : Reserved). x.row) reserved; names = were } ≡ old → Some r ≡ reserved → left ≡ None → items ≡ journal ++ r.row ∷ [] → old.reserved ≡ Some change →
+    record { capacity = capacity; journal = items; reserved = option_map (λ (x : Reserved). x.row) left; names = names } ≡ with_commit old change names
+seen_added capacity journal items reserved left were names old r change view there gone more is =
+    let same : Some r.row ≡ Some change = ap (option_map (λ (x : Reserved). x.row)) there ∙ ap (λ (b : Contents). b.reserved) view ∙ is in
+    let row : r.row ≡ change = cc in
+    let limit : capacity ≡ old.capacity = ap (λ (b : Contents). b.capacity) view in
+    let longer : items ≡ old.journal ++ change ∷ [] = more ∙ ap (λ (b : Contents). b.journal ++ r.row ∷ []) view ∙ ap (λ (c : Change). old.journal ++ c ∷ []) row in
+    let none : option_map (λ (x : Reserved). x.row) left ≡ None = ap (option_map (λ (x : Reserved). x.row)) gone in
+    λ i. record { capacity = limit i; journal = longer i; reserved = none i; names = names }

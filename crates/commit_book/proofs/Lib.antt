@@ -3,6 +3,8 @@ mod ContentsLemmas
 mod DocumentLemmas
 mod GrowLemmas
 mod IndexLemmas
+mod NameLemmas
 mod OrderLemmas
+mod RoomLemmas
 mod SameLemmas
 mod StandardFacts

@@ -39,8 +39,8 @@ costs = (refl, refl, refl)
 
 -- a change that comes to the capacity is taken, one above it is not, and the sum is told
 capacity :
-    (added (record { capacity = 154; journal = put (codes "p2") 1 ∷ []; reserved = None }) (put (codes "p2") 1) ≡ Ok 2)
-    × (added (record { capacity = 153; journal = put (codes "p2") 1 ∷ []; reserved = None }) (put (codes "p2") 1) ≡ Err (Full 154))
+    (added (record { capacity = 154; journal = put (codes "p2") 1 ∷ []; reserved = None; names = [] }) (put (codes "p2") 1) ≡ Ok 2)
+    × (added (record { capacity = 153; journal = put (codes "p2") 1 ∷ []; reserved = None; names = [] }) (put (codes "p2") 1) ≡ Err (Full 154))
 unfolding cost_of digits escape_byte
 capacity = (refl, refl)
 

@@ -41,10 +41,18 @@ abbrev pub alteration : List Change → ℕ → Option Change
 alteration journal zero = None
 alteration journal (suc n) = option_and_then (λ change. if is_some change.document || is_some (document_at journal n change.collection change.id) then Some change else None) (slice_get journal n)
 
+-- what a change takes of the capacity beside its names and its text, in bytes
+abbrev pub row_bytes : ℕ
+row_bytes = 64
+
 -- what a change takes of the capacity, in bytes
 unfoldable pub cost_of : Change → ℕ
-cost_of change = 64 + length change.collection + length change.id + length (text_of change.document)
+cost_of change = row_bytes + length change.collection + length change.id + length (text_of change.document)
 
 -- what the changes take together
 abbrev pub kept : List Change → ℕ
 kept journal = sum_by cost_of journal
+
+-- what they take with one change more, by which a write is accepted
+abbrev pub kept_with : List Change → Change → ℕ
+kept_with journal change = kept journal + cost_of change

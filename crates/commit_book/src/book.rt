@@ -7,13 +7,14 @@ ghost use Rattle.commit_book.specs.CommitRows.{commit_row, commit_rows};
 ghost use Rattle.commit_book.specs.Documents.{docs, HasDocuments};
 ghost use Rattle.commit_book.specs.Index.{put_of};
 ghost use Rattle.commit_book.specs.Journal.{document_at, text_at, alteration, kept};
+ghost use Rattle.commit_book.specs.Names.{AreNamesOf};
 
 use crate::change::{Change, CommitRow, copy_of, is_same};
 use crate::documents::documents_under;
 use crate::found::{copy_of_found, document_of, printed_of, row_at};
-use crate::index::{Collections, commits_in, make_room_in, push_in};
+use crate::index::{Collections, commits_in, place_in, push_in};
 use crate::refusal::BookRefusal;
-use crate::row::{Row, cost_of, text_of};
+use crate::row::{Reserved, Row, cost_of, text_of};
 use indexmap::IndexMap;
 use q_base::{Commit, Memory, Name, SharedText};
 use q_doc::Doc;
@@ -31,14 +32,15 @@ pub struct Book {
     rows: Vec<Row>,
     /// The commits of each record.
     collections: Collections,
-    reserved: Option<Row>,
+    reserved: Option<Reserved>,
 }
 
 impl Model for Book {
     ghost use Rattle.std.specs.Coded.{codes};
     ghost use Rattle.q_doc.specs.Code.{tree_code};
     ghost use Rattle.commit_book.specs.Contents.{Contents};
-    ghost use Rattle.commit_book.specs.Index.{IsSound};
+    ghost use Rattle.std.specs.Prelude.{option_map};
+    ghost use Rattle.commit_book.specs.Index.{IsSound, names_of};
 
     ghost Value = { Contents };
 
@@ -47,7 +49,8 @@ impl Model for Book {
     ghost view = { λ b. record {
       capacity = b.capacity;
       journal = b.rows.items;
-      reserved = b.reserved;
+      reserved = option_map (λ r. r.row) b.reserved;
+      names = names_of b.collections;
     } };
 
     ghost invariant = { λ b. IsSound b.capacity b.bytes b.rows b.collections b.reserved };
@@ -84,8 +87,8 @@ impl Book {
         }
         let row = Row::of(self.alloc, change, text)?;
         self.rows.reserve(1)?;
-        make_room_in(&mut self.collections, &change.collection, &change.id)?;
-        self.reserved = Some(row);
+        let place = place_in(&mut self.collections, &change.collection, &change.id)?;
+        self.reserved = Some(Reserved { row, place });
         Ok(())
     }
 
@@ -93,17 +96,19 @@ impl Book {
     pub fn add_reserved(&mut self) -> Commit
         requires { IsSome self.old.reserved }
         ensures commit { result ≡ length self.old.journal + 1 }
-        ensures after { (change : AChange) → self.old.reserved ≡ Some change → self.new ≡ with_commit self.old change }
+        ensures after { (change : AChange) → self.old.reserved ≡ Some change → self.new ≡ with_commit self.old change self.new.names }
+        ensures names { AreNamesOf self.new.journal self.new.names }
         ensures fits { kept self.new.journal ≤ self.new.capacity }
     {
         match self.reserved.take() {
-            Some(row) => {
+            Some(Reserved { row, place }) => {
                 let commit = self.rows.len() as u64 + 1;
                 let change = row.change();
                 push_in(
                     &mut self.collections,
                     &change.collection,
                     &change.id,
+                    place,
                     commit,
                 );
                 self.bytes += row.cost();
@@ -117,7 +122,8 @@ impl Book {
     /// Adds a change as the next commit. It takes no memory where the change was reserved.
     pub fn add(&mut self, change: &Change) -> Result<Commit, BookRefusal>
         ensures told { (result ≡ Err NoMemory) ⊎ (result ≡ added self.old change.now) }
-        ensures after { OnOk result (self.new ≡ with_commit self.old change.now) }
+        ensures after { OnOk result (self.new ≡ with_commit self.old change.now self.new.names) }
+        ensures names { OnOk result (AreNamesOf self.new.journal self.new.names) }
         ensures reserved { self.old.reserved ≡ Some change.now → IsOk result }
         ensures err { OnErr result (self.new ≡ self.old) }
     {
@@ -132,14 +138,15 @@ impl Book {
         ensures { result ≡ is_reserved self.now change.now }
     {
         match &self.reserved {
-            Some(row) => is_same(row.change(), change),
+            Some(reserved) => is_same(reserved.row.change(), change),
             None => false,
         }
     }
 
-    /// The number of commits.
+    /// The number of commits. The index has the names of their records, and no others.
     pub fn count(&self) -> Commit
         ensures count { result ≡ length self.now.journal }
+        ensures names { AreNamesOf self.now.journal self.now.names }
         ensures fits { kept self.now.journal ≤ self.now.capacity }
     {
         self.rows.len() as u64

@@ -1,17 +1,38 @@
 //! The index of a book: the commits of each record, by the names of its collection and of its document.
-ghost use Rattle.std.specs.Prelude.{◌≡◌, ℕ, ◌<◌, ◌≤◌, ◌++◌, ◌∷◌, [], List, ◌≢◌, OnOk, None};
+ghost use Rattle.std.specs.Prelude.{◌≡◌, ℕ, ◌<◌, ◌++◌, ◌∷◌, [], List, ◌≢◌, IfOk, None, false};
 ghost use Rattle.std.specs.Str.{bytes_eq};
-ghost use Rattle.indexmap.specs.IndexMap.{get_by};
-ghost use Rattle.commit_book.specs.Index.{commits_under, commits_in, room_under, room_in};
+ghost use Rattle.std.specs.Map.{keys_of};
+ghost use Rattle.indexmap.specs.IndexMap.{get_by, spare};
+ghost use Rattle.commit_book.specs.Index.{commits_under, commits_in, room_under, room_in, names_of, spare_in, IsNew, IsPlaceUnder, IsPlaceIn, KeepsRoom, KeepsRoomUnder};
+ghost use Rattle.commit_book.specs.Names.{AddsName, has_collection, has_record};
 
 use indexmap::IndexMap;
 use q_base::{Commit, Memory, Name};
+use std::alloc::Global;
 
-/// The commits of each id of a collection, ascending. An id without a commit was reserved and not used.
+/// The commits of each id of a collection, ascending. Each id has one.
 pub type Records = IndexMap<Name, Vec<Commit>>;
 
-/// The records of each collection.
+/// The records of each collection. Each collection has one.
 pub type Collections = IndexMap<Name, Records>;
+
+/// A record that is not in the index, with room for its first commit.
+#[derive(Drop)]
+pub struct NewRecord {
+    pub id: Name,
+    pub commits: Vec<Commit>,
+}
+
+/// Where the next commit of a record goes, with room for it.
+#[derive(Drop)]
+pub enum Place {
+    /// The record is in the index.
+    Known,
+    /// Its collection is, and has room for it.
+    InCollection(NewRecord),
+    /// The index has room for the collection, and that for the record.
+    InNewCollection(Name, Records, NewRecord),
+}
 
 /// The commits of a record.
 pub fn commits_in<'a>(collections: &'a Collections, collection: &Name, id: &Name) -> &'a [Commit]
@@ -33,12 +54,36 @@ fn commits_under<'a>(records: &'a Records, id: &Name) -> &'a [Commit]
     }
 }
 
-/// Adds a commit of a record, in the room that was made for it.
-pub fn push_in(collections: &mut Collections, collection: &Name, id: &Name, commit: Commit)
+/// Adds a commit of a record at the place that was found for it. It takes no memory.
+pub fn push_in(
+    collections: &mut Collections,
+    collection: &Name,
+    id: &Name,
+    place: Place,
+    commit: Commit,
+)
+    requires { IsPlaceIn collections.old collection.now id.now place }
+    ensures own { commits_in collections.new collection.now id.now ≡ commits_in collections.old collection.now id.now ++ commit ∷ [] }
+    ensures ids { (other : List ℕ) → other ≢ id.now → commits_in collections.new collection.now other ≡ commits_in collections.old collection.now other }
+    ensures others { (collection' id' : List ℕ) → collection' ≢ collection.now → commits_in collections.new collection' id' ≡ commits_in collections.old collection' id' }
+    ensures names { AddsName collection.now id.now (names_of collections.old) (names_of collections.new) }
+{
+    match place {
+        Place::Known => push_known(collections, collection, id, commit),
+        Place::InCollection(new) => put_record(collections, collection, new, commit),
+        Place::InNewCollection(name, records, new) => {
+            put_collection(collections, name, records, new, commit)
+        }
+    }
+}
+
+/// Adds a commit of a record that is in the index.
+fn push_known(collections: &mut Collections, collection: &Name, id: &Name, commit: Commit)
     requires { 0 < room_in collections.old collection.now id.now }
     ensures own { commits_in collections.new collection.now id.now ≡ commits_in collections.old collection.now id.now ++ commit ∷ [] }
     ensures ids { (other : List ℕ) → other ≢ id.now → commits_in collections.new collection.now other ≡ commits_in collections.old collection.now other }
     ensures others { (collection' id' : List ℕ) → collection' ≢ collection.now → commits_in collections.new collection' id' ≡ commits_in collections.old collection' id' }
+    ensures names { AddsName collection.now id.now (names_of collections.old) (names_of collections.new) }
 {
     match collections.get_mut(collection) {
         Some(records) => push_under(records, id, commit),
@@ -46,11 +91,12 @@ pub fn push_in(collections: &mut Collections, collection: &Name, id: &Name, comm
     }
 }
 
-/// Adds a commit of an id, in the room that was made for it.
+/// Adds a commit of an id that is in its collection.
 fn push_under(records: &mut Records, id: &Name, commit: Commit)
     requires { 0 < room_under records.old id.now }
     ensures own { commits_under records.new id.now ≡ commits_under records.old id.now ++ commit ∷ [] }
     ensures others { (other : List ℕ) → other ≢ id.now → commits_under records.new other ≡ commits_under records.old other }
+    ensures ids { keys_of records.new.entries ≡ keys_of records.old.entries }
 {
     match records.get_mut(id) {
         Some(commits) => commits.push_reserved(commit),
@@ -58,60 +104,116 @@ fn push_under(records: &mut Records, id: &Name, commit: Commit)
     }
 }
 
-/// Makes room for one commit more of a record. The commits stay, and so does the room of other records.
-pub fn make_room_in(
-    collections: &mut Collections,
-    collection: &Name,
-    id: &Name,
-) -> Result<(), Memory>
-    ensures ok { OnOk result (0 < room_in collections.new collection.now id.now) }
-    ensures same { (collection' id' : List ℕ) → commits_in collections.new collection' id' ≡ commits_in collections.old collection' id' }
-    ensures room { (collection' id' : List ℕ) → room_in collections.old collection' id' ≤ room_in collections.new collection' id' }
+/// Puts a record with its first commit into a collection that is in the index.
+fn put_record(collections: &mut Collections, collection: &Name, new: NewRecord, commit: Commit)
+    requires new { IsNew new.id new }
+    requires spare { 0 < spare_in collections.old collection.now }
+    requires absent { has_record (names_of collections.old) collection.now new.id ≡ false }
+    ensures own { commits_in collections.new collection.now new.id ≡ commits_in collections.old collection.now new.id ++ commit ∷ [] }
+    ensures ids { (other : List ℕ) → other ≢ new.id → commits_in collections.new collection.now other ≡ commits_in collections.old collection.now other }
+    ensures others { (collection' id' : List ℕ) → collection' ≢ collection.now → commits_in collections.new collection' id' ≡ commits_in collections.old collection' id' }
+    ensures names { AddsName collection.now new.id (names_of collections.old) (names_of collections.new) }
 {
     match collections.get_mut(collection) {
-        Some(records) => make_room_under(records, id),
-        None => put_in(collections, collection, id),
+        Some(records) => put_under(records, new, commit),
+        None => unreachable!(),
     }
 }
 
-/// Puts a collection in, with room for a commit of one id.
-fn put_in(collections: &mut Collections, collection: &Name, id: &Name) -> Result<(), Memory>
-    requires { get_by (bytes_eq collection.now) collections.old ≡ None }
-    ensures ok { OnOk result (0 < room_in collections.new collection.now id.now) }
-    ensures same { (collection' id' : List ℕ) → commits_in collections.new collection' id' ≡ commits_in collections.old collection' id' }
-    ensures room { (collection' id' : List ℕ) → room_in collections.old collection' id' ≤ room_in collections.new collection' id' }
+/// Puts a record with its first commit under its id.
+fn put_under(records: &mut Records, new: NewRecord, commit: Commit)
+    requires new { IsNew new.id new }
+    requires spare { 0 < spare records.old }
+    requires absent { get_by (bytes_eq new.id) records.old ≡ None }
+    ensures own { commits_under records.new new.id ≡ commit ∷ [] }
+    ensures others { (other : List ℕ) → other ≢ new.id → commits_under records.new other ≡ commits_under records.old other }
+    ensures ids { keys_of records.new.entries ≡ keys_of records.old.entries ++ new.id ∷ [] }
 {
-    let mut records = IndexMap::new(*collections.allocator());
-    put_under(&mut records, id)?;
-    let name = collection.clone()?;
-    collections.insert(name, records)?;
-    Ok(())
+    let NewRecord { id, mut commits } = new;
+    commits.push_reserved(commit);
+    match records.insert(id, commits) {
+        Ok(_) => {}
+        Err(_) => unreachable!(),
+    }
 }
 
-/// Makes room for one commit more of an id.
-fn make_room_under(records: &mut Records, id: &Name) -> Result<(), Memory>
-    ensures ok { OnOk result (0 < room_under records.new id.now) }
-    ensures same { (other : List ℕ) → commits_under records.new other ≡ commits_under records.old other }
-    ensures room { (other : List ℕ) → room_under records.old other ≤ room_under records.new other }
+/// Puts a collection in, with one record and its first commit.
+fn put_collection(
+    collections: &mut Collections,
+    name: Name,
+    mut records: Records,
+    new: NewRecord,
+    commit: Commit,
+)
+    requires new { IsNew new.id new }
+    requires empty { records.entries ≡ [] }
+    requires among { 0 < spare records }
+    requires spare { 0 < spare collections.old }
+    requires absent { has_collection (names_of collections.old) name ≡ false }
+    ensures own { commits_in collections.new name new.id ≡ commits_in collections.old name new.id ++ commit ∷ [] }
+    ensures ids { (other : List ℕ) → other ≢ new.id → commits_in collections.new name other ≡ commits_in collections.old name other }
+    ensures others { (collection' id' : List ℕ) → collection' ≢ name → commits_in collections.new collection' id' ≡ commits_in collections.old collection' id' }
+    ensures names { AddsName name new.id (names_of collections.old) (names_of collections.new) }
+{
+    put_under(&mut records, new, commit);
+    match collections.insert(name, records) {
+        Ok(_) => {}
+        Err(_) => unreachable!(),
+    }
+}
+
+/// The place of the next commit of a record, with room for it. No name comes into the index.
+pub fn place_in(
+    collections: &mut Collections,
+    collection: &Name,
+    id: &Name,
+) -> Result<Place, Memory>
+    ensures ok { IfOk result (λ place. IsPlaceIn collections.new collection.now id.now place) }
+    ensures keeps { KeepsRoom collections.old collections.new }
+{
+    match collections.get_mut(collection) {
+        Some(records) => place_under(records, id),
+        None => new_place(collections, collection, id),
+    }
+}
+
+/// The place of the next commit of an id in its collection, with room for it.
+fn place_under(records: &mut Records, id: &Name) -> Result<Place, Memory>
+    ensures ok { IfOk result (λ place. IsPlaceUnder records.new id.now place) }
+    ensures keeps { KeepsRoomUnder records.old records.new }
 {
     match records.get_mut(id) {
         Some(commits) => {
             commits.reserve(1)?;
-            Ok(())
+            Ok(Place::Known)
         }
-        None => put_under(records, id),
+        None => {
+            records.reserve(1)?;
+            Ok(Place::InCollection(new_record(*records.allocator(), id)?))
+        }
     }
 }
 
-/// Puts an id in, with room for one commit.
-fn put_under(records: &mut Records, id: &Name) -> Result<(), Memory>
-    requires { get_by (bytes_eq id.now) records.old ≡ None }
-    ensures ok { OnOk result (0 < room_under records.new id.now) }
-    ensures same { (other : List ℕ) → commits_under records.new other ≡ commits_under records.old other }
-    ensures room { (other : List ℕ) → room_under records.old other ≤ room_under records.new other }
+/// The place of a record whose collection is not in the index, with room for both.
+fn new_place(collections: &mut Collections, collection: &Name, id: &Name) -> Result<Place, Memory>
+    requires { get_by (bytes_eq collection.now) collections.old ≡ None }
+    ensures ok { IfOk result (λ place. IsPlaceIn collections.new collection.now id.now place) }
+    ensures keeps { KeepsRoom collections.old collections.new }
 {
-    let commits = Vec::with_capacity(*records.allocator(), 1)?;
-    let name = id.clone()?;
-    records.insert(name, commits)?;
-    Ok(())
+    collections.reserve(1)?;
+    let alloc = *collections.allocator();
+    let mut records = IndexMap::new(alloc);
+    records.reserve(1)?;
+    let new = new_record(alloc, id)?;
+    Ok(Place::InNewCollection(collection.clone()?, records, new))
+}
+
+/// A record without a commit, with room for one.
+fn new_record(alloc: Global, id: &Name) -> Result<NewRecord, Memory>
+    ensures { IfOk result (λ new. IsNew id.now new) }
+{
+    Ok(NewRecord {
+        id: id.clone()?,
+        commits: Vec::with_capacity(alloc, 1)?,
+    })
 }

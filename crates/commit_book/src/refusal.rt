@@ -19,6 +19,11 @@ pub enum BookRefusal {
 }
 
 impl fmt::Display for BookRefusal {
+    ghost use Rattle.std.specs.Prelude.{Some};
+    ghost use Rattle.commit_book.specs.BookRefusal.{sentence};
+
+    ghost output = { λ e. Some (sentence e) };
+
     fn fmt<W: fmt::Write>(&self, f: &mut fmt::Formatter<W>) -> fmt::Result {
         match self {
             BookRefusal::Full { bytes } => {

@@ -3,6 +3,7 @@ ghost use Rattle.std.specs.Prelude.{◌≡◌, ◌≤◌, ◌^◌, ◌+◌, IfOk
 ghost use Rattle.commit_book.specs.Journal.{text_of, cost_of};
 
 use crate::change::Change;
+use crate::index::Place;
 use q_base::{Memory, SharedText};
 use q_doc::Doc;
 use std::alloc::{AllocError, Global};
@@ -29,6 +30,13 @@ impl Model for Row {
     ghost view = { λ r. r.change };
 
     ghost invariant = { λ r. r.text ≡ text_of r.change.document };
+}
+
+/// A row that is to be added, and the place of its commit in the index.
+#[derive(Drop)]
+pub struct Reserved {
+    pub row: Row,
+    pub place: Place,
 }
 
 impl Row {
@@ -96,6 +104,9 @@ pub fn text_of(alloc: Global, change: &Change) -> Result<Vec<u8>, Memory>
     }
 }
 
+/// What a change takes of the capacity beside its names and its text, in bytes.
+const ROW_BYTES: usize = 64;
+
 /// What a change with this text takes of the capacity, in bytes.
 pub fn cost_of(change: &Change, text: &[u8]) -> u64
     requires { text.now ≡ text_of change.now.document }
@@ -103,5 +114,5 @@ pub fn cost_of(change: &Change, text: &[u8]) -> u64
     ensures most { result ≤ 2 ^ 63 + 192 }
 {
     let names = change.collection.as_slice().len() + change.id.as_slice().len();
-    (64 + names + text.len()) as u64
+    (ROW_BYTES + names + text.len()) as u64
 }

@@ -1,5 +1,5 @@
 -- Counters and their bits.
-use Rattle.std.proofs.Common.{◌≡◌, if◌then◌else◌, ℕ, ◌+◌, ◌-◌, ◌/◌, ◌<◌, ◌≤◌, ◌==◌, Bool, cond, List, length, map, take, drop, set, get_or, nat_lt, refl, sym, ap, ap₂, ◌∙◌, subst, arith, inl, inr}
+use Rattle.std.proofs.Common.{◌≡◌, if◌then◌else◌, ℕ, ◌+◌, ◌-◌, ◌/◌, ◌<◌, ◌≤◌, ◌==◌, Bool, cond, List, ◌++◌, length, map, take, drop, set, get_or, nat_lt, refl, sym, ap, ap₂, ◌∙◌, subst, arith, inl, inr}
 use Rattle.std.proofs.lemmas.Bool.{cases_eq}
 use Rattle.std.proofs.lemmas.List.{get_or-set_same, get_or-set_other, length-map, map-set}
 use Rattle.std.proofs.lemmas.List.Sums.{count_by_more_yes, count_by_more_no, sum_by-take-drop}
@@ -7,7 +7,22 @@ use Rattle.std.proofs.lemmas.Bool.{eq-eqb, ne_eqb, cond-true, cond-false}
 use Rattle.std.proofs.Math.Seq.{map-set_same}
 use Rattle.query_normal.specs.Bits.{flat_bits}
 use Rattle.query_normal.proofs.BitLemmas.{length-flat_bits}
+use Rattle.std.proofs.Math.Seq.{take-append_seam}
+use Rattle.q_base.specs.Positions.{positions_of}
+use Rattle.query_normal.specs.declared.key.KeyShape.{KeyShape}
+use Rattle.query_normal.specs.Keys.{key_text}
+use Rattle.query_normal.specs.Pages.{positions}
 use Rattle.expiring_filter.specs.Counts.{times, IsFlat}
+
+-- a vector behind a write of its whole
+pub whole_written : {X : Type 0} (old lent new : List X) (len : ℕ) → lent ≡ old → length lent ≡ len → length new ≡ length lent → take len (new ++ drop (length new) old) ≡ new
+whole_written {X} old lent new len value long same =
+    let size : len ≡ length new = sym long ∙ sym same in
+    ap (λ (n : ℕ). take n (new ++ drop (length new) old)) size ∙ take-append_seam new (drop (length new) old)
+
+-- the positions of a key, as the code has them
+pub placed : (key : KeyShape) (text places : List ℕ) (log2_bits hashes : ℕ) → places ≡ positions_of text log2_bits hashes → text ≡ key_text key → places ≡ positions key log2_bits hashes
+placed key text places log2_bits hashes made kept = made ∙ ap (λ (t : List ℕ). positions_of t log2_bits hashes) kept
 
 -- there is a byte for a counter
 pub byte_within : (counters bytes : List ℕ) (j : ℕ) → IsFlat counters bytes → j < length counters → j / 8 < length bytes

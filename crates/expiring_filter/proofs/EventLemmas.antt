@@ -1,11 +1,10 @@
 -- Which keys a list of calls leaves.
-use Rattle.std.proofs.Common.{◌≡◌, ℕ, zero, suc, ◌<◌, ◌≤◌, Bool, true, false, ◌||◌, ◌⊎◌, cond, max, nat_lt, List, [], ◌∷◌, ◌++◌, length, All, if◌then◌else◌, refl, sym, ap, ◌∙◌, subst, arith, inl, inr}
-use Rattle.std.specs.List.{list_any}
+use Rattle.std.proofs.Common.{◌≡◌, ℕ, zero, suc, ◌<◌, ◌≤◌, Bool, true, false, ◌⊎◌, max, nat_lt, List, [], ◌∷◌, ◌++◌, All, if◌then◌else◌, refl, sym, ap, ◌∙◌, subst, arith, inl, inr}
 use Rattle.std.specs.List.Sorted.{IsPermutation}
 use Rattle.std.proofs.lemmas.Bool.{cases_Bool, cases_lt, lt-ltb, le-ltb}
 use Rattle.std.proofs.lemmas.List.Sorted.{All-permutation, IsPermutation-sym}
 use Rattle.query_normal.specs.Keys.{same_key}
-use Rattle.query_normal.specs.SameKey.{same_key-Decides, same_key_equiv}
+use Rattle.query_normal.specs.SameKey.{same_key-Decides}
 use Rattle.query_normal.specs.declared.key.KeyShape.{KeyShape}
 use Rattle.expiring_filter.specs.Events.{Event, add, remove, advance, clock_after, added_until, held_after, second_of, EndsAs}
 use Rattle.expiring_filter.specs.Filter.{Filter, Removes, is_held}
@@ -152,6 +151,10 @@ later-removed : (clock : ℕ) (held rest : Held) (other : KeyShape) → Removes 
 later-removed clock held rest other r all = all-behind (λ e. clock < e.1) r.gone rest (All-permutation (λ e. clock < e.1) held (r.gone ++ rest) r.parted all)
 
 -- a later moment
+later-expired : (clock moment : ℕ) (held rest : Held) → Expires moment held rest → All (λ e. clock < e.1) held → All (λ e. clock < e.1) rest
+later-expired clock moment held rest expires all =
+    all-behind (λ e. clock < e.1) expires.lost.gone rest (All-permutation (λ e. clock < e.1) held (expires.lost.gone ++ rest) expires.lost.parted all)
+
 second-expired : (clock : ℕ) (held rest : Held) → Expires clock held rest → (key : KeyShape) → second_of rest key ≡ (if nat_lt clock (second_of held key) then second_of held key else 0)
 second-expired clock held rest expires key =
     let whole = second-permuted held (expires.lost.gone ++ rest) key expires.lost.parted in
@@ -169,20 +172,16 @@ second-expired clock held rest expires key =
 
 -- ---- any list of calls
 
-pub clock_ends : (log2_bits hashes : ℕ) (events : List Event) (after : Filter) → EndsAs log2_bits hashes events after → after.clock ≡ clock_after events
-clock_ends log2_bits hashes [] after ends = ap (λ (f : Filter). f.clock) ends
-clock_ends log2_bits hashes (add key until ∷ events) after (before, ends, follows) = follows.1 ∙ clock_ends log2_bits hashes events before ends
-clock_ends log2_bits hashes (remove key ∷ events) after (before, ends, follows) = follows.0 ∙ clock_ends log2_bits hashes events before ends
-clock_ends log2_bits hashes (advance moment ∷ events) after (before, ends, follows) = follows.0 ∙ ap (λ (n : ℕ). max n moment) (clock_ends log2_bits hashes events before ends)
-
-later_ends : (log2_bits hashes : ℕ) (events : List Event) (after : Filter) → EndsAs log2_bits hashes events after → All (λ e. after.clock < e.1) after.held
-later_ends log2_bits hashes [] after ends = subst (λ (f : Filter). All (λ e. f.clock < e.1) f.held) (sym ends) (λ k d low. absurd (omega (arith, low)))
+later_ends : (log2_bits hashes : ℕ) (events : List Event) (after : Filter) → EndsAs log2_bits hashes events after → All (λ e. clock_after events < e.1) after.held
+later_ends log2_bits hashes [] after ends = subst (λ (f : Filter). All (λ e. 0 < e.1) f.held) (sym ends) (λ k d low. absurd (omega (arith, low)))
 later_ends log2_bits hashes (add key until ∷ events) after (before, ends, follows) =
-    subst (λ (n : ℕ). All (λ e. n < e.1) after.held) (sym follows.1)
-    (subst (λ (xs : Held). All (λ e. before.clock < e.1) xs) (sym follows.2) (later-put before.clock before.held key until follows.0 (later_ends log2_bits hashes events before ends)))
+    subst (λ (xs : Held). All (λ e. clock_after events < e.1) xs) (sym follows.1) (later-put (clock_after events) before.held key until follows.0 (later_ends log2_bits hashes events before ends))
 later_ends log2_bits hashes (remove key ∷ events) after (before, ends, follows) =
-    subst (λ (n : ℕ). All (λ e. n < e.1) after.held) (sym follows.0) (later-removed before.clock before.held after.held key follows.1 (later_ends log2_bits hashes events before ends))
-later_ends log2_bits hashes (advance moment ∷ events) after (before, ends, follows) = follows.1.later
+    later-removed (clock_after events) before.held after.held key follows (later_ends log2_bits hashes events before ends)
+later_ends log2_bits hashes (advance moment ∷ events) after (before, ends, follows) = λ k d low.
+    let old = later-expired (clock_after events) moment before.held after.held follows (later_ends log2_bits hashes events before ends) k d low in
+    let new = follows.later k d low in
+    omega (arith, old, new)
 
 -- a second that is to come, and else 0
 abbrev while_later : ℕ → ℕ → ℕ
@@ -201,42 +200,36 @@ fewer_later : (clock n : ℕ) (b : Bool) → (if b then 0 else while_later clock
 fewer_later clock n true = rw (le-ltb clock 0 (omega arith)) refl
 fewer_later clock n false = refl
 
-later_still : (early late n : ℕ) → early ≤ late → while_later late (while_later early n) ≡ while_later late n
-later_still early late n order =
-    elim (cases_lt early n) [
-      | inl above ↦ rw (lt-ltb early n above) refl
-      | inr past ↦ rw (le-ltb early n past, le-ltb late n (omega (arith, past, order)), le-ltb late 0 (omega arith)) refl
+both_later : (clock moment n : ℕ) → while_later moment (while_later clock n) ≡ while_later (max clock moment) n
+both_later clock moment n =
+    elim (cases_lt (max clock moment) n) [
+      | inl above ↦ rw (lt-ltb clock n (omega (arith, above)), lt-ltb moment n (omega (arith, above)), lt-ltb (max clock moment) n above) refl
+      | inr past ↦ elim (cases_lt clock n) [
+        | inl early ↦ rw (lt-ltb clock n early, le-ltb moment n (omega (arith, past, early)), le-ltb (max clock moment) n past) refl
+        | inr old ↦ rw (le-ltb clock n old, le-ltb moment 0 (omega arith), le-ltb (max clock moment) n past) refl
+      ]
     ]
 
 pub second_ends : (log2_bits hashes : ℕ) (events : List Event) (after : Filter) (key : KeyShape) → EndsAs log2_bits hashes events after → second_of after.held key ≡ held_after events key
 second_ends log2_bits hashes [] after key ends = ap (λ (f : Filter). second_of f.held key) ends
 second_ends log2_bits hashes (add other until ∷ events) after key (before, ends, follows) =
-    let clock = clock_ends log2_bits hashes events before ends in
-    let old = second_ends log2_bits hashes events before key ends in
-    ap (λ (xs : Held). second_of xs key) follows.2
+    ap (λ (xs : Held). second_of xs key) follows.1
     ∙ second-put before.held other until key
-    ∙ ap (λ (n : ℕ). max n (if same_key key other then until else 0)) old
-    ∙ more_later (clock_after events) (added_until events key) until (subst (λ (n : ℕ). n < until) clock follows.0) (same_key key other)
+    ∙ ap (λ (n : ℕ). max n (if same_key key other then until else 0)) (second_ends log2_bits hashes events before key ends)
+    ∙ more_later (clock_after events) (added_until events key) until follows.0 (same_key key other)
 second_ends log2_bits hashes (remove other ∷ events) after key (before, ends, follows) =
-    let old = second_ends log2_bits hashes events before key ends in
-    second-removed before.held after.held other follows.1 key
-    ∙ ap (λ (n : ℕ). if same_key key other then 0 else n) old
+    second-removed before.held after.held other follows key
+    ∙ ap (λ (n : ℕ). if same_key key other then 0 else n) (second_ends log2_bits hashes events before key ends)
     ∙ fewer_later (clock_after events) (added_until events key) (same_key key other)
 second_ends log2_bits hashes (advance moment ∷ events) after key (before, ends, follows) =
-    let clock = clock_ends log2_bits hashes events before ends in
-    let old = second_ends log2_bits hashes events before key ends in
-    let now : after.clock ≡ max (clock_after events) moment = follows.0 ∙ ap (λ (n : ℕ). max n moment) clock in
-    second-expired after.clock before.held after.held follows.1 key
-    ∙ ap (while_later after.clock) old
-    ∙ ap (λ (n : ℕ). while_later n (held_after events key)) now
-    ∙ later_still (clock_after events) (max (clock_after events) moment) (added_until events key) (omega arith)
+    second-expired moment before.held after.held follows key
+    ∙ ap (while_later moment) (second_ends log2_bits hashes events before key ends)
+    ∙ both_later (clock_after events) moment (added_until events key)
 
 pub held_ends : (log2_bits hashes : ℕ) (events : List Event) (after : Filter) (key : KeyShape) → EndsAs log2_bits hashes events after → is_held after key ≡ nat_lt (clock_after events) (added_until events key)
 held_ends log2_bits hashes events after key ends =
-    let clock = clock_ends log2_bits hashes events after ends in
-    among-above after.clock after.held key (later_ends log2_bits hashes events after ends)
-    ∙ ap (nat_lt after.clock) (second_ends log2_bits hashes events after key ends)
-    ∙ ap (λ (n : ℕ). nat_lt n (held_after events key)) clock
+    among-above (clock_after events) after.held key (later_ends log2_bits hashes events after ends)
+    ∙ ap (nat_lt (clock_after events)) (second_ends log2_bits hashes events after key ends)
     ∙ tests (clock_after events) (added_until events key)
   where
     tests : (c n : ℕ) → nat_lt c (while_later c n) ≡ nat_lt c n

@@ -1,5 +1,3 @@
 pub mod CountLemmas
 pub mod FilterLemmas
-pub mod HeldLemmas
-pub mod PutLemmas
 pub mod EventLemmas

@@ -6,11 +6,10 @@ use Rattle.query_normal.specs.declared.key.KeyShape.{KeyShape}
 use Rattle.query_normal.specs.Keys.{same_key}
 use Rattle.expiring_filter.specs.Held.{count_among, is_among}
 
--- the size of its bits, the hashes of a key, the greatest moment so far, the held keys, each once, and the keys that may be added without memory
+-- the size of its bits, the hashes of a key, the held keys, each once, and the keys that may be added without memory
 pub record Filter : Type 0 where
   pub log2_bits : ℕ
   pub hashes : ℕ
-  pub clock : ℕ
   pub held : List (KeyShape × ℕ)
   pub reserved : List KeyShape
 
@@ -19,7 +18,6 @@ abbrev pub empty_filter : ℕ → ℕ → Filter
 empty_filter log2_bits hashes = record {
   log2_bits = log2_bits;
   hashes = hashes;
-  clock = 0;
   held = [];
   reserved = [];
 }

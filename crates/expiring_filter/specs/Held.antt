@@ -5,9 +5,6 @@ use Rattle.std.specs.List.Sorted.{IsPermutation}
 use Rattle.query_normal.specs.declared.key.KeyShape.{KeyShape}
 use Rattle.query_normal.specs.Keys.{same_key}
 use Rattle.query_normal.specs.Pages.{positions}
-use Rattle.std.specs.declared.cmp.Reverse.{Reverse}
-use Rattle.std.specs.BinaryHeap.{IsHeap}
-use Rattle.expiring_filter.specs.Due.{queue_cmp, IsCovered}
 use Rattle.expiring_filter.specs.Counts.{times, IsFlat}
 
 -- how often j stands among the positions of the keys, with repetitions
@@ -42,10 +39,3 @@ put_until (e ∷ held) key until = if same_key key e.0 then (e.0, max e.1 until)
 -- whether a key is among those held
 abbrev pub is_among : List (KeyShape × ℕ) → KeyShape → Bool
 is_among held key = list_any (λ e. same_key key e.0) held
-
--- the counters, the bits and the queue are those of the held keys, of which none is past the clock
-pub record IsSound (log2_bits hashes clock : ℕ) (held : List (KeyShape × ℕ)) (queue : List (Reverse (ℕ × ℕ))) (counters bytes : List ℕ) : Type 0 where
-  pub counted : IsCounted log2_bits hashes held counters bytes
-  pub ordered : IsHeap queue_cmp queue
-  pub covered : IsCovered held queue
-  pub unexpired : All (λ e. clock < e.1) held

@@ -1,57 +1,46 @@
 //! The counting filter.
-ghost use Rattle.std.specs.Prelude.{◌≡◌, ◌⊎◌, ◌+◌, ◌*◌, ◌^◌, ◌<◌, ◌≤◌, max, not, ◌&&◌, if◌then◌else◌, true, false, [], IsTrue, IfOk, OnOk, OnErr, length, map};
+ghost use Rattle.std.specs.Prelude.{◌≡◌, ◌⊎◌, ◌^◌, ◌<◌, ◌≤◌, not, ◌&&◌, false, [], None, IsTrue, IfOk, OnOk, OnErr, length, map};
+ghost use Rattle.std.specs.List.{IsDistinct};
+ghost use Rattle.std.specs.Map.{lookup};
 ghost use Rattle.query_normal.specs.declared.key.KeyShape.{KeyShape as AKey};
 ghost use Rattle.query_normal.specs.Bits.{flat_bits};
 ghost use Rattle.query_normal.specs.Keys.{same_key};
+ghost use Rattle.expiring_map.specs.Entries.{seconds_of};
+ghost use Rattle.expiring_map.specs.Map.{is_reserved as is_ready};
 ghost use Rattle.expiring_filter.specs.Filter.{empty_filter, is_held, is_reserved, count_of, bits_of, Removes};
-ghost use Rattle.expiring_filter.specs.Held.{put_until, Expires};
-ghost use Rattle.std.specs.List.{list_any, IsDistinct};
-ghost use Rattle.std.specs.BinaryHeap.{heap_items, heap_len, heap_capacity};
-ghost use Rattle.indexmap.specs.IndexMap.{index_map_len, spare};
-ghost use Rattle.indexmap.specs.IndexSet.{spare as set_spare, index_set_len};
+ghost use Rattle.expiring_filter.specs.Held.{IsCounted, put_until, Expires};
 
-use crate::held::{Counters, Held, delay, drop_at, expire, put};
-use crate::queue::Queue;
-use indexmap::{IndexMap, IndexSet};
+use crate::counters::Counters;
+use expiring_map::ExpiringMap;
 use q_base::{Memory, Moment};
 use query_normal::Key;
 use std::alloc::Global;
-use std::collections::BinaryHeap;
 use std::marker::Model;
 
 /// Keys that leave by themselves when their second has come, counted at the positions of their texts.
 /// The bits of the counts above 0 are kept beside them.
 #[derive(Drop)]
 pub struct CountingFilter {
-    clock: u64,
-    held: Held,
-    reserved: IndexSet<Key>,
-    queue: Queue,
+    keys: ExpiringMap<()>,
     counters: Counters,
 }
 
 impl Model for CountingFilter {
-    ghost use Rattle.std.specs.Prelude.{◌+◌, ◌*◌, ◌≤◌};
-    ghost use Rattle.std.specs.BinaryHeap.{heap_items, heap_len, heap_capacity};
-    ghost use Rattle.indexmap.specs.IndexMap.{index_map_len, spare};
-    ghost use Rattle.indexmap.specs.IndexSet.{index_set_len};
+    ghost use Rattle.expiring_map.specs.Entries.{seconds_of};
     ghost use Rattle.expiring_filter.specs.Filter.{Filter};
-    ghost use Rattle.expiring_filter.specs.Held.{IsSound};
+    ghost use Rattle.expiring_filter.specs.Held.{IsCounted};
 
     ghost Value = { Filter };
 
     ghost view = { λ f. record {
       log2_bits = f.counters.log2_bits;
       hashes = f.counters.hashes;
-      clock = f.clock;
-      held = f.held.entries;
-      reserved = f.reserved.keys;
+      held = seconds_of f.keys.entries;
+      reserved = f.keys.reserved;
     } };
 
     ghost invariant = { λ f. record {
-      sound : IsSound f.counters.log2_bits f.counters.hashes f.clock f.held.entries (heap_items f.queue) f.counters.counts.items f.counters.bits.items;
-      map_room : index_set_len f.reserved ≤ spare f.held;
-      queue_room : heap_len f.queue + index_map_len f.held + 2 * index_set_len f.reserved ≤ heap_capacity f.queue;
+      counted : IsCounted f.counters.log2_bits f.counters.hashes (seconds_of f.keys.entries) f.counters.counts.items f.counters.bits.items;
     } };
 }
 
@@ -67,10 +56,7 @@ impl CountingFilter {
         let counts = vec![in alloc; 0u32; size]?;
         let bits = vec![in alloc; 0u8; size / 8]?;
         Ok(CountingFilter {
-            clock: 0,
-            held: IndexMap::new(alloc),
-            reserved: IndexSet::new(alloc),
-            queue: BinaryHeap::new(alloc),
+            keys: ExpiringMap::new(alloc),
             counters: Counters {
                 log2_bits,
                 hashes,
@@ -87,12 +73,7 @@ impl CountingFilter {
         ensures rest { self.new ≡ record self.old { reserved = self.new.reserved } }
         ensures err { OnErr result (self.new ≡ self.old) }
     {
-        if self.reserved.contains(key) {
-            return Ok(());
-        }
-        let copy = key.clone()?;
-        stash(&mut self.held, &mut self.queue, &mut self.reserved, copy)?;
-        Ok(())
+        self.keys.reserve(key)
     }
 
     /// Holds a key until a second, or until the later one where it is held. A key that is not held
@@ -100,34 +81,25 @@ impl CountingFilter {
     pub fn add(&mut self, key: &Key, until: u64)
         requires reserved { IsTrue (is_reserved self.old key.now) ⊎ IsTrue (is_held self.old key.now) }
         requires few { IsTrue (is_held self.old key.now) ⊎ (length self.old.held < 1000000) }
-        requires later { self.old.clock < until }
         ensures held { self.new.held ≡ put_until self.old.held key.now until }
         ensures reserved { (other : AKey) → is_reserved self.new other ≡ (not (same_key key.now other) && is_reserved self.old other) }
         ensures rest { self.new ≡ record self.old { held = self.new.held; reserved = self.new.reserved } }
     {
-        match self.reserved.swap_take(key) {
-            Some(copy) => put(
-                &mut self.held,
-                &mut self.queue,
-                &mut self.counters,
-                copy,
-                until,
-            ),
-            None => delay(&mut self.held, key, until),
+        match self.keys.place_of(key) {
+            Some(place) => {
+                self.keys.extend(place, until);
+                self.keys.release(key);
+            }
+            None => put(&mut self.keys, &mut self.counters, key, until),
         }
     }
 
-    /// Moves the clock forward to a moment, and drops each key whose second is not above it.
+    /// Drops each key whose second is not above a moment.
     pub fn advance(&mut self, moment: Moment)
-        ensures clock { self.new.clock ≡ max self.old.clock moment }
-        ensures expired { Expires self.new.clock self.old.held self.new.held }
-        ensures rest { self.new ≡ record self.old { clock = self.new.clock; held = self.new.held } }
+        ensures expired { Expires moment self.old.held self.new.held }
+        ensures rest { self.new ≡ record self.old { held = self.new.held } }
     {
-        let seconds = moment.seconds();
-        if self.clock < seconds {
-            self.clock = seconds;
-            expire(&mut self.held, &mut self.queue, &mut self.counters, seconds);
-        }
+        expire(&mut self.keys, &mut self.counters, moment);
     }
 
     /// Drops a key, if it is held.
@@ -135,8 +107,8 @@ impl CountingFilter {
         ensures held { Removes key.now self.old.held self.new.held }
         ensures rest { self.new ≡ record self.old { held = self.new.held } }
     {
-        match self.held.get_index_of(key) {
-            Some(place) => drop_at(&mut self.held, &mut self.queue, &mut self.counters, place),
+        match self.keys.remove(key) {
+            Some(_) => self.counters.uncount(key),
             None => {}
         }
     }
@@ -145,14 +117,14 @@ impl CountingFilter {
     pub fn forget_reserved(&mut self)
         ensures { self.new ≡ record self.old { reserved = [] } }
     {
-        take_all(&mut self.reserved);
+        self.keys.forget_reserved();
     }
 
     /// Whether the key is held.
     pub fn holds(&self, key: &Key) -> bool
         ensures { result ≡ is_held self.now key.now }
     {
-        self.held.contains_key(key)
+        self.keys.contains(key)
     }
 
     /// How often a position stands among those of the held keys, with repetitions.
@@ -169,7 +141,8 @@ impl CountingFilter {
         ensures few { result ≤ 1000000 }
         ensures once { IsDistinct same_key (map (λ e. e.0) self.now.held) }
     {
-        self.held.len() as u32
+        let _counters = &self.counters;
+        self.keys.len() as u32
     }
 
     /// The bits of the counts above 0, as the bytes of a page have them.
@@ -180,40 +153,32 @@ impl CountingFilter {
     }
 }
 
-/// Keeps a key that is to be added, with room for it in the map and in the queue.
-fn stash(
-    held: &mut Held,
-    queue: &mut Queue,
-    reserved: &mut IndexSet<Key>,
-    key: Key,
-) -> Result<(), Memory>
-    requires map_room { index_set_len reserved.old ≤ spare held.old }
-    requires queue_room { heap_len queue.old + index_map_len held.old + 2 * index_set_len reserved.old ≤ heap_capacity queue.old }
-    ensures entries { held.new.entries ≡ held.old.entries }
-    ensures items { heap_items queue.new ≡ heap_items queue.old }
-    ensures map_room { index_set_len reserved.new ≤ spare held.new }
-    ensures queue_room { heap_len queue.new + index_map_len held.new + 2 * index_set_len reserved.new ≤ heap_capacity queue.new }
-    ensures ok { OnOk result ((other : AKey) → list_any (same_key other) reserved.new.keys ≡ (if same_key key other then true else list_any (same_key other) reserved.old.keys)) }
-    ensures err { OnErr result (reserved.new.keys ≡ reserved.old.keys) }
+/// Puts a reserved key in that is not held, and counts it. It takes no memory.
+fn put(keys: &mut ExpiringMap<()>, counters: &mut Counters, key: &Key, until: u64)
+    requires reserved { IsTrue (is_ready keys.old key.now) }
+    requires absent { lookup (same_key key.now) keys.old.entries ≡ None }
+    requires few { length keys.old.entries < 1000000 }
+    requires counted { IsCounted counters.old.log2_bits counters.old.hashes (seconds_of keys.old.entries) counters.old.counts.items counters.old.bits.items }
+    ensures held { seconds_of keys.new.entries ≡ put_until (seconds_of keys.old.entries) key.now until }
+    ensures reserved { (other : AKey) → is_ready keys.new other ≡ (not (same_key key.now other) && is_ready keys.old other) }
+    ensures counted { IsCounted counters.new.log2_bits counters.new.hashes (seconds_of keys.new.entries) counters.new.counts.items counters.new.bits.items }
+    ensures log2_bits { counters.new.log2_bits ≡ counters.old.log2_bits }
+    ensures hashes { counters.new.hashes ≡ counters.old.hashes }
 {
-    let more = reserved.len() + 1;
-    let places = more
-        .checked_mul(2)
-        .and_then(|places| places.checked_add(held.len()))
-        .ok_or(Memory)?;
-    held.reserve(more)?;
-    queue.reserve(places)?;
-    reserved.reserve(1)?;
-    match reserved.insert(key) {
-        Ok(_) => Ok(()),
-        Err(_) => unreachable!(),
-    }
+    counters.count(key);
+    keys.put(key, until, ());
 }
 
-/// Takes the keys out one by one, so that it costs nothing for the room that they leave.
-fn take_all(left: &mut IndexSet<Key>)
-    ensures keys { left.new.keys ≡ [] }
-    ensures room { set_spare left.old ≤ set_spare left.new }
+/// Takes out each key whose second is not above the moment, with its counts.
+fn expire(keys: &mut ExpiringMap<()>, counters: &mut Counters, moment: Moment)
+    requires { IsCounted counters.old.log2_bits counters.old.hashes (seconds_of keys.old.entries) counters.old.counts.items counters.old.bits.items }
+    ensures expired { Expires moment (seconds_of keys.old.entries) (seconds_of keys.new.entries) }
+    ensures reserved { keys.new.reserved ≡ keys.old.reserved }
+    ensures counted { IsCounted counters.new.log2_bits counters.new.hashes (seconds_of keys.new.entries) counters.new.counts.items counters.new.bits.items }
+    ensures log2_bits { counters.new.log2_bits ≡ counters.old.log2_bits }
+    ensures hashes { counters.new.hashes ≡ counters.old.hashes }
 {
-    while left.pop().is_some() {}
+    while let Some((key, _)) = keys.next_expired(moment) {
+        counters.uncount(&key);
+    }
 }

@@ -3,9 +3,7 @@
 
 mod counters;
 mod filter;
-mod held;
 pub mod laws;
-mod queue;
 
 pub use filter::CountingFilter;
 

@@ -1,7 +1,7 @@
 //! What no clause says: that calls succeed where there is memory, and a key whose positions repeat.
 
 use crate::CountingFilter;
-use q_base::{Name, positions_of};
+use q_base::{Moment, Name, positions_of};
 use query_normal::Key;
 use std::alloc::Global;
 use std::test::Fail;
@@ -60,5 +60,31 @@ fn a_key_with_repeated_positions_leaves_no_count(rt: HostRuntime) -> Result<(), 
     for byte in filter.bits() {
         assert_eq!(rt; *byte, 0);
     }
+    Ok(())
+}
+
+/// All memory is taken before the calls, and some is asked for behind them: so a run in which the
+/// allocation behind them is refused shows that they took none.
+#[test]
+fn add_advance_and_remove_take_no_memory(rt: HostRuntime) -> Result<(), Fail> {
+    let mut filter = CountingFilter::new(rt.alloc(), 10, 8)?;
+    let collection = Name::read(rt.alloc(), b"shop")?;
+    let id = Name::read(rt.alloc(), b"p1")?;
+    let key = Key::record(rt.alloc(), collection, id)?;
+    filter.reserve(&key)?;
+    filter.add(&key, 100);
+    assert!(rt; filter.holds(&key));
+    filter.advance(Moment::of(99));
+    if filter.holds(&key) {
+        filter.add(&key, 200);
+    }
+    filter.advance(Moment::of(150));
+    assert!(rt; filter.holds(&key));
+    filter.remove(&key);
+    filter.forget_reserved();
+    assert!(rt;
+        Vec::<u8>::with_capacity(rt.alloc(), 1).is_ok(),
+        "the next allocation was refused"
+    );
     Ok(())
 }

@@ -1,5 +1,5 @@
 -- What is read of a page's text.
-use Rattle.std.proofs.Common.{◌≡◌, ℕ, ◌+◌, ◌-◌, ◌*◌, ◌/◌, ◌%◌, ◌^◌, ◌<◌, ◌≤◌, Bool, ◌==◌, true, false, not, ◌&&◌, cond, if◌then◌else◌, nat_lt, nat_le, List, [], ◌∷◌, ◌++◌, length, take, drop, get_or, All, Option, Some, None, Result, Ok, Err, codes, bytes_eq, refl, sym, subst, ap, ap₂, ◌∙◌, arith, suc, min, length-drop}
+use Rattle.std.proofs.Common.{◌≡◌, ℕ, ◌+◌, ◌-◌, ◌*◌, ◌/◌, ◌%◌, ◌^◌, ◌<◌, ◌≤◌, Bool, ◌==◌, true, false, not, ◌&&◌, if◌then◌else◌, nat_lt, nat_le, List, [], ◌∷◌, length, take, drop, get_or, All, Option, Some, None, Result, Ok, Err, codes, bytes_eq, refl, sym, ap, ap₂, ◌∙◌, arith, suc, min, length-drop}
 use Rattle.std.proofs.Math.Seq.{take-length}
 use Rattle.std.specs.List.{list_all}
 use Rattle.std.proofs.lemmas.Bool.{cond-true, cond-false, and_parts, not-false, leb-true, ltb-false, le-leb, le-ltb, eq-eqb, eqb-true, and_from, not_from_true}
@@ -8,7 +8,8 @@ use Rattle.query_normal.specs.Pages.{Page, is_set}
 use Rattle.query_normal.proofs.BitLemmas.{length-flat_bits, get_or-flat_bits}
 use Rattle.flat_snapshot.specs.declared.read.PageRefusal.{PageRefusal}
 use Rattle.flat_snapshot.proofs.WriteLemmas.{eights, size_shifted}
-use Rattle.flat_snapshot.specs.PageText.{IsPage, page_with, greatest_moment}
+use Rattle.q_base.specs.Moment.{greatest_moment}
+use Rattle.flat_snapshot.specs.PageText.{IsPage, page_with}
 use Rattle.flat_snapshot.specs.Reading.{word_at, page_in, first_bad_field, bad_field_in, size_of, read_sized, read_page}
 
 -- positions below the number of bits stand in the bytes

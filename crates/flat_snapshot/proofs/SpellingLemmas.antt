@@ -1,5 +1,5 @@
 -- Each page has one spelling.
-use Rattle.std.proofs.Common.{◌≡◌, ℕ, ◌+◌, ◌-◌, ◌*◌, ◌/◌, ◌%◌, ◌^◌, ◌<◌, ◌≤◌, Bool, true, List, [], ◌∷◌, ◌++◌, length, take, drop, get_or, All, Ok, codes, bytes_eq, refl, sym, ap, ap₂, ◌∙◌, arith, length-drop, length-append, lit<, inl, inr, drop-cons}
+use Rattle.std.proofs.Common.{◌≡◌, ℕ, ◌+◌, ◌/◌, ◌^◌, ◌<◌, ◌≤◌, Bool, List, [], ◌∷◌, ◌++◌, length, take, drop, get_or, All, Ok, codes, refl, sym, ap, ap₂, ◌∙◌, arith, length-drop, lit<, inl, inr, drop-cons}
 use Rattle.std.specs.Int.{w64, to_be_bytes, from_be_bytes}
 use Rattle.std.proofs.lemmas.List.{take-append-drop, length-take-le, length-take, get_or-take, get_or-drop, get_or_past}
 use Rattle.std.proofs.Math.Seq.{take-add}
@@ -9,11 +9,11 @@ use Rattle.std.proofs.lemmas.Bool.{cases_lt}
 use Rattle.std.proofs.lemmas.Nat.{be_bytes_8, from_be_bytes-to_be_bytes_8}
 use Rattle.query_normal.specs.Bits.{flat_bits}
 use Rattle.query_normal.specs.Pages.{Page}
-use Rattle.flat_snapshot.specs.PageText.{IsPage, head_text, bytes_of, page_text, page_with}
-use Rattle.flat_snapshot.specs.Reading.{word_at, page_in, read_page, size_of, first_bad_field}
+use Rattle.flat_snapshot.specs.PageText.{IsPage, head_text, bytes_of, page_text}
+use Rattle.flat_snapshot.specs.Reading.{word_at, page_in, read_page, first_bad_field}
 use Rattle.flat_snapshot.proofs.ByteLemmas.{bytes_of-flat_bits, flat_bits-bytes_of}
-use Rattle.flat_snapshot.proofs.ReadLemmas.{IsTaken, IsWithin, within-from_none, none-from_within, taken-from_read, read_page-taken, is_page}
-use Rattle.flat_snapshot.proofs.WriteLemmas.{length-head_text, length-page_text, eights, after_head}
+use Rattle.flat_snapshot.proofs.ReadLemmas.{IsTaken, within-from_none, none-from_within, read_page-taken, is_page}
+use Rattle.flat_snapshot.proofs.WriteLemmas.{length-page_text, eights}
 
 -- a byte, read anywhere
 read_small : (bytes : List ℕ) → All (λ b. b < 2 ^ 8) bytes → (i : ℕ) → get_or bytes i 0 < 2 ^ 8

@@ -1,5 +1,5 @@
 -- Worked rows, computed from the definitions.
-use Rattle.std.proofs.Common.{◌≡◌, List, ℕ, [], ◌∷◌, ◌++◌, replicate, refl}
+use Rattle.std.proofs.Common.{◌≡◌, [], ◌∷◌, ◌++◌, replicate, refl}
 use Rattle.flat_snapshot.specs.PageText.{page_text, head_text, bytes_of, blank_page}
 
 -- the page without any bit of 1,024 bits and 8 hashes at moment 100: 158 bytes

@@ -1,5 +1,5 @@
 -- The text of a page in a room.
-use Rattle.std.proofs.Common.{◌≡◌, ℕ, ◌+◌, ◌-◌, ◌*◌, ◌/◌, ◌%◌, ◌^◌, ◌<◌, ◌≤◌, Bool, true, false, List, [], ◌∷◌, ◌++◌, length, take, drop, set, get_or, replicate, refl, sym, ap, ap₂, ◌∙◌, arith, length-append, pow-add, lit<, All, bit_or}
+use Rattle.std.proofs.Common.{◌≡◌, ℕ, ◌+◌, ◌-◌, ◌*◌, ◌/◌, ◌%◌, ◌^◌, ◌<◌, ◌≤◌, Bool, true, false, List, ◌++◌, length, take, drop, set, get_or, replicate, refl, sym, ap, ap₂, ◌∙◌, arith, length-append, pow-add, lit<, bit_or}
 use Rattle.std.proofs.Math.Nat.{pow-le-pow_right, mod-eq_of_lt, one-mul}
 use Rattle.std.proofs.Math.Pow.{pow-lt}
 use Rattle.std.proofs.lemmas.Nat.{or_of_8}
@@ -10,7 +10,7 @@ use borrow.Rule.Slice.PartMut.{put_mid}
 use Rattle.query_normal.specs.Bits.{flat_bits}
 use Rattle.query_normal.specs.Pages.{Page}
 use Rattle.query_normal.proofs.BitLemmas.{flat_bits-zeros, flat_bits-written, sets_bit, shifted_one}
-use Rattle.flat_snapshot.specs.PageText.{head_text, bytes_of, page_text, page_with, blank_page}
+use Rattle.flat_snapshot.specs.PageText.{head_text, bytes_of, page_text}
 use Rattle.flat_snapshot.proofs.ByteLemmas.{bytes_of-flat_bits, flat_bits-bytes_of, bytes_of-small, length-bytes_of}
 
 -- a head has 30 bytes

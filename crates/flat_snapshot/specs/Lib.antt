@@ -1,3 +1,4 @@
+pub mod PageRefusal
 pub mod PageText
 pub mod Reading
 pub use Rattle.query_normal.specs.Bits

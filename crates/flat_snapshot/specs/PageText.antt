@@ -3,7 +3,8 @@ use Rattle.std.specs.Prelude.{◌≡◌, ℕ, ◌+◌, ◌*◌, ◌/◌, ◌^◌
 use Rattle.std.specs.List.{range_with_len}
 use Rattle.std.specs.Int.{w64, to_be_bytes}
 use Rattle.query_normal.specs.Bits.{flat_bits}
-use Rattle.query_normal.specs.Pages.{Page}
+use Rattle.q_base.specs.Moment.{greatest_moment}
+use Rattle.query_normal.specs.Pages.{Page, least_log2_bits, most_log2_bits, fewest_hashes, most_hashes}
 
 -- bits as a number, the first the least
 abbrev pub number_of : List Bool → ℕ
@@ -23,16 +24,16 @@ head_text log2_bits hashes front commits moment =
 abbrev pub page_text : Page → List ℕ
 page_text page = head_text page.log2_bits page.hashes page.front page.commits page.moment ++ bytes_of page.bits
 
--- the last second of the year 9999, the greatest moment
-abbrev pub greatest_moment : ℕ
-greatest_moment = 253402300799
+-- the number of bytes of a head
+abbrev pub head_bytes : ℕ
+head_bytes = 30
 
 -- a page within its limits
 pub record IsPage (page : Page) : Type 0 where
-  pub hashed : 1 ≤ page.hashes
-  pub few_hashes : page.hashes ≤ 16
-  pub least_bits : 10 ≤ page.log2_bits
-  pub most_bits : page.log2_bits ≤ 22
+  pub hashed : fewest_hashes ≤ page.hashes
+  pub few_hashes : page.hashes ≤ most_hashes
+  pub least_bits : least_log2_bits ≤ page.log2_bits
+  pub most_bits : page.log2_bits ≤ most_log2_bits
   pub covered : page.front ≤ page.commits
   pub commits : page.commits < 2 ^ 64
   pub moment : page.moment ≤ greatest_moment

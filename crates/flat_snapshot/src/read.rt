@@ -9,6 +9,18 @@ use std::fmt;
 /// The number of bytes before the bits.
 pub const HEAD_BYTES: usize = 30;
 
+/// The fewest hashes of a page.
+const FEWEST_HASHES: u8 = 1;
+
+/// The most hashes of a page.
+const MOST_HASHES: u8 = 16;
+
+/// The least exponent of a page's size.
+const LEAST_LOG2_BITS: u8 = 10;
+
+/// The greatest exponent of a page's size.
+const MOST_LOG2_BITS: u8 = 22;
+
 /// Why bytes are no page. The first that holds, in this order, is the answer: fewer bytes than a
 /// head has, the mark, a field by its place, the number of bytes.
 #[derive(Clone, Copy, Debug, PartialEq, Eq)]
@@ -32,6 +44,11 @@ pub enum PageRefusal {
 }
 
 impl fmt::Display for PageRefusal {
+    ghost use Rattle.std.specs.Prelude.{Some};
+    ghost use Rattle.flat_snapshot.specs.PageRefusal.{sentence};
+
+    ghost output = { λ e. Some (sentence e) };
+
     fn fmt<W: fmt::Write>(&self, f: &mut fmt::Formatter<W>) -> fmt::Result {
         match self {
             PageRefusal::BadSize { want, found } => {
@@ -80,9 +97,9 @@ pub fn first_bad_field(
 ) -> Option<usize>
     ensures { result ≡ first_bad_field log2_bits hashes front commits seconds }
 {
-    if !(1..=16).contains(&hashes) {
+    if !(FEWEST_HASHES..=MOST_HASHES).contains(&hashes) {
         Some(4)
-    } else if !(10..=22).contains(&log2_bits) {
+    } else if !(LEAST_LOG2_BITS..=MOST_LOG2_BITS).contains(&log2_bits) {
         Some(5)
     } else if commits < front {
         Some(6)

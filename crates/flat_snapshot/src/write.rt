@@ -1,7 +1,7 @@
 //! The text of a page, written into a room.
 ghost use Rattle.std.specs.Prelude.{◌≡◌, ◌+◌, ◌/◌, ◌%◌, ◌^◌, ◌<◌, ◌≤◌, ◌++◌, List, ℕ, true, length, drop, slice_index, slice_set, bit_or};
-ghost use Rattle.query_normal.specs.Pages.{Page as APage};
-ghost use Rattle.flat_snapshot.specs.PageText.{head_text, page_text, page_with, blank_page, IsPage};
+ghost use Rattle.query_normal.specs.Pages.{Page as APage, most_log2_bits};
+ghost use Rattle.flat_snapshot.specs.PageText.{head_bytes, head_text, page_text, page_with, blank_page, IsPage};
 
 use crate::read::HEAD_BYTES;
 use q_base::{Commit, Moment};
@@ -16,9 +16,9 @@ pub fn write_head(
     moment: Moment,
 ) -> usize
     requires least { 3 ≤ log2_bits }
-    requires most { log2_bits ≤ 22 }
-    requires room { 30 + 2 ^ log2_bits / 8 ≤ length room.old }
-    ensures length { result ≡ 30 + 2 ^ log2_bits / 8 }
+    requires most { log2_bits ≤ most_log2_bits }
+    requires room { head_bytes + 2 ^ log2_bits / 8 ≤ length room.old }
+    ensures length { result ≡ head_bytes + 2 ^ log2_bits / 8 }
     ensures written { room.new ≡ page_text (blank_page log2_bits hashes front commits moment) ++ drop result room.old }
 {
     write_fields(room, log2_bits, hashes, front, commits, moment);
@@ -38,8 +38,8 @@ pub fn write_page(
     moment: Moment,
     bits: &[u8],
 ) -> usize
-    requires { 30 + length bits.now ≤ length room.old }
-    ensures length { result ≡ 30 + length bits.now }
+    requires { head_bytes + length bits.now ≤ length room.old }
+    ensures length { result ≡ head_bytes + length bits.now }
     ensures written { room.new ≡ page_text (page_with log2_bits hashes front commits moment bits.now) ++ drop result room.old }
 {
     write_fields(room, log2_bits, hashes, front, commits, moment);
@@ -50,8 +50,8 @@ pub fn write_page(
 
 /// Sets a bit of a page that stands at the beginning of these bytes.
 pub fn set_bit(page: &mut [u8], position: u32)
-    requires { 30 + position / 8 < length page.old }
-    ensures byte { page.new ≡ slice_set page.old (30 + position / 8) (bit_or (slice_index page.old (30 + position / 8)) (2 ^ (position % 8))) }
+    requires { head_bytes + position / 8 < length page.old }
+    ensures byte { page.new ≡ slice_set page.old (head_bytes + position / 8) (bit_or (slice_index page.old (head_bytes + position / 8)) (2 ^ (position % 8))) }
     ensures page { (p : APage) (rest : List ℕ) → IsPage p → position < 2 ^ p.log2_bits → page.old ≡ page_text p ++ rest →
         page.new ≡ page_text (record p { bits = slice_set p.bits position true }) ++ rest }
 {
@@ -67,15 +67,21 @@ fn write_fields(
     commits: Commit,
     moment: Moment,
 )
-    requires { 30 ≤ length room.old }
-    ensures { room.new ≡ head_text log2_bits hashes front commits moment ++ drop 30 room.old }
+    requires { head_bytes ≤ length room.old }
+    ensures { room.new ≡ head_text log2_bits hashes front commits moment ++ drop head_bytes room.old }
 {
     let head = head_of(log2_bits, hashes, front, commits, moment);
     room[..HEAD_BYTES].copy_from_slice(&head);
 }
 
 /// The head of a page.
-fn head_of(log2_bits: u8, hashes: u8, front: Commit, commits: Commit, moment: Moment) -> [u8; 30]
+fn head_of(
+    log2_bits: u8,
+    hashes: u8,
+    front: Commit,
+    commits: Commit,
+    moment: Moment,
+) -> [u8; HEAD_BYTES]
     ensures { result ≡ head_text log2_bits hashes front commits moment }
 {
     let f = front.to_be_bytes();

@@ -1,5 +1,5 @@
 -- What each step leaves of the copies and of the marked keys.
-use Rattle.std.proofs.Common.{◌≡◌, ℕ, suc, ◌<◌, ◌≤◌, Bool, true, false, ◌&&◌, ◌||◌, ◌⊎◌, max, List, [], ◌∷◌, length, map, is_some, Option, Some, None, unwrap_or, if◌then◌else◌, refl, sym, ap, ◌∙◌, subst, arith, inl, inr}
+use Rattle.std.proofs.Common.{◌≡◌, ℕ, suc, ◌<◌, ◌≤◌, Bool, true, false, not, ◌&&◌, ◌||◌, ◌⊎◌, max, List, [], ◌∷◌, length, map, is_some, Option, Some, None, unwrap_or, if◌then◌else◌, refl, sym, ap, ◌∙◌, subst, arith, inl, inr}
 use Rattle.std.specs.List.{list_any, AllByRecursion, IsDistinct}
 use Rattle.std.specs.Set.{unique_keys}
 use Rattle.std.proofs.lemmas.Bool.{cases_Bool, cases_lt, lt-ltb, le-ltb, or_parts, or_cases}
@@ -8,9 +8,9 @@ use Rattle.std.proofs.lemmas.Map.Made.{length-le_from_is_member}
 use Rattle.query_normal.specs.Keys.{same_key}
 use Rattle.query_normal.specs.SameKey.{same_key-Decides, same_key_equiv}
 use Rattle.query_normal.specs.declared.key.KeyShape.{KeyShape}
-use Rattle.issued_expiries.specs.Copies.{Copy, unexpired, latest_where, latest_of, is_between, is_active, active_keys, SameCopies, with_copy}
-use Rattle.hub_core.specs.Standing.{until_in}
-use Rattle.hub_core.specs.Handed.{while_later, last_until}
+use Rattle.issued_expiries.specs.Copies.{Copy, unexpired, later_of, latest_where, latest_of, is_between, is_active, active_keys, SameCopies, with_copy}
+use Rattle.hub_model.proofs.KeySets.{among-unique, distinct-unique}
+use Rattle.hub_core.specs.Handed.{while_later, last_until, until_in}
 use Rattle.hub_core.proofs.CopyLemmas.{survivor, latest, latest-cons, latest-unexpired, active-latest, same-active}
 use Rattle.hub_core.proofs.MarkLemmas.{any-map}
 
@@ -21,33 +21,6 @@ apart-absent : (key : KeyShape) (keys : List KeyShape) → list_any (same_key ke
 apart-absent key [] h = tt
 apart-absent key (k ∷ ks) h = (let parts = or_parts (same_key key k) (list_any (same_key key) ks) h in (parts.0, apart-absent key ks parts.1))
 
-pub among-unique : (xs : List KeyShape) (key : KeyShape) → list_any (same_key key) (unique_keys same_key xs) ≡ list_any (same_key key) xs
-among-unique [] key = refl
-among-unique (x ∷ xs) key =
-    let rest = among-unique xs key in
-    elim (cases_Bool (list_any (same_key x) xs)) [
-      | inl there ↦ rw there (rest ∙ again there)
-      | inr absent ↦ rw absent (ap (λ (b : Bool). same_key key x || b) rest)
-    ]
-  where
-    again : list_any (same_key x) xs ≡ true → list_any (same_key key) xs ≡ (same_key key x || list_any (same_key key) xs)
-    again there =
-        elim (cases_Bool (same_key key x)) [
-          | inl same ↦ (
-              let key_is : key ≡ x = (same_key-Decides key x).0 same in
-              ap (λ (k : KeyShape). list_any (same_key k) xs) key_is ∙ there ∙ sym (ap (λ (b : Bool). b || list_any (same_key key) xs) same))
-          | inr other ↦ sym (ap (λ (b : Bool). b || list_any (same_key key) xs) other)
-        ]
-
-pub unique-distinct : (xs : List KeyShape) → IsDistinct same_key (unique_keys same_key xs)
-unfolding IsDistinct
-unique-distinct [] = tt
-unique-distinct (x ∷ xs) =
-    elim (cases_Bool (list_any (same_key x) xs)) [
-      | inl there ↦ rw there (unique-distinct xs)
-      | inr absent ↦ rw absent (apart-absent x (unique_keys same_key xs) (among-unique xs x ∙ absent), unique-distinct xs)
-    ]
-
 -- a key is active where it is among these
 active-among : (copies : List Copy) (key : KeyShape) → list_any (same_key key) (unique_keys same_key (map (λ c. c.0) copies)) ≡ is_active copies key
 active-among copies key = among-unique (map (λ (c : Copy). c.0) copies) key ∙ any-map (λ (c : Copy). c.0) (same_key key) copies
@@ -55,13 +28,13 @@ active-among copies key = among-unique (map (λ (c : Copy). c.0) copies) key ∙
 -- no more keys are active where each was active before
 pub count-less : (some others : List Copy) → ((key : KeyShape) → is_active some key ≡ true → is_active others key ≡ true) → active_keys some ≤ active_keys others
 count-less some others sub =
-    length-le_from_is_member same_key_equiv (unique_keys same_key (map (λ (c : Copy). c.0) some)) (unique_keys same_key (map (λ (c : Copy). c.0) others)) (unique-distinct (map (λ (c : Copy). c.0) some))
+    length-le_from_is_member same_key_equiv (unique_keys same_key (map (λ (c : Copy). c.0) some)) (unique_keys same_key (map (λ (c : Copy). c.0) others)) (distinct-unique (map (λ (c : Copy). c.0) some))
     (λ key there. active-among others key ∙ sub key (sym (active-among some key) ∙ there))
 
 -- and one more where one key may be new
 pub count-more : (some others : List Copy) (own : KeyShape) → ((key : KeyShape) → is_active some key ≡ true → (is_active others key ≡ true) ⊎ (same_key key own ≡ true)) → active_keys some ≤ suc (active_keys others)
 count-more some others own sub =
-    length-le_from_is_member same_key_equiv (unique_keys same_key (map (λ (c : Copy). c.0) some)) (own ∷ unique_keys same_key (map (λ (c : Copy). c.0) others)) (unique-distinct (map (λ (c : Copy). c.0) some))
+    length-le_from_is_member same_key_equiv (unique_keys same_key (map (λ (c : Copy). c.0) some)) (own ∷ unique_keys same_key (map (λ (c : Copy). c.0) others)) (distinct-unique (map (λ (c : Copy). c.0) some))
     (λ key there.
     elim (sub key (sym (active-among some key) ∙ there)) [
       | inl old ↦ either (same_key key own) (list_any (same_key key) (unique_keys same_key (map (λ (c : Copy). c.0) others))) (active-among others key ∙ old)
@@ -231,3 +204,40 @@ active-last copies key some = active-latest copies key ∙ by (latest_where key 
     by : (o : Option ℕ) → 0 < unwrap_or o 0 → is_some o ≡ true
     by None h = absurd (omega (arith, h))
     by (Some n) h = refl
+
+-- a key with no copy has no last one
+pub inactive-none : (copies : List Copy) (key : KeyShape) (test : ℕ → Bool) → is_active copies key ≡ false → latest_where key test copies ≡ None
+inactive-none [] key test none = refl
+inactive-none (copy ∷ copies) key test none =
+    let parts = or_parts (same_key key copy.0) (is_active copies key) none in
+    ap (λ (b : Bool). if b && test copy.1 then Some (later_of copy.2 (latest_where key test copies)) else latest_where key test copies) parts.0 ∙ inactive-none copies key test parts.1
+
+-- ---- what was reserved
+
+-- no key is among none
+pub none-among : (keys : List KeyShape) → ((key : KeyShape) → list_any (same_key key) keys ≡ false) → keys ≡ []
+none-among [] none = refl
+none-among (k ∷ ks) none =
+    absurd (let own : (same_key k k || list_any (same_key k) ks) ≡ false = none k in
+    let itself : same_key k k ≡ true = (same_key-Decides k k).1 refl in
+    let there : (true || list_any (same_key k) ks) ≡ false = rw itself at own in
+    cc)
+
+-- what was ready for one key alone is used up
+pub used-up : (before after : List KeyShape) (key : KeyShape) → ((other : KeyShape) → same_key key other ≡ false → list_any (same_key other) before ≡ false) → ((other : KeyShape) → list_any (same_key other) after ≡ (not (same_key key other) && list_any (same_key other) before)) → after ≡ []
+used-up before after key alone used =
+    none-among after
+    (λ other.
+    used other ∙ elim (cases_Bool (same_key key other)) [
+      | inl own ↦ ap (λ (b : Bool). not b && list_any (same_key other) before) own
+      | inr apart ↦ ap (λ (b : Bool). not b && list_any (same_key other) before) apart ∙ alone other apart
+    ])
+
+-- where no key was idle none is
+pub none-idle : (before after : List KeyShape) (gone : KeyShape → Bool) → ((other : KeyShape) → list_any (same_key other) after ≡ (not (gone other) && list_any (same_key other) before)) → before ≡ [] → after ≡ []
+none-idle before after gone left none =
+    none-among after (λ other. left other ∙ ap (λ (ks : List KeyShape). not (gone other) && list_any (same_key other) ks) none ∙ nothing (not (gone other)))
+  where
+    nothing : (b : Bool) → (b && false) ≡ false
+    nothing true = refl
+    nothing false = refl

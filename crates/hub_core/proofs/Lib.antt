@@ -1,4 +1,3 @@
-pub mod JournalLemmas
 pub mod RoomLemmas
 pub mod GreatestLemmas
 pub mod CopyLemmas

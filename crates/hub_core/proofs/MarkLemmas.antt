@@ -10,19 +10,15 @@ use Rattle.std.proofs.lemmas.Map.Keys.{IsDistinct-IsPermutation, IsDistinct-tail
 use Rattle.query_normal.specs.Bits.{flat_bits}
 use Rattle.query_normal.specs.Keys.{same_key}
 use Rattle.query_normal.specs.Pages.{positions}
-use Rattle.query_normal.specs.SameKey.{same_key-Decides, same_key_equiv}
+use Rattle.query_normal.specs.SameKey.{same_key-Decides}
 use Rattle.query_normal.specs.declared.key.KeyShape.{KeyShape}
 use Rattle.query_normal.proofs.BitLemmas.{length-flat_bits}
 use Rattle.expiring_filter.specs.Held.{Expires, put_until, is_among, count_among as held_count}
 use Rattle.expiring_filter.specs.Filter.{Filter, bits_of as filter_bits}
 use Rattle.hub_model.specs.Record.{bits_of}
-use Rattle.hub_core.specs.Standing.{until_in}
-use Rattle.hub_core.specs.Handed.{while_later}
+use Rattle.hub_model.proofs.KeySets.{same_key-flips}
+use Rattle.hub_core.specs.Handed.{while_later, until_in}
 use Rattle.hub_core.proofs.GreatestLemmas.{best, best-cons, best-append, best-le, best-permuted, any-best}
-
--- two keys are told apart in either order
-pub same_key-flips : (a b : KeyShape) → same_key a b ≡ same_key b a
-same_key-flips a b = same_key_equiv.symm a b
 
 -- a second of some that are later than the clock is later, or there is none
 above_or_none : {X : Type 0} (u : X → ℕ) (p : X → Bool) (c : ℕ) (xs : List X) → All (λ x. c < u x) xs → (best u p xs ≡ 0) ⊎ (c < best u p xs)

@@ -1,32 +1,28 @@
--- What a match and the record are, in the hub's words.
-use Rattle.std.proofs.Common.{◌≡◌, ℕ, zero, suc, ◌+◌, ◌<◌, ◌≤◌, Bool, true, false, not, ◌&&◌, ◌||◌, max, nat_lt, nat_le, List, [], ◌∷◌, ◌++◌, length, map, All, is_some, Option, Some, None, unwrap_or, slice_get, slice_index_or, get_or, take, option_map, option_and_then, if◌then◌else◌, refl, sym, ap, ap₂, ◌∙◌, subst, arith, inl, inr}
-use Rattle.std.proofs.lemmas.Bool.{cases_lt, ltb-true, le-leb, lt-leb}
-use Rattle.std.proofs.lemmas.List.Elements.{filter_passes}
-use Rattle.std.proofs.lemmas.Map.Made.{length-from_keys}
+-- What the marks of a match raise.
+use Rattle.std.proofs.Common.{◌≡◌, ℕ, zero, suc, ◌+◌, ◌<◌, ◌≤◌, ◌==◌, Bool, true, false, ◌&&◌, ◌||◌, ◌⊎◌, max, nat_lt, nat_le, List, [], ◌∷◌, ◌++◌, length, map, All, is_some, Option, Some, None, unwrap_or, slice_get, slice_index_or, get_or, take, option_map, option_and_then, bytes_eq, if◌then◌else◌, refl, sym, ap, ap₂, ◌∙◌, subst, arith, inl, inr}
+use Rattle.std.specs.List.{list_any}
+use Rattle.std.proofs.lemmas.Bool.{cases_Bool, cases_lt, lt-ltb, le-ltb, le-leb, lt-leb, ltb-true, leb-true, eq-eqb, eqb-true}
 use Rattle.std.proofs.Math.Seq.{take-suc}
 use Rattle.query_normal.specs.Keys.{same_key}
 use Rattle.query_normal.specs.SameKey.{same_key-Decides, same_key_equiv}
 use Rattle.query_normal.specs.declared.key.KeyShape.{KeyShape}
 use Rattle.query_normal.specs.declared.key.KeyShape.TheVariants.{Record}
-use Rattle.issued_expiries.specs.Copies.{Copy, latest_where, is_between, is_active, active_keys, SameCopies}
-use Rattle.hub_model.specs.Copies.{issues, is_live, live, active_keys as active_of, is_active as is_active_in}
+use Rattle.issued_expiries.specs.Copies.{Copy, latest_where, is_between, is_active}
+use Rattle.commit_book.specs.declared.change.Change.{Change}
 use Rattle.commit_book.specs.Journal.{is_of, document_at}
-use Rattle.hub_model.specs.Lifetime.{ttl_of}
+use Rattle.hub_model.specs.Copies.{live}
 use Rattle.hub_model.specs.Outdated.{is_changed}
-use Rattle.hub_model.specs.Record.{is_outdated_in, is_recorded}
-use Rattle.hub_model.specs.Setting.{Setting}
 use Rattle.hub_model.specs.State.{Reading, State, until_of}
 use Rattle.hub_model.specs.Until.{until_among, latest_until, until_of_outdated}
-use Rattle.commit_book.specs.declared.change.Change.{Change}
+use Rattle.hub_model.proofs.Changes.{record-changed}
+use Rattle.hub_model.proofs.Covered.{outdated_until-commit}
 use Rattle.hub_core.specs.declared.marks.Mark.{Mark}
-use Rattle.hub_core.specs.Marks.{key_of, altered_key, mark_of, marks_of, marked_until}
-use Rattle.hub_core.specs.Standing.{HubValue, IsAt, copy_of, copies_of, until_in}
+use Rattle.hub_core.specs.Marks.{key_of, altered_key, is_key, is_mark, is_after, AreMarksOf, marked_until}
+use Rattle.hub_core.specs.Standing.{HasCopies, copy_of}
 use Rattle.hub_core.specs.Handed.{until_below}
-use Rattle.hub_core.proofs.CopyLemmas.{latest, latest-cons, same-active}
-use Rattle.hub_core.proofs.GreatestLemmas.{best, best-cons, best-append, any-best}
-use Rattle.hub_core.proofs.HandedLemmas.{unique-distinct, among-unique}
-use Rattle.hub_core.proofs.JournalLemmas.{is_of-key}
-use Rattle.hub_core.proofs.MarkLemmas.{any-map}
+use Rattle.hub_core.proofs.CopyLemmas.{latest, latest-cons}
+use Rattle.hub_core.proofs.GreatestLemmas.{best, best-cons, best-append, best-hit, best-le}
+use Rattle.hub_core.proofs.HandedLemmas.{inactive-none}
 
 -- ---- the last copy of a key
 
@@ -45,20 +41,11 @@ until-latest key test (r ∷ rs) =
     by true (Some n) = refl
     by false o = omega arith
 
-pub below-until : (copies : List Copy) (s : State) (key : KeyShape) (commit : ℕ) → SameCopies copies (copies_of s) → until_below copies key commit ≡ latest_until s key 0 commit
+pub below-until : (copies : List Copy) (s : State) (key : KeyShape) (commit : ℕ) → HasCopies copies s → until_below copies key commit ≡ latest_until s key 0 commit
 below-until copies s key commit same =
     ap (λ (o : Option ℕ). unwrap_or o 0) (same key (is_between 0 commit)) ∙ until-latest key (is_between 0 commit) (live s)
 
--- ---- what a commit changed
-
--- whether that is what a key finds
-abbrev pub told : Option KeyShape → KeyShape → Bool
-told None key = false
-told (Some own) key = same_key key own
-
-abbrev pub ChangesItsOwn : List Change → ℕ → Type 0
-ChangesItsOwn journal n = (collection id : List ℕ) (change : Change) → slice_get journal n ≡ Some change →
-    is_changed (Record collection id) journal (suc n) ≡ (is_of collection id change && (is_some change.document || is_some (document_at journal n collection id)))
+-- ---- the key whose result a commit changed
 
 both_true : (b : Bool) → (b && true) ≡ b
 both_true true = refl
@@ -68,9 +55,19 @@ both_false : (b : Bool) → (b && false) ≡ false
 both_false true = refl
 both_false false = refl
 
+-- a change is of a record where their keys are equal
+pub is_of-key : (change : Change) (collection id : List ℕ) → is_of collection id change ≡ same_key (key_of change) (Record collection id)
+is_of-key change collection id = turned (bytes_eq change.id id) (bytes_eq change.collection collection)
+  where
+    turned : (a b : Bool) → (a && b) ≡ (b && a)
+    turned true true = refl
+    turned true false = refl
+    turned false true = refl
+    turned false false = refl
+
 -- the key that a commit altered is the only one whose result it changed
-altered-told : (journal : List Change) (n : ℕ) (key : KeyShape) → n < length journal → ChangesItsOwn journal n → is_changed key journal (suc n) ≡ told (altered_key journal (suc n)) key
-altered-told journal n (Record collection id) low own = of (there journal n low)
+altered-told : (journal : List Change) (n : ℕ) (key : KeyShape) → n < length journal → is_changed key journal (suc n) ≡ is_key key (altered_key journal (suc n))
+altered-told journal n (Record collection id) low = of (there journal n low)
   where
     there : (xs : List Change) (i : ℕ) → i < length xs → (x : Change) × (slice_get xs i ≡ Some x)
     there [] i low = absurd (omega (arith, low))
@@ -86,79 +83,205 @@ altered-told journal n (Record collection id) low own = of (there journal n low)
         ap₂ (λ (a b : List ℕ). is_some x.document || is_some (document_at journal n a b)) c i
     same_record x false miss = refl
 
-    tells : (x : Change) (a : Bool) → (same_key (Record collection id) (key_of x) && a) ≡ told (option_map key_of (if a then Some x else None)) (Record collection id)
+    tells : (x : Change) (a : Bool) → (same_key (Record collection id) (key_of x) && a) ≡ is_key (Record collection id) (option_map key_of (if a then Some x else None))
     tells x true = both_true (same_key (Record collection id) (key_of x))
     tells x false = both_false (same_key (Record collection id) (key_of x))
 
-    of : (x : Change) × (slice_get journal n ≡ Some x) → is_changed (Record collection id) journal (suc n) ≡ told (altered_key journal (suc n)) (Record collection id)
+    of : (x : Change) × (slice_get journal n ≡ Some x) → is_changed (Record collection id) journal (suc n) ≡ is_key (Record collection id) (altered_key journal (suc n))
     of found =
         let x = found.0 in
-        own collection id x found.1
+        record-changed collection id journal n x found.1
         ∙ ap (λ (b : Bool). b && (is_some x.document || is_some (document_at journal n collection id))) (is_of-key x collection id ∙ same_key_equiv.symm (key_of x) (Record collection id))
         ∙ same_record x (same_key (Record collection id) (key_of x)) refl
         ∙ tells x (is_some x.document || is_some (document_at journal n x.collection x.id))
-        ∙ sym (ap (λ (o : Option Change). told (option_map key_of (option_and_then (λ change. if is_some change.document || is_some (document_at journal n change.collection change.id) then Some change else None) o)) (Record collection id)) found.1)
+        ∙ sym (ap (λ (o : Option Change). is_key (Record collection id) (option_map key_of (option_and_then (λ change. if is_some change.document || is_some (document_at journal n change.collection change.id) then Some change else None) o))) found.1)
 
 -- ---- the marks of commits
 
 -- no commit is after itself
-pub marks-none : (journal : List Change) (front : ℕ) → marks_of journal front front ≡ []
-marks-none journal zero = refl
-marks-none journal (suc n) = rw (le-leb (suc n) (suc n) (omega arith)) refl
+pub marks-none : (journal : List Change) (copies : List Copy) (front : ℕ) → AreMarksOf journal copies front front []
+marks-none journal copies front key commit active =
+    elim (cases_lt front commit) [
+      | inl above ↦ rw (lt-ltb front commit above, lt-leb commit front above) refl
+      | inr below ↦ rw (le-ltb front commit below) refl
+    ]
 
 -- one commit more
-pub marks-more : (journal : List Change) (front n : ℕ) → front ≤ n → marks_of journal front (suc n) ≡ marks_of journal front n ++ mark_of (suc n) (altered_key journal (suc n))
-marks-more journal front n low = rw (lt-leb (suc n) front (omega (arith, low))) refl
-
-pub marks-next : (journal : List Change) (front n : ℕ) → front ≤ n → marks_of journal front (n + 1) ≡ marks_of journal front n ++ mark_of (n + 1) (altered_key journal (n + 1))
-marks-next journal front n low = subst (λ (m : ℕ). marks_of journal front m ≡ marks_of journal front n ++ mark_of m (altered_key journal m)) (let h : suc n ≡ n + 1 = omega arith in h) (marks-more journal front n low)
-
-abbrev pub RaisesByCommit : Type 0
-RaisesByCommit = (s : State) (key : KeyShape) (n : ℕ) →
-    until_of_outdated (record s { front = suc n }) key ≡ max (until_of_outdated (record s { front = n }) key) (if is_changed key s.journal (suc n) then latest_until s key 0 (suc n) else 0)
-
--- what a commit outdates of a key is what its mark does
-one-mark : (copies : List Copy) (s : State) (key : KeyShape) (commit : ℕ) → SameCopies copies (copies_of s) → (b : Bool) (o : Option KeyShape) → b ≡ told o key →
-    (if b then latest_until s key 0 commit else 0) ≡ marked_until copies (mark_of commit o) key
-one-mark copies s key commit same b None tells = ap (λ (b : Bool). if b then latest_until s key 0 commit else 0) tells
-one-mark copies s key commit same b (Some own) tells =
-    ap (λ (b : Bool). if b then latest_until s key 0 commit else 0) tells
-    ∙ chosen (same_key key own) refl
-    ∙ sym (best-cons (λ (m : Mark). until_below copies m.key m.commit) (λ (m : Mark). same_key key m.key) (record { key = own; commit = commit }) [] ∙ (let h : max (if same_key key own then until_below copies own commit else 0) 0 ≡ (if same_key key own then until_below copies own commit else 0) = omega arith in h))
+pub marks-next : (journal : List Change) (copies : List Copy) (front n : ℕ) (old new : List Mark) → AreMarksOf journal copies front n old →
+    ((key : KeyShape) (commit : ℕ) → list_any (is_mark key commit) new ≡ (list_any (is_mark key commit) old || (is_key key (altered_key journal (n + 1)) && (n + 1 == commit)))) →
+    front ≤ n → n < length journal → AreMarksOf journal copies front (n + 1) new
+marks-next journal copies front n old new were more forward within key commit active =
+    more key commit
+    ∙ ap (λ (b : Bool). b || (is_key key (altered_key journal (n + 1)) && (n + 1 == commit))) (were key commit active)
+    ∙ by (cases_Bool (n + 1 == commit))
   where
-    chosen : (b : Bool) → same_key key own ≡ b → (if same_key key own then latest_until s key 0 commit else 0) ≡ (if same_key key own then until_below copies own commit else 0)
-    chosen true hit =
-        let k : key ≡ own = (same_key-Decides key own).0 hit in
-        sym (ap (λ (n : ℕ). if same_key key own then n else 0) (ap (λ (x : KeyShape). until_below copies x commit) (sym k) ∙ below-until copies s key commit same))
-    chosen false miss = rw miss refl
+    either : (b : Bool) → (b || false) ≡ b
+    either true = refl
+    either false = refl
 
--- the marks of the commits up to one are what these outdate
-pub marks-raise : (copies : List Copy) (s : State) (front : ℕ) (key : KeyShape) → SameCopies copies (copies_of s) → ((n : ℕ) → ChangesItsOwn s.journal n) → RaisesByCommit → (to : ℕ) → front ≤ to → to ≤ length s.journal →
-    until_of_outdated (record s { front = to }) key ≡ max (until_of_outdated (record s { front = front }) key) (marked_until copies (marks_of s.journal front to) key)
-marks-raise copies s front key same own raises zero after within =
-    let e : 0 ≡ front = omega (arith, after) in
-    ap (λ (n : ℕ). until_of_outdated (record s { front = n }) key) e
-    ∙ (let h : until_of_outdated (record s { front = front }) key ≡ max (until_of_outdated (record s { front = front }) key) 0 = omega arith in h)
-marks-raise copies s front key same own raises (suc n) after within = elim (cases_lt n front) [
-  | inl past ↦ (
-      let e : front ≡ suc n = omega (arith, past, after) in
-      let none : marks_of s.journal front (suc n) ≡ [] = ap (marks_of s.journal front) (sym e) ∙ marks-none s.journal front in
-      ap (λ (n : ℕ). until_of_outdated (record s { front = n }) key) (sym e)
-      ∙ (let h : until_of_outdated (record s { front = front }) key ≡ max (until_of_outdated (record s { front = front }) key) 0 = omega arith in h)
-      ∙ sym (ap (λ (ms : List Mark). max (until_of_outdated (record s { front = front }) key) (marked_until copies ms key)) none))
-  | inr low ↦ (
-      let u : Mark → ℕ = λ m. until_below copies m.key m.commit in
-      let p : Mark → Bool = λ m. same_key key m.key in
-      let old = until_of_outdated (record s { front = front }) key in
-      let before = marked_until copies (marks_of s.journal front n) key in
-      let more = marked_until copies (mark_of (suc n) (altered_key s.journal (suc n))) key in
-      raises s key n
-      ∙ ap₂ max (marks-raise copies s front key same own raises n low (omega (arith, within)))
-      (one-mark copies s key (suc n) same (is_changed key s.journal (suc n)) (altered_key s.journal (suc n)) (altered-told s.journal n key (omega (arith, within)) (own n)))
-      ∙ (let h : max (max old before) more ≡ max old (max before more) = omega arith in h)
-      ∙ ap (max old) (sym (best-append u p (marks_of s.journal front n) (mark_of (suc n) (altered_key s.journal (suc n)))))
-      ∙ sym (ap (λ (ms : List Mark). max old (marked_until copies ms key)) (marks-more s.journal front n low)))
-]
+    by : ((n + 1 == commit) ≡ true) ⊎ ((n + 1 == commit) ≡ false) → ((is_after front n commit && is_changed key journal commit) || (is_key key (altered_key journal (n + 1)) && (n + 1 == commit))) ≡ (is_after front (n + 1) commit && is_changed key journal commit)
+    by (inl hit) =
+        let same : n + 1 ≡ commit = eqb-true (n + 1) commit hit in
+        let next : suc n ≡ n + 1 = omega arith in
+        let told : is_key key (altered_key journal (n + 1)) ≡ is_changed key journal commit =
+        ap (λ (m : ℕ). is_key key (altered_key journal m)) (sym next) ∙ sym (altered-told journal n key within) ∙ ap (is_changed key journal) (next ∙ same) in
+        let above : front < commit = omega (arith, same, forward) in
+        let beyond : n < commit = omega (arith, same) in
+        let up : commit ≤ n + 1 = omega (arith, same) in
+        ap₂ (λ (b c : Bool). (b && is_changed key journal commit) || c)
+        (ap₂ (λ (b c : Bool). b && c) (lt-ltb front commit above) (lt-leb commit n beyond))
+        (ap₂ (λ (b c : Bool). b && c) told hit ∙ both_true (is_changed key journal commit))
+        ∙ sym (ap₂ (λ (b c : Bool). (b && c) && is_changed key journal commit) (lt-ltb front commit above) (le-leb commit (n + 1) up))
+    by (inr miss) =
+        ap (λ (b : Bool). (is_after front n commit && is_changed key journal commit) || b) (ap (λ (b : Bool). is_key key (altered_key journal (n + 1)) && b) miss ∙ both_false (is_key key (altered_key journal (n + 1))))
+        ∙ either (is_after front n commit && is_changed key journal commit)
+        ∙ ap (λ (b : Bool). (nat_lt front commit && b) && is_changed key journal commit)
+        (elim (cases_lt n commit) [
+          | inl beyond ↦ (let apart : n + 1 < commit = beyond-next beyond in lt-leb commit n beyond ∙ sym (lt-leb commit (n + 1) apart))
+          | inr within' ↦ le-leb commit n within' ∙ sym (le-leb commit (n + 1) (omega (arith, within')))
+        ])
+      where
+        beyond-next : n < commit → n + 1 < commit
+        beyond-next beyond =
+            elim (cases_lt (n + 1) commit) [
+              | inl h ↦ h
+              | inr h ↦ (let e : n + 1 ≡ commit = omega (arith, h, beyond) in absurd (let t : (n + 1 == commit) ≡ true = eq-eqb (n + 1) commit e in cc))
+            ]
+
+-- ---- how far the commits of a match raise a key
+
+module _ (U L : ℕ → ℕ) (changed : ℕ → Bool) (step : (n : ℕ) → U (suc n) ≡ max (U n) (if changed (suc n) then L (suc n) else 0)) where
+  raised-most : (front most to : ℕ) → front ≤ to → ((n : ℕ) → front < n → n ≤ to → changed n ≡ true → L n ≤ most) → U to ≤ max (U front) most
+  raised-most front most zero forward each = (let e : front ≡ zero = omega (arith, forward) in let u = ap U e in omega (arith, u))
+  raised-most front most (suc n) forward each =
+      elim (cases_lt n front) [
+        | inl past ↦ (let e : front ≡ suc n = omega (arith, past, forward) in let u = ap U e in omega (arith, u))
+        | inr low ↦ (
+            let rest = raised-most front most n low (λ m above within hit. each m above (omega (arith, within)) hit) in
+            let one = step n in
+            elim (cases_Bool (changed (suc n))) [
+              | inl hit ↦ (
+                  let top = each (suc n) (omega (arith, low)) (omega arith) hit in
+                  let is : U (suc n) ≡ max (U n) (L (suc n)) = one ∙ ap (λ (b : Bool). max (U n) (if b then L (suc n) else 0)) hit in
+                  omega (arith, rest, top, is))
+              | inr miss ↦ (
+                  let is : U (suc n) ≡ max (U n) 0 = one ∙ ap (λ (b : Bool). max (U n) (if b then L (suc n) else 0)) miss in
+                  omega (arith, rest, is))
+            ])
+      ]
+
+  raised-stays : (front to : ℕ) → front ≤ to → U front ≤ U to
+  raised-stays front zero forward = (let e : front ≡ zero = omega (arith, forward) in let u = ap U e in omega (arith, u))
+  raised-stays front (suc n) forward =
+      elim (cases_lt n front) [
+        | inl past ↦ (let e : front ≡ suc n = omega (arith, past, forward) in let u = ap U e in omega (arith, u))
+        | inr low ↦ (let rest = raised-stays front n low in let one = step n in omega (arith, rest, one))
+      ]
+
+  raised-least : (to n : ℕ) → 0 < n → n ≤ to → changed n ≡ true → L n ≤ U to
+  raised-least zero n some within hit = absurd (omega (arith, some, within))
+  raised-least (suc m) n some within hit =
+      elim (cases_lt m n) [
+        | inl own ↦ (
+            let e : n ≡ suc m = omega (arith, own, within) in
+            let is : U (suc m) ≡ max (U m) (L (suc m)) = step m ∙ ap (λ (b : Bool). max (U m) (if b then L (suc m) else 0)) (ap changed (sym e) ∙ hit) in
+            let l = ap L e in
+            omega (arith, is, l))
+        | inr low ↦ (let rest = raised-least m n some low hit in let one = step m in omega (arith, rest, one))
+      ]
+
+-- a mark that is there raises its key as far as its copies go
+any-most : (copies : List Copy) (key : KeyShape) (n : ℕ) (marks : List Mark) → list_any (is_mark key n) marks ≡ true → until_below copies key n ≤ marked_until copies marks key
+any-most copies key n [] there = absurd (let e = there in cc)
+any-most copies key n (m ∷ ms) there =
+    let u : Mark → ℕ = λ x. until_below copies x.key x.commit in
+    let p : Mark → Bool = λ x. same_key key x.key in
+    by (same_key key m.key) (m.commit == n) refl refl (best-cons u p m ms) (λ rest. any-most copies key n ms rest)
+  where
+    by : (a b : Bool) → same_key key m.key ≡ a → (m.commit == n) ≡ b → marked_until copies (m ∷ ms) key ≡ max (if same_key key m.key then until_below copies m.key m.commit else 0) (marked_until copies ms key) →
+        (list_any (is_mark key n) ms ≡ true → until_below copies key n ≤ marked_until copies ms key) → until_below copies key n ≤ marked_until copies (m ∷ ms) key
+    by true true own at more further =
+        let k : key ≡ m.key = (same_key-Decides key m.key).0 own in
+        let c : m.commit ≡ n = eqb-true m.commit n at in
+        let first : (if same_key key m.key then until_below copies m.key m.commit else 0) ≡ until_below copies key n = ap (λ (b : Bool). if b then until_below copies m.key m.commit else 0) own ∙ ap₂ (until_below copies) (sym k) c in
+        omega (arith, more, first)
+    by true false own at more further =
+        let low = further (sym (ap₂ (λ (a b : Bool). (a && b) || list_any (is_mark key n) ms) own at) ∙ there) in
+        omega (arith, more, low)
+    by false b own at more further =
+        let low = further (sym (ap (λ (a : Bool). (a && (m.commit == n)) || list_any (is_mark key n) ms) own) ∙ there) in
+        omega (arith, more, low)
+
+-- each mark is there
+any-own : {X : Type 0} (p : X → Bool) (xs : List X) (k : ℕ) (d : X) → k < length xs → p (slice_index_or xs k d) ≡ true → list_any p xs ≡ true
+any-own p [] k d low hit = absurd (omega (arith, low))
+any-own p (x ∷ xs) zero d low hit = ap (λ (b : Bool). b || list_any p xs) hit
+any-own p (x ∷ xs) (suc k) d low hit = ap (λ (b : Bool). p x || b) (any-own p xs k d (omega (arith, low)) hit) ∙ either (p x)
+  where
+    either : (b : Bool) → (b || true) ≡ true
+    either true = refl
+    either false = refl
+
+both-parts : (a b c : Bool) → ((a && b) && c) ≡ true → (a ≡ true) × (b ≡ true) × (c ≡ true)
+both-parts true true true h = (refl, refl, refl)
+both-parts true true false h = absurd (let e = h in cc)
+both-parts true false c h = absurd (let e = h in cc)
+both-parts false b c h = absurd (let e = h in cc)
+
+-- the marks of the commits up to one raise a key as far as these outdate its copies
+pub marks-raise : (copies before : List Copy) (s : State) (front to : ℕ) (marks : List Mark) (key : KeyShape) → HasCopies copies s → front ≤ to → AreMarksOf s.journal before front to marks → (is_active copies key ≡ true → is_active before key ≡ true) →
+    until_of_outdated (record s { front = to }) key ≡ max (until_of_outdated (record s { front = front }) key) (marked_until copies marks key)
+marks-raise copies before s front to marks key same forward are was =
+    let upper = raised-most raised own changed step front (marked_until copies marks key) to forward (λ n above within hit. reached (cases_Bool (is_active copies key)) n above within hit) in
+    let lower = best-le (λ (m : Mark). until_below copies m.key m.commit) (λ (m : Mark). same_key key m.key) (raised to) marks (λ k d low hit. covered (cases_Bool (is_active copies key)) k d low hit) in
+    let stays = raised-stays raised own changed step front to forward in
+    omega (arith, upper, lower, stays)
+  where
+    raised : ℕ → ℕ
+    raised n = until_of_outdated (record s { front = n }) key
+
+    own : ℕ → ℕ
+    own n = latest_until s key 0 n
+
+    changed : ℕ → Bool
+    changed n = is_changed key s.journal n
+
+    step : (n : ℕ) → raised (suc n) ≡ max (raised n) (if changed (suc n) then own (suc n) else 0)
+    step n = outdated_until-commit s key n
+
+    gone : is_active copies key ≡ false → (n : ℕ) → until_below copies key n ≡ 0
+    gone idle n = ap (λ (o : Option ℕ). unwrap_or o 0) (inactive-none copies key (is_between 0 n) idle)
+
+    reached : (is_active copies key ≡ true) ⊎ (is_active copies key ≡ false) → (n : ℕ) → front < n → n ≤ to → changed n ≡ true → own n ≤ marked_until copies marks key
+    reached (inl active) n above within hit =
+        let there : list_any (is_mark key n) marks ≡ true =
+        are key n (was active) ∙ ap₂ (λ (b c : Bool). (b && c) && is_changed key s.journal n) (lt-ltb front n above) (le-leb n to within) ∙ hit in
+        let most = any-most copies key n marks there in
+        let is = below-until copies s key n same in
+        omega (arith, most, is)
+    reached (inr idle) n above within hit =
+        let none = gone idle n in
+        let is = below-until copies s key n same in
+        omega (arith, none, is)
+
+    covered : (is_active copies key ≡ true) ⊎ (is_active copies key ≡ false) → (k : ℕ) (d : Mark) → k < length marks → same_key key (slice_index_or marks k d).key ≡ true → until_below copies (slice_index_or marks k d).key (slice_index_or marks k d).commit ≤ raised to
+    covered (inl active) k d low hit =
+        let m = slice_index_or marks k d in
+        let k_is : key ≡ m.key = (same_key-Decides key m.key).0 hit in
+        let mark : is_mark key m.commit m ≡ true = ap₂ (λ (a b : Bool). a && b) hit (eq-eqb m.commit m.commit refl) in
+        let there : list_any (is_mark key m.commit) marks ≡ true = any-own (is_mark key m.commit) marks k d low mark in
+        let parts = both-parts (nat_lt front m.commit) (nat_le m.commit to) (is_changed key s.journal m.commit) (sym (are key m.commit (was active)) ∙ there) in
+        let above = ltb-true front m.commit parts.0 in
+        let least = raised-least raised own changed step to m.commit (omega (arith, above)) (leb-true m.commit to parts.1) parts.2 in
+        let is = below-until copies s key m.commit same in
+        let value : until_below copies m.key m.commit ≡ until_below copies key m.commit = ap (λ (x : KeyShape). until_below copies x m.commit) (sym k_is) in
+        omega (arith, least, is, value)
+    covered (inr idle) k d low hit =
+        let m = slice_index_or marks k d in
+        let k_is : key ≡ m.key = (same_key-Decides key m.key).0 hit in
+        let none = gone idle m.commit in
+        let value : until_below copies m.key m.commit ≡ until_below copies key m.commit = ap (λ (x : KeyShape). until_below copies x m.commit) (sym k_is) in
+        omega (arith, none, value)
 
 -- one mark more
 pub marked-more : (copies : List Copy) (marks : List Mark) (m : Mark) (key : KeyShape) → marked_until copies (marks ++ m ∷ []) key ≡ max (marked_until copies marks key) (if same_key key m.key then until_below copies m.key m.commit else 0)
@@ -180,33 +303,3 @@ marked-take copies marks i m key first old new item low was is =
     ∙ ap (λ n. max n last) was
     ∙ (let h : max (max first (marked_until copies (take i marks) key)) last ≡ max first (max (marked_until copies (take i marks) key) last) = omega arith in h)
     ∙ ap (max first) (sym there)
-
--- ---- the record
-
--- the unexpired copies are later than the clock
-live-later : (s : State) → All (λ r. s.clock < until_of r) (live s)
-live-later s k d low = ltb-true s.clock (until_of (slice_index_or (live s) k d)) (filter_passes (is_live s.clock) (issues s) k d low)
-
-pub recorded-until : (s : State) (key : KeyShape) → is_recorded s key ≡ nat_lt s.clock (until_of_outdated s key)
-recorded-until s key = any-best until_of (λ r. same_key key r.key && is_outdated_in s r) s.clock (live s) (live-later s)
-
-pub recorded-at : (h : HubValue) (s : State) (key : KeyShape) → IsAt h s → nat_lt h.clock (until_in h.outdated key) ≡ is_recorded s key
-recorded-at h s key at = ap₂ nat_lt at.clock (at.outdated key) ∙ sym (recorded-until s key)
-
--- ---- the lifetime
-
-active-copies : (s : State) (key : KeyShape) → is_active (copies_of s) key ≡ is_active_in s key
-active-copies s key = any-map copy_of (λ (c : Copy). same_key key c.0) (live s)
-
-pub lifetime-at : (h : HubValue) (s : State) (key : KeyShape) (g : Setting) (at : ℕ) → IsAt h s →
-    (if not (is_active h.copies key) && nat_le g.active (active_keys h.copies) then 0 else g.ttl_high) ≡ ttl_of g s key at
-lifetime-at h s key g at is =
-    let active : (k : KeyShape) → is_active h.copies k ≡ is_active_in s k = λ k. same-active h.copies (copies_of s) is.copies k ∙ active-copies s k in
-    let number : length (active_of s) ≡ active_keys h.copies =
-    length-from_keys same_key_equiv (active_of s) (map (λ (c : Copy). c.0) h.copies) (unique-distinct (map (λ (r : Reading). r.key) (live s)))
-    (λ k.
-    among-unique (map (λ (r : Reading). r.key) (live s)) k
-    ∙ any-map (λ (r : Reading). r.key) (same_key k) (live s)
-    ∙ sym (active k)
-    ∙ sym (any-map (λ (c : Copy). c.0) (same_key k) h.copies)) in
-    ap₂ (λ (b : Bool) (n : ℕ). if not b && nat_le g.active n then 0 else g.ttl_high) (active key) (sym number)

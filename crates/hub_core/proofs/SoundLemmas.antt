@@ -1,32 +1,29 @@
 -- The copies and the marked keys stay those of one clock.
-use Rattle.std.proofs.Common.{◌≡◌, ℕ, ◌<◌, ◌≤◌, Bool, true, false, not, ◌&&◌, ◌||◌, ◌⊎◌, max, nat_le, List, [], ◌∷◌, length, map, All, IsTrue, Some, if◌then◌else◌, refl, sym, ap, ◌∙◌, subst, arith, inl, inr}
+use Rattle.std.proofs.Common.{◌≡◌, ℕ, zero, suc, ◌<◌, ◌≤◌, Bool, true, false, not, ◌&&◌, ◌||◌, ◌⊎◌, max, nat_lt, List, [], ◌∷◌, length, map, All, IsTrue, Some, if◌then◌else◌, refl, sym, ap, ◌∙◌, subst, arith, inl, inr}
 use Rattle.std.specs.List.{list_any, IsDistinct}
-use Rattle.std.proofs.lemmas.Bool.{cases_Bool, ltb-true, leb-false}
+use Rattle.std.proofs.lemmas.Bool.{cases_Bool, ltb-true}
 use Rattle.query_normal.specs.Keys.{same_key}
 use Rattle.query_normal.specs.SameKey.{same_key-Decides}
 use Rattle.query_normal.specs.declared.key.KeyShape.{KeyShape}
-use Rattle.issued_expiries.specs.Copies.{Copy, unexpired, latest_of, is_active, active_keys, SameCopies, with_copy}
+use Rattle.issued_expiries.specs.Copies.{Copy, unexpired, latest_of, latest_where, is_active, active_keys, SameCopies, with_copy}
 use Rattle.issued_expiries.specs.Expiries.{Issued}
 use Rattle.expiring_filter.specs.Filter.{Filter}
 use Rattle.expiring_filter.specs.Held.{Expires, put_until, is_among}
-use Rattle.expiring_filter.proofs.FilterLemmas.{unexpired_put}
 use Rattle.hub_model.specs.Setting.{Setting}
-use Rattle.hub_core.specs.Standing.{until_in}
-use Rattle.hub_core.specs.Handed.{IsSound, AreMarked, last_until}
+use Rattle.hub_core.specs.Handed.{IsSound, AreMarked, last_until, until_in}
 use Rattle.hub_core.proofs.MarkLemmas.{until-expired, once-expired, until-put, once-put, held-later, any-map}
 use Rattle.hub_core.proofs.HandedLemmas.{count-less, count-marked, count-with, backed-later, backed-more, late-later, late-more, active-later, same-with, below-last, active-last}
 
 -- when the clock moves
-pub sound-later : (g : Setting) (clock moment : ℕ) (issued new_issued : Issued) (filter new_filter : Filter) → IsSound g clock issued filter → new_issued.clock ≡ moment → new_filter.clock ≡ moment →
-    new_filter.log2_bits ≡ filter.log2_bits → new_filter.hashes ≡ filter.hashes → SameCopies new_issued.held (unexpired moment issued.held) → Expires moment filter.held new_filter.held → IsSound g moment new_issued new_filter
-sound-later g clock moment issued new_issued filter new_filter sound issued_clock filter_clock bits hashes same expires =
+pub sound-later : (g : Setting) (issued new_issued : Issued) (filter new_filter : Filter) → IsSound g issued filter → new_filter.log2_bits ≡ filter.log2_bits → new_filter.hashes ≡ filter.hashes →
+    SameCopies new_issued.held (unexpired new_issued.clock issued.held) → Expires new_issued.clock filter.held new_filter.held → IsSound g new_issued new_filter
+sound-later g issued new_issued filter new_filter sound bits hashes same expires =
+    let moment = new_issued.clock in
     let less = count-less new_issued.held issued.held (active-later moment issued.held new_issued.held same) in
     record {
       limits = sound.limits;
       log2_bits = bits ∙ sound.log2_bits;
       hashes = hashes ∙ sound.hashes;
-      issued_clock = issued_clock;
-      filter_clock = filter_clock;
       few = (let few = sound.few in omega (arith, less, few));
       late = late-later moment issued.held new_issued.held same;
       once = once-expired moment filter.held new_filter.held expires sound.once;
@@ -35,56 +32,78 @@ sound-later g clock moment issued new_issued filter new_filter sound issued_cloc
     }
 
 -- with one copy more
-pub sound-more : (g : Setting) (clock : ℕ) (issued new_issued : Issued) (filter : Filter) (copy : Copy) → IsSound g clock issued filter → clock < copy.2 → new_issued.clock ≡ issued.clock →
-    SameCopies new_issued.held (with_copy issued.clock copy issued.held) → (is_active issued.held copy.0 ≡ true) ⊎ (active_keys issued.held < g.active) → IsSound g clock new_issued filter
-sound-more g clock issued new_issued filter copy sound late clocks with room =
-    let own = sound.issued_clock in
-    let same : SameCopies new_issued.held (copy ∷ issued.held) = same-with issued.clock copy issued.held new_issued.held (omega (arith, own, late)) with in
+pub sound-more : (g : Setting) (issued new_issued : Issued) (filter : Filter) (copy : Copy) → IsSound g issued filter → issued.clock < copy.2 → new_issued.clock ≡ issued.clock →
+    SameCopies new_issued.held (with_copy issued.clock copy issued.held) → (is_active issued.held copy.0 ≡ true) ⊎ (active_keys issued.held < g.active) → IsSound g new_issued filter
+sound-more g issued new_issued filter copy sound late clocks with room =
+    let same : SameCopies new_issued.held (copy ∷ issued.held) = same-with issued.clock copy issued.held new_issued.held late with in
     record {
       limits = sound.limits;
       log2_bits = sound.log2_bits;
       hashes = sound.hashes;
-      issued_clock = clocks ∙ own;
-      filter_clock = sound.filter_clock;
       few = count-with g.active copy issued.held new_issued.held same sound.few room;
-      late = late-more clock copy issued.held new_issued.held late same sound.late;
+      late = λ key test until is. (let h = late-more issued.clock copy issued.held new_issued.held late same sound.late key test until is in omega (arith, h, clocks));
       once = sound.once;
-      later = sound.later;
+      later = subst (λ (n : ℕ). All (λ e. n < e.1) filter.held) (sym clocks) sound.later;
       backed = λ key. (let before = sound.backed key in let after = backed-more copy issued.held new_issued.held key same in omega (arith, before, after));
     }
 
+-- with other room
+pub sound-same : (g : Setting) (issued new_issued : Issued) (filter : Filter) → new_issued.clock ≡ issued.clock → new_issued.held ≡ issued.held → IsSound g issued filter → IsSound g new_issued filter
+sound-same g issued new_issued filter clocks held sound = record {
+  limits = sound.limits;
+  log2_bits = sound.log2_bits;
+  hashes = sound.hashes;
+  few = subst (λ (xs : List Copy). active_keys xs ≤ g.active) (sym held) sound.few;
+  late = λ key test until is. (let h = sound.late key test until (ap (latest_where key test) (sym held) ∙ is) in omega (arith, h, clocks));
+  once = sound.once;
+  later = subst (λ (n : ℕ). All (λ e. n < e.1) filter.held) (sym clocks) sound.later;
+  backed = λ key. (let h = sound.backed key in let same = ap (λ (xs : List Copy). last_until xs key) held in omega (arith, h, same));
+}
+
 -- the marked keys are active
-marked-active : (g : Setting) (clock : ℕ) (issued : Issued) (filter : Filter) → IsSound g clock issued filter → (key : KeyShape) → list_any (λ e. same_key key e.0) filter.held ≡ true → is_active issued.held key ≡ true
-marked-active g clock issued filter sound key there =
-    let later : clock < until_in filter.held key = ltb-true clock (until_in filter.held key) (sym (held-later clock filter.held key sound.later) ∙ there) in
+marked-active : (g : Setting) (issued : Issued) (filter : Filter) → IsSound g issued filter → (key : KeyShape) → list_any (λ e. same_key key e.0) filter.held ≡ true → is_active issued.held key ≡ true
+marked-active g issued filter sound key there =
+    let later : issued.clock < until_in filter.held key = ltb-true issued.clock (until_in filter.held key) (sym (held-later issued.clock filter.held key sound.later) ∙ there) in
     let backed = sound.backed key in
     active-last issued.held key (omega (arith, later, backed))
 
 -- there is room for the mark of an active key
-pub mark-few : (g : Setting) (clock : ℕ) (issued : Issued) (filter : Filter) (key : KeyShape) → IsSound g clock issued filter → is_active issued.held key ≡ true → IsTrue (is_among filter.held key) ⊎ (length filter.held < 1000000)
-mark-few g clock issued filter key sound active =
+pub mark-few : (g : Setting) (issued : Issued) (filter : Filter) (key : KeyShape) → IsSound g issued filter → is_active issued.held key ≡ true → IsTrue (is_among filter.held key) ⊎ (length filter.held < 1000000)
+mark-few g issued filter key sound active =
     elim (cases_Bool (is_among filter.held key)) [
       | inl there ↦ inl there
       | inr absent ↦ (
-          let fewer = count-marked issued.held filter.held key sound.once absent active (marked-active g clock issued filter sound) in
+          let fewer = count-marked issued.held filter.held key sound.once absent active (marked-active g issued filter sound) in
           let few = sound.few in
           let most = sound.limits.active_most in
           inr (omega (arith, fewer, few, most)))
     ]
 
+-- all are later with a first one that is
+first-later : (clock : ℕ) (x : KeyShape × ℕ) (xs : List (KeyShape × ℕ)) → clock < x.1 → All (λ e. clock < e.1) xs → All (λ e. clock < e.1) (x ∷ xs)
+first-later clock x xs own rest zero d low = own
+first-later clock x xs own rest (suc k) d low = rest k d (omega (arith, low))
+
+-- what is put in later than the clock leaves all later
+later-put : (clock : ℕ) (held : List (KeyShape × ℕ)) (key : KeyShape) (until : ℕ) → clock < until → All (λ e. clock < e.1) held → All (λ e. clock < e.1) (put_until held key until)
+later-put clock [] key until late later = first-later clock (key, until) [] late (λ k d low. absurd (omega (arith, low)))
+later-put clock (e ∷ held) key until late later =
+    elim (cases_Bool (same_key key e.0)) [
+      | inl hit ↦ rw hit (first-later clock (e.0, max e.1 until) held (let own = later 0 e (omega arith) in omega (arith, own)) (λ k d low. later (suc k) d (omega (arith, low))))
+      | inr miss ↦ rw miss (first-later clock e (put_until held key until) (later 0 e (omega arith)) (later-put clock held key until late (λ k d low. later (suc k) d (omega (arith, low)))))
+    ]
+
 -- with one mark more
-pub sound-marked : (g : Setting) (clock : ℕ) (issued : Issued) (filter new_filter : Filter) (key : KeyShape) (until : ℕ) → IsSound g clock issued filter → clock < until → until ≤ last_until issued.held key →
-    new_filter.clock ≡ filter.clock → new_filter.log2_bits ≡ filter.log2_bits → new_filter.hashes ≡ filter.hashes → new_filter.held ≡ put_until filter.held key until → IsSound g clock issued new_filter
-sound-marked g clock issued filter new_filter key until sound late low clocks bits hashes held = record {
+pub sound-marked : (g : Setting) (issued : Issued) (filter new_filter : Filter) (key : KeyShape) (until : ℕ) → IsSound g issued filter → issued.clock < until → until ≤ last_until issued.held key →
+    new_filter.log2_bits ≡ filter.log2_bits → new_filter.hashes ≡ filter.hashes → new_filter.held ≡ put_until filter.held key until → IsSound g issued new_filter
+sound-marked g issued filter new_filter key until sound late low bits hashes held = record {
   limits = sound.limits;
   log2_bits = bits ∙ sound.log2_bits;
   hashes = hashes ∙ sound.hashes;
-  issued_clock = sound.issued_clock;
-  filter_clock = clocks ∙ sound.filter_clock;
   few = sound.few;
   late = sound.late;
   once = subst (λ (xs : List (KeyShape × ℕ)). IsDistinct same_key (map (λ e. e.0) xs)) (sym held) (once-put filter.held key until sound.once);
-  later = subst (λ (xs : List (KeyShape × ℕ)). All (λ e. clock < e.1) xs) (sym held) (unexpired_put clock filter.held key until late sound.later);
+  later = subst (λ (xs : List (KeyShape × ℕ)). All (λ e. issued.clock < e.1) xs) (sym held) (later-put issued.clock filter.held key until late sound.later);
   backed = λ other. (
       let is = ap (λ (xs : List (KeyShape × ℕ)). until_in xs other) held ∙ until-put filter.held key until other in
       let before = sound.backed other in
@@ -136,25 +155,21 @@ still-room filter new_filter key until other held reserved was =
         either false b c h k = k h
 
 -- the marked keys are those whose second is later than the clock, each once
-pub are-marked : (g : Setting) (clock : ℕ) (issued : Issued) (filter : Filter) → IsSound g clock issued filter →
-    AreMarked (record { setting = g; clock = clock; copies = issued.held; outdated = filter.held; ready = issued.reserved; markable = filter.reserved })
-are-marked g clock issued filter sound = record {
+pub are-marked : (g : Setting) (issued : Issued) (filter : Filter) → IsSound g issued filter →
+    AreMarked (record { setting = g; clock = issued.clock; copies = issued.held; outdated = filter.held; idle = issued.idle; ready = issued.reserved; markable = filter.reserved })
+are-marked g issued filter sound = record {
   once = sound.once;
-  marked = λ key. any-map (λ (e : KeyShape × ℕ). e.0) (same_key key) filter.held ∙ held-later clock filter.held key sound.later;
+  marked = λ key. any-map (λ (e : KeyShape × ℕ). e.0) (same_key key) filter.held ∙ held-later issued.clock filter.held key sound.later;
 }
 
 -- a key with a copy of an earlier commit is active
-pub copy-active : (g : Setting) (clock : ℕ) (issued : Issued) (filter : Filter) (key : KeyShape) (commit until : ℕ) → IsSound g clock issued filter → Some until ≡ latest_of issued.held key 0 commit → is_active issued.held key ≡ true
-copy-active g clock issued filter key commit until sound is =
+pub copy-active : (g : Setting) (issued : Issued) (filter : Filter) (key : KeyShape) (commit until : ℕ) → IsSound g issued filter → Some until ≡ latest_of issued.held key 0 commit → is_active issued.held key ≡ true
+copy-active g issued filter key commit until sound is =
     let late = sound.late key _ until (sym is) in
     let most = below-last issued.held key commit until (sym is) in
     active-last issued.held key (omega (arith, late, most))
 
--- where a copy may be kept at all, its key was active or one more may be
-pub lifetime-room : (a : Bool) (limit count high : ℕ) → 0 < (if not a && nat_le limit count then 0 else high) → (a ≡ true) ⊎ (count < limit)
-lifetime-room true limit count high some = inl refl
-lifetime-room false limit count high some =
-    elim (cases_Bool (nat_le limit count)) [
-      | inl full ↦ absurd (let none : 0 < 0 = rw full at some in omega (arith, none))
-      | inr room ↦ inr (leb-false limit count room)
-    ]
+-- there is room for a copy where its key is active, or one more may be
+pub room-is : (a : Bool) (count limit : ℕ) → (a || nat_lt count limit) ≡ true → (a ≡ true) ⊎ (count < limit)
+room-is true count limit some = inl refl
+room-is false count limit some = inr (ltb-true count limit some)

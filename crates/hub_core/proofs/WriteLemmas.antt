@@ -3,13 +3,13 @@ use Rattle.std.proofs.Common.{◌≡◌, ◌⊎◌, ℕ, ◌+◌, Bool, true, fa
 use Rattle.commit_book.specs.declared.change.Change.{Change}
 use Rattle.commit_book.specs.declared.refusal.BookRefusal.{BookRefusal}
 use Rattle.commit_book.specs.declared.refusal.BookRefusal.TheVariants.{Full, Memory}
-use Rattle.commit_book.specs.Contents.{Contents, added, kept_with as book_with}
-use Rattle.commit_book.specs.Journal.{document_at, cost_of, kept}
+use Rattle.commit_book.specs.Contents.{Contents, added}
+use Rattle.commit_book.specs.Journal.{document_at, kept_with}
 use Rattle.hub_model.specs.declared.entry.Condition.{Condition}
 use Rattle.hub_model.specs.declared.entry.Found.{Found}
 use Rattle.hub_model.specs.Setting.{Setting}
 use Rattle.hub_model.specs.State.{State}
-use Rattle.hub_model.specs.Step.{found_of, found_now, is_met, kept_with, wrote}
+use Rattle.hub_model.specs.Step.{found_of, found_now, is_met, wrote}
 
 -- ---- what the book answers
 
@@ -19,30 +19,30 @@ answered book change result (inl wrong) other = absurd (other wrong)
 answered book change result (inr is) other = is
 
 -- it is a commit where there is room
-pub added-ok : (book : Contents) (change : Change) (commit : ℕ) → (Ok commit ≡ Err Memory) ⊎ (Ok commit ≡ added book change) → (nat_le (book_with book change) book.capacity ≡ true) × (commit ≡ length book.journal + 1)
-added-ok book change commit told = by (nat_le (book_with book change) book.capacity) refl
+pub added-ok : (book : Contents) (change : Change) (commit : ℕ) → (Ok commit ≡ Err Memory) ⊎ (Ok commit ≡ added book change) → (nat_le (kept_with book.journal change) book.capacity ≡ true) × (commit ≡ length book.journal + 1)
+added-ok book change commit told = by (nat_le (kept_with book.journal change) book.capacity) refl
   where
     is : Ok commit ≡ added book change
     is = answered book change (Ok commit) told (λ e. cc)
 
-    by : (b : Bool) → nat_le (book_with book change) book.capacity ≡ b → (nat_le (book_with book change) book.capacity ≡ true) × (commit ≡ length book.journal + 1)
+    by : (b : Bool) → nat_le (kept_with book.journal change) book.capacity ≡ b → (nat_le (kept_with book.journal change) book.capacity ≡ true) × (commit ≡ length book.journal + 1)
     by true h =
-        let e : Ok commit ≡ Ok (length book.journal + 1) = is ∙ ap (λ (b : Bool). if b then Ok (length book.journal + 1) else Err (Full (book_with book change))) h in
+        let e : Ok commit ≡ Ok (length book.journal + 1) = is ∙ ap (λ (b : Bool). if b then Ok (length book.journal + 1) else Err (Full (kept_with book.journal change))) h in
         (h, cc)
     by false h =
-        let e : Ok commit ≡ Err (Full (book_with book change)) = is ∙ ap (λ (b : Bool). if b then Ok (length book.journal + 1) else Err (Full (book_with book change))) h in
+        let e : Ok commit ≡ Err (Full (kept_with book.journal change)) = is ∙ ap (λ (b : Bool). if b then Ok (length book.journal + 1) else Err (Full (kept_with book.journal change))) h in
         cc
 
 -- and the sum where there is none
-pub added-full : (book : Contents) (change : Change) (bytes : ℕ) (result : Result ℕ BookRefusal) → result ≡ Err (Full bytes) → (result ≡ Err Memory) ⊎ (result ≡ added book change) → nat_le (book_with book change) book.capacity ≡ false
-added-full book change bytes result full told = by (nat_le (book_with book change) book.capacity) refl
+pub added-full : (book : Contents) (change : Change) (bytes : ℕ) (result : Result ℕ BookRefusal) → result ≡ Err (Full bytes) → (result ≡ Err Memory) ⊎ (result ≡ added book change) → nat_le (kept_with book.journal change) book.capacity ≡ false
+added-full book change bytes result full told = by (nat_le (kept_with book.journal change) book.capacity) refl
   where
     is : result ≡ added book change
     is = answered book change result told (λ e. cc)
 
-    by : (b : Bool) → nat_le (book_with book change) book.capacity ≡ b → nat_le (book_with book change) book.capacity ≡ false
+    by : (b : Bool) → nat_le (kept_with book.journal change) book.capacity ≡ b → nat_le (kept_with book.journal change) book.capacity ≡ false
     by true h =
-        let e : result ≡ Ok (length book.journal + 1) = is ∙ ap (λ (b : Bool). if b then Ok (length book.journal + 1) else Err (Full (book_with book change))) h in
+        let e : result ≡ Ok (length book.journal + 1) = is ∙ ap (λ (b : Bool). if b then Ok (length book.journal + 1) else Err (Full (kept_with book.journal change))) h in
         cc
     by false h = h
 
@@ -56,8 +56,8 @@ met-now : (journal : List Change) (s : State) (change : Change) (condition : Con
 met-now journal s change condition found commits b same found_is count met = ap₂ (is_met condition) (sym found_is) (sym (count ∙ ap length same)) ∙ met
 
 -- with the change there is room in the state where there is in the book
-room-now : (g : Setting) (journal : List Change) (s : State) (change : Change) (capacity : ℕ) (b : Bool) → journal ≡ s.journal → capacity ≡ g.capacity → nat_le (kept journal + cost_of change) capacity ≡ b → nat_le (kept_with s change) g.capacity ≡ b
-room-now g journal s change capacity b same limit room = ap₂ (λ (xs : List Change) (n : ℕ). nat_le (kept xs + cost_of change) n) (sym same) (sym limit) ∙ room
+room-now : (g : Setting) (journal : List Change) (s : State) (change : Change) (capacity : ℕ) (b : Bool) → journal ≡ s.journal → capacity ≡ g.capacity → nat_le (kept_with journal change) capacity ≡ b → nat_le (kept_with s.journal change) g.capacity ≡ b
+room-now g journal s change capacity b same limit room = ap₂ (λ (xs : List Change) (n : ℕ). nat_le (kept_with xs change) n) (sym same) (sym limit) ∙ room
 
 -- the state behind a write, by whether it is accepted
 left : Change → State → Bool → State
@@ -68,17 +68,17 @@ pub leaves-unmet : (g : Setting) (journal : List Change) (s : State) (change : C
 unfolding left
 leaves-unmet g journal s change condition found commits same is count unmet =
     let found_is = found-now journal s change found same is in
-    sym (ap (λ (b : Bool). left change s (b && nat_le (kept_with s change) g.capacity)) (met-now journal s change condition found commits false same found_is count unmet))
+    sym (ap (λ (b : Bool). left change s (b && nat_le (kept_with s.journal change) g.capacity)) (met-now journal s change condition found commits false same found_is count unmet))
 
 pub leaves-full : (g : Setting) (journal : List Change) (s : State) (change : Change) (condition : Condition) (found : Found) (commits capacity : ℕ) → journal ≡ s.journal → found ≡ found_of (document_at journal (length journal) change.collection change.id) → commits ≡ length journal →
-    is_met condition found commits ≡ true → capacity ≡ g.capacity → nat_le (kept journal + cost_of change) capacity ≡ false → s ≡ wrote g change condition s
+    is_met condition found commits ≡ true → capacity ≡ g.capacity → nat_le (kept_with journal change) capacity ≡ false → s ≡ wrote g change condition s
 unfolding left
 leaves-full g journal s change condition found commits capacity same is count met limit room =
     let found_is = found-now journal s change found same is in
     sym (ap₂ (λ (a b : Bool). left change s (a && b)) (met-now journal s change condition found commits true same found_is count met) (room-now g journal s change capacity false same limit room))
 
 pub leaves-done : (g : Setting) (journal : List Change) (s : State) (change : Change) (condition : Condition) (found : Found) (commits capacity : ℕ) → journal ≡ s.journal → found ≡ found_of (document_at journal (length journal) change.collection change.id) → commits ≡ length journal →
-    is_met condition found commits ≡ true → capacity ≡ g.capacity → nat_le (kept journal + cost_of change) capacity ≡ true → record s { journal = s.journal ++ change ∷ [] } ≡ wrote g change condition s
+    is_met condition found commits ≡ true → capacity ≡ g.capacity → nat_le (kept_with journal change) capacity ≡ true → record s { journal = s.journal ++ change ∷ [] } ≡ wrote g change condition s
 unfolding left
 leaves-done g journal s change condition found commits capacity same is count met limit room =
     let found_is = found-now journal s change found same is in

@@ -1,15 +1,13 @@
 -- The copies that reads handed out, and the keys of those that are outdated.
-use Rattle.std.specs.Prelude.{◌≡◌, ◌⊎◌, ℕ, ◌<◌, ◌≤◌, Bool, true, not, ◌&&◌, nat_lt, nat_le, if◌then◌else◌, List, [], map, All, IsTrue, Some, unwrap_or}
+use Rattle.std.specs.Prelude.{◌≡◌, ◌⊎◌, ℕ, ◌<◌, ◌≤◌, Bool, true, false, ◌||◌, max, nat_lt, if◌then◌else◌, List, [], map, filter, All, IsTrue, Some, unwrap_or}
 use Rattle.std.specs.List.{list_any, IsDistinct}
-use Rattle.issued_expiries.specs.Copies.{Copy, latest_where, latest_of, is_active, active_keys}
+use Rattle.issued_expiries.specs.Copies.{Copy, SameCopies, unexpired, latest_where, latest_of, is_active, active_keys}
 use Rattle.issued_expiries.specs.Expiries.{Issued}
 use Rattle.expiring_filter.specs.Filter.{Filter}
 use Rattle.query_normal.specs.Keys.{same_key}
 use Rattle.query_normal.specs.declared.key.KeyShape.{KeyShape}
 use Rattle.hub_model.specs.Setting.{Setting, IsWithinLimits}
-use Rattle.hub_model.specs.State.{State}
-use Rattle.hub_model.specs.Until.{until_of_outdated}
-use Rattle.hub_core.specs.Standing.{until_in}
+use Rattle.hub_model.specs.Until.{greatest}
 
 -- What contracts see of the copies.
 pub record Handed : Type 0 where
@@ -20,6 +18,8 @@ pub record Handed : Type 0 where
   pub copies : List Copy
   -- the keys of outdated copies, and until when these may be kept
   pub outdated : List (KeyShape × ℕ)
+  -- the keys of which the last copy expired, and that were not given since
+  pub idle : List KeyShape
   -- the keys of which a copy can be handed out without memory
   pub ready : List KeyShape
   -- the keys that can be marked without memory
@@ -27,15 +27,44 @@ pub record Handed : Type 0 where
 
 -- no copy was handed out
 abbrev pub none_handed : Setting → Handed
-none_handed g = record { setting = g; clock = 0; copies = []; outdated = []; ready = []; markable = [] }
+none_handed g = record {
+  setting = g;
+  clock = 0;
+  copies = [];
+  outdated = [];
+  idle = [];
+  ready = [];
+  markable = [];
+}
 
 -- a second while it is later than the clock, and then 0
 abbrev pub while_later : ℕ → ℕ → ℕ
 while_later clock until = if nat_lt clock until then until else 0
 
+-- until when the outdated copies of a key may be kept, or 0 without one
+abbrev pub until_in : List (KeyShape × ℕ) → KeyShape → ℕ
+until_in outdated key = greatest (map (λ e. e.1) (filter (λ e. same_key key e.0) outdated))
+
+-- The clock moves to a moment, and what expires then is gone; no key is left of which the last copy expired.
+pub record Passes (moment : ℕ) (old new : Handed) : Type 0 where
+  pub clock : new.clock ≡ max old.clock moment
+  pub copies : SameCopies new.copies (unexpired new.clock old.copies)
+  pub outdated : (key : KeyShape) → until_in new.outdated key ≡ while_later new.clock (until_in old.outdated key)
+  pub idle : new.idle ≡ []
+  pub rest : new ≡ record old { clock = new.clock; copies = new.copies; outdated = new.outdated; idle = new.idle }
+
+-- a copy of a key may be handed out: it is active, or one key more may be
+abbrev pub has_room : Handed → KeyShape → Bool
+has_room h key = is_active h.copies key || nat_lt (active_keys h.copies) h.setting.active
+
 -- for how long a copy is handed out: not at all where a further key would be active beyond the limit
 abbrev pub lifetime : Handed → KeyShape → ℕ
-lifetime h key = if not (is_active h.copies key) && nat_le h.setting.active (active_keys h.copies) then 0 else h.setting.ttl_high
+lifetime h key = if has_room h key then h.setting.ttl_high else 0
+
+-- a copy of this key can be handed out without memory, and of no other
+pub record IsReadyFor (h : Handed) (key : KeyShape) : Type 0 where
+  pub own : IsTrue (list_any (same_key key) h.ready)
+  pub alone : (other : KeyShape) → same_key key other ≡ false → list_any (same_key other) h.ready ≡ false
 
 -- until when the last copy of a key may be kept, or 0 without one
 abbrev pub last_until : List Copy → KeyShape → ℕ
@@ -59,26 +88,20 @@ pub record AreMarked (h : Handed) : Type 0 where
   pub marked : (key : KeyShape) → list_any (same_key key) (marked_keys h) ≡ is_marked h key
 
 -- an active key can be marked without memory
-abbrev pub IsRoomFor : Handed → KeyShape → Type 0
-IsRoomFor h key = IsTrue (is_active h.copies key) → IsTrue (list_any (same_key key) h.markable)
+abbrev pub IsMarkable : Handed → KeyShape → Type 0
+IsMarkable h key = IsTrue (is_active h.copies key) → IsTrue (list_any (same_key key) h.markable)
 
 -- or it is marked already
 abbrev pub CanMark : Handed → KeyShape → Type 0
 CanMark h key = IsTrue (is_active h.copies key) → IsTrue (list_any (same_key key) h.markable) ⊎ IsTrue (list_any (λ e. same_key key e.0) h.outdated)
 
--- the copies and the marked keys are those of one clock, and no key is marked longer than its last copy may be kept
-pub record IsSound (g : Setting) (clock : ℕ) (issued : Issued) (filter : Filter) : Type 0 where
+-- the copies and the marked keys are later than the clock, and no key is marked longer than its last copy may be kept
+pub record IsSound (g : Setting) (issued : Issued) (filter : Filter) : Type 0 where
   pub limits : IsWithinLimits g
   pub log2_bits : filter.log2_bits ≡ g.log2_bits
   pub hashes : filter.hashes ≡ g.hashes
-  pub issued_clock : issued.clock ≡ clock
-  pub filter_clock : filter.clock ≡ clock
   pub few : active_keys issued.held ≤ g.active
-  pub late : (key : KeyShape) (test : ℕ → Bool) (until : ℕ) → latest_where key test issued.held ≡ Some until → clock < until
+  pub late : (key : KeyShape) (test : ℕ → Bool) (until : ℕ) → latest_where key test issued.held ≡ Some until → issued.clock < until
   pub once : IsDistinct same_key (map (λ e. e.0) filter.held)
-  pub later : All (λ e. clock < e.1) filter.held
+  pub later : All (λ e. issued.clock < e.1) filter.held
   pub backed : (key : KeyShape) → until_in filter.held key ≤ last_until issued.held key
-
--- the keys are marked as the state would have them at another front
-abbrev pub IsMarkedAt : Handed → State → ℕ → Type 0
-IsMarkedAt h s front = (key : KeyShape) → until_in h.outdated key ≡ until_of_outdated (record s { front = front }) key

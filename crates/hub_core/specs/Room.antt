@@ -6,18 +6,18 @@ use Rattle.query_normal.specs.Pages.{Page}
 use Rattle.hub_core.specs.declared.room.Numbers.{Numbers}
 
 -- the sizes for which it was made, and the last fetched page
-pub record Fetched : Type 0 where
+pub record RoomView : Type 0 where
   pub log2_bits : ℕ
   pub hashes : ℕ
   pub page : Option Page
 
 -- the room was made for a hub of this configuration
-pub record IsRoomFor (g : Setting) (room : Fetched) : Type 0 where
+pub record IsRoomFor (g : Setting) (room : RoomView) : Type 0 where
   pub log2_bits : room.log2_bits ≡ g.log2_bits
   pub hashes : room.hashes ≡ g.hashes
 
 -- the moment of the last fetched page, or 0 before the first
-abbrev pub moment_in : Fetched → ℕ
+abbrev pub moment_in : RoomView → ℕ
 moment_in room = unwrap_or (option_map (λ (page : Page). page.moment) room.page) 0
 
 -- the page whose bits stand behind its head

@@ -1,13 +1,11 @@
 //! The copies that reads handed out, and the keys of those that are outdated.
-ghost use Rattle.std.specs.Prelude.{◌≡◌, ◌⊎◌, ◌+◌, ◌*◌, ◌^◌, ◌<◌, ◌≤◌, max, false, ◌∷◌, if◌then◌else◌, nat_lt, ℕ, List, length, IsTrue, IfOk, OnOk, OnErr};
-ghost use Rattle.std.specs.List.{list_any};
-ghost use Rattle.issued_expiries.specs.Copies.{SameCopies, is_active, unexpired};
+ghost use Rattle.std.specs.Prelude.{◌≡◌, ◌+◌, ◌*◌, ◌^◌, ◌<◌, max, ◌∷◌, [], if◌then◌else◌, nat_lt, length, IsTrue, IfOk, OnOk, OnErr};
+ghost use Rattle.issued_expiries.specs.Copies.{SameCopies, unexpired};
 ghost use Rattle.query_normal.specs.Bits.{flat_bits};
 ghost use Rattle.query_normal.specs.Keys.{same_key};
 ghost use Rattle.query_normal.specs.declared.key.KeyShape.{KeyShape as AKey};
 ghost use Rattle.hub_model.specs.Record.{bits_of};
-ghost use Rattle.hub_core.specs.Standing.{until_in};
-ghost use Rattle.hub_core.specs.Handed.{none_handed, lifetime, while_later, until_below, is_marked, marked_keys, AreMarked, IsRoomFor, CanMark};
+ghost use Rattle.hub_core.specs.Handed.{none_handed, has_room, while_later, until_in, until_below, is_marked, marked_keys, AreMarked, IsReadyFor, IsMarkable, CanMark};
 
 use crate::config::Config;
 use expiring_filter::CountingFilter;
@@ -21,7 +19,6 @@ use std::marker::Model;
 #[derive(Drop)]
 pub struct Copies {
     config: Config,
-    clock: Moment,
     issued: Expiries,
     outdated: CountingFilter,
 }
@@ -33,14 +30,15 @@ impl Model for Copies {
 
     ghost view = { λ c. record {
       setting = c.config;
-      clock = c.clock;
+      clock = c.issued.clock;
       copies = c.issued.held;
       outdated = c.outdated.held;
+      idle = c.issued.idle;
       ready = c.issued.reserved;
       markable = c.outdated.reserved;
     } };
 
-    ghost invariant = { λ c. IsSound c.config c.clock c.issued c.outdated };
+    ghost invariant = { λ c. IsSound c.config c.issued c.outdated };
 }
 
 impl Copies {
@@ -52,73 +50,84 @@ impl Copies {
         let outdated = CountingFilter::new(alloc, config.log2_bits(), config.hashes())?;
         Ok(Copies {
             config,
-            clock: Moment::of(0),
             issued,
             outdated,
         })
+    }
+
+    /// The configuration.
+    pub fn config(&self) -> &Config
+        ensures { result.now ≡ self.now.setting }
+    {
+        &self.config
     }
 
     /// The greatest moment so far.
     pub fn clock(&self) -> Moment
         ensures { result ≡ self.now.clock }
     {
-        self.clock
+        self.issued.clock()
     }
 
-    /// Moves the clock forward to a moment, and drops what expires.
+    /// Moves the clock forward to a moment, and drops what expires. The keys of which no copy is left
+    /// become idle.
     pub fn advance(&mut self, moment: Moment)
         ensures clock { self.new.clock ≡ max self.old.clock moment }
         ensures copies { SameCopies self.new.copies (unexpired self.new.clock self.old.copies) }
         ensures outdated { (key : AKey) → until_in self.new.outdated key ≡ while_later self.new.clock (until_in self.old.outdated key) }
-        ensures rest { self.new ≡ record self.old { clock = self.new.clock; copies = self.new.copies; outdated = self.new.outdated } }
+        ensures rest { self.new ≡ record self.old { clock = self.new.clock; copies = self.new.copies; outdated = self.new.outdated; idle = self.new.idle } }
     {
-        self.clock = later(self.clock, moment);
         self.issued.advance(moment);
+        let clock = self.issued.clock();
+        self.outdated.advance(clock);
+    }
+
+    /// Lets the idle keys go.
+    pub fn forget_idle(&mut self)
+        ensures { self.new ≡ record self.old { idle = [] } }
+    {
         self.issued.forget_idle();
-        self.outdated.advance(moment);
     }
 
     /// Makes room for a copy of a key.
     pub fn reserve(&mut self, key: &Key) -> Result<(), Memory>
-        ensures ok { OnOk result (IsTrue (list_any (same_key key.now) self.new.ready)) }
+        requires { self.old.ready ≡ [] }
+        ensures ok { OnOk result (IsReadyFor self.new key.now) }
+        ensures err { OnErr result (self.new ≡ self.old) }
         ensures rest { self.new ≡ record self.old { ready = self.new.ready } }
     {
         self.issued.reserve(key)
     }
 
-    /// Hands out a copy of a key for the greatest lifetime, and answers it: 0 where a further key
-    /// would be active beyond the limit.
-    pub fn hand_out(&mut self, key: &Key, commit: Commit) -> u32
-        requires { IsTrue (list_any (same_key key.now) self.old.ready) }
-        ensures lifetime { result ≡ lifetime self.old key.now }
-        ensures copies { SameCopies self.new.copies (if nat_lt 0 result then (key.now, commit, self.old.clock + result) ∷ self.old.copies else self.old.copies) }
-        ensures rest { self.new ≡ record self.old { copies = self.new.copies; ready = self.new.ready } }
+    /// Whether a copy of a key may be handed out: the key is active, or one key more may be.
+    pub fn has_room(&self, key: &Key) -> bool
+        ensures { result ≡ has_room self.now key.now }
     {
-        let ttl = self.lifetime(key);
-        if ttl == 0 {
-            self.issued.forget_reserved();
-            return 0;
-        }
-        let until = self.clock.seconds() + ttl as u64;
-        self.issued.issue(key, commit, until);
-        ttl
+        self.issued.active(key) || self.issued.active_count() < self.config.active()
     }
 
-    /// For how many seconds a copy of a key may be kept.
-    fn lifetime(&self, key: &Key) -> u32
-        ensures { result ≡ lifetime self.now key.now }
+    /// Hands out a copy of a key for a lifetime, and none where that is 0. The key is not ready any
+    /// more.
+    pub fn hand_out(&mut self, key: &Key, commit: Commit, ttl: u32)
+        requires ready { IsReadyFor self.old key.now }
+        requires room { 0 < ttl → IsTrue (has_room self.old key.now) }
+        ensures copies { SameCopies self.new.copies (if nat_lt 0 ttl then (key.now, commit, self.old.clock + ttl) ∷ self.old.copies else self.old.copies) }
+        ensures ready { self.new.ready ≡ [] }
+        ensures idle { self.old.idle ≡ [] → self.new.idle ≡ [] }
+        ensures rest { self.new ≡ record self.old { copies = self.new.copies; idle = self.new.idle; ready = self.new.ready } }
     {
-        if self.config.active() <= self.issued.active_count() && !self.issued.active(key) {
-            0
-        } else {
-            self.config.ttl_high()
+        if ttl == 0 {
+            self.issued.forget_reserved();
+            return;
         }
+        let until = self.issued.clock().seconds() + ttl as u64;
+        self.issued.issue(key, commit, until);
     }
 
     /// Makes room to mark a key.
     pub fn reserve_mark(&mut self, key: &Key) -> Result<(), Memory>
-        ensures ok { OnOk result (IsRoomFor self.new key.now) }
-        ensures others { (other : AKey) → IsRoomFor self.old other → IsRoomFor self.new other }
+        ensures ok { OnOk result (IsMarkable self.new key.now) }
+        ensures others { (other : AKey) → IsMarkable self.old other → IsMarkable self.new other }
         ensures rest { self.new ≡ record self.old { markable = self.new.markable } }
     {
         if self.issued.active(key) {
@@ -141,7 +150,7 @@ impl Copies {
 
     /// Gives back the room for marks that was not used.
     pub fn forget_marks(&mut self)
-        ensures { self.new ≡ record self.old { markable = self.new.markable } }
+        ensures { self.new ≡ record self.old { markable = [] } }
     {
         self.outdated.forget_reserved();
     }
@@ -169,11 +178,4 @@ impl Copies {
     {
         self.outdated.bits()
     }
-}
-
-/// The later of two moments.
-fn later(a: Moment, b: Moment) -> Moment
-    ensures { result ≡ max a b }
-{
-    if a < b { b } else { a }
 }

@@ -1,24 +1,23 @@
 //! The hub.
-ghost use Rattle.std.specs.Prelude.{◌≡◌, ◌<◌, ◌≤◌, length, option_map, Some, IfOk, OnOk, OnErr};
+ghost use Rattle.std.specs.Prelude.{◌≡◌, ◌<◌, ◌≤◌, ◌++◌, ◌∷◌, [], length, option_map, Some, IfOk, OnOk, OnErr};
 ghost use Rattle.hub_model.specs.declared.entry.Entry.TheVariants.{Write, Read, Match, Fetch, Tick};
 ghost use Rattle.commit_book.specs.Journal.{document_at};
 ghost use Rattle.hub_model.specs.Journal.{result_at};
 ghost use Rattle.hub_model.specs.Record.{is_recorded, page_of, record_of};
 ghost use Rattle.hub_model.specs.Reply.{outcome_of, wrote, read, matched, fetched, counted, reply_in};
 ghost use Rattle.hub_model.specs.State.{State, start};
-ghost use Rattle.hub_model.specs.Step.{found_of, after};
+ghost use Rattle.hub_model.specs.Step.{found_of, after, after_all};
+ghost use Rattle.hub_model.specs.Helps.{helps_of};
 ghost use Rattle.hub_core.specs.Room.{IsRoomFor};
-ghost use Rattle.hub_core.specs.Standing.{IsAt};
+ghost use Rattle.hub_core.specs.Handed.{lifetime, Passes};
+ghost use Rattle.hub_core.specs.Standing.{IsAt, IsLean};
 
 use crate::config::Config;
 use crate::copies::Copies;
 use crate::marks::{mark_all, reserve_marks};
 use crate::room::{Numbers, PageRoom};
 use commit_book::{Book, BookRefusal};
-use hub_model::{
-    Answer, Change, Condition, Found, Matched, Outcome, Stats, Tags, Written, bits_in_any_order,
-    keys_in_any_order, matches_record_commit_by_commit, record_changes_by_its_own_commits,
-};
+use hub_model::{Answer, Change, Condition, Found, Matched, Outcome, Stats, Tags, Written};
 use q_base::{Commit, Memory, Moment};
 use query_normal::{Key, KeyShape};
 use std::alloc::Global;
@@ -38,22 +37,19 @@ impl Model for Hub {
     ghost use Rattle.std.specs.Prelude.{◌≡◌, ◌≤◌, length};
     ghost use Rattle.std.specs.Coded.{codes};
     ghost use Rattle.q_doc.specs.Code.{tree_code};
-    ghost use Rattle.hub_core.specs.Standing.{HubValue};
+    ghost use Rattle.hub_core.specs.Standing.{HubView, IsLean, hub_of};
 
-    ghost Value = { HubValue };
+    ghost Value = { HubView };
 
     ghost coded = { Prim.hlevel (codes, tree_code) };
 
-    ghost view = { λ h. record {
-      setting = h.copies.setting;
-      clock = h.copies.clock;
-      journal = h.book.journal;
-      front = h.front;
-      copies = h.copies.copies;
-      outdated = h.copies.outdated;
-    } };
+    ghost view = { λ h. hub_of h.book h.front h.copies };
 
-    ghost invariant = { λ h. record { within : h.front ≤ length h.book.journal; capacity : h.book.capacity ≡ h.copies.setting.capacity } };
+    ghost invariant = { λ h. record {
+      within : h.front ≤ length h.book.journal;
+      capacity : h.book.capacity ≡ h.copies.setting.capacity;
+      lean : IsLean (hub_of h.book h.front h.copies);
+    } };
 }
 
 impl Hub {
@@ -61,6 +57,7 @@ impl Hub {
     pub fn new(alloc: Global, config: Config) -> Result<Hub, Memory>
         ensures setting { IfOk result (λ hub. hub.setting ≡ config) }
         ensures begins { IfOk result (λ hub. IsAt hub start) }
+        ensures lean { IfOk result (λ hub. IsLean hub) }
     {
         Ok(Hub {
             alloc,
@@ -79,16 +76,17 @@ impl Hub {
         condition: &Condition,
     ) -> Result<Written, Memory>
         // What Ok means.
-        ensures told { IfOk result (λ w. (s : State) → IsAt self.old s → wrote w ≡ reply_in self.old.setting s (Write moment change.now condition.now)) }
-        ensures after { OnOk result ((s : State) → IsAt self.old s → IsAt self.new (after self.old.setting s (Write moment change.now condition.now))) }
+        ensures told { IfOk result (λ w. (s : State) → IsAt self.old s → wrote w ≡ reply_in self.old.setting (after_all self.old.setting s (helps_of self.old.setting s (Write moment change.now condition.now))) (Write moment change.now condition.now)) }
+        ensures after { OnOk result ((s : State) → IsAt self.old s → IsAt self.new (after_all self.old.setting s (helps_of self.old.setting s (Write moment change.now condition.now) ++ Write moment change.now condition.now ∷ []))) }
 
         // What stays.
         ensures setting { self.new.setting ≡ self.old.setting }
         ensures memory { OnErr result (self.new ≡ self.old) }
+        ensures lean { IsLean self.new }
     {
         let before = found(&self.book, change);
         if !condition.is_met(before, self.book.count()) {
-            self.copies.advance(moment);
+            pass(&mut self.copies, moment);
             return Ok(Written::Precondition {
                 found: before,
                 clock: self.copies.clock(),
@@ -96,7 +94,7 @@ impl Hub {
         }
         match self.book.add(change) {
             Ok(commit) => {
-                self.copies.advance(moment);
+                pass(&mut self.copies, moment);
                 Ok(Written::Done {
                     commit,
                     before,
@@ -104,7 +102,7 @@ impl Hub {
                 })
             }
             Err(BookRefusal::Full { bytes }) => {
-                self.copies.advance(moment);
+                pass(&mut self.copies, moment);
                 Ok(Written::Full {
                     bytes,
                     clock: self.copies.clock(),
@@ -117,19 +115,21 @@ impl Hub {
     /// Reads the result of a key at the last commit, as one entry.
     pub fn read(&mut self, moment: Moment, key: &Key, tags: &Tags) -> Result<Answer, Memory>
         // What Ok means.
-        ensures last { IfOk result (λ a. a.commit ≡ length self.old.journal) }
+        ensures last { IfOk result (λ a. a.commit ≡ self.old.commits) }
         ensures told { IfOk result (λ a. (s : State) → IsAt self.old s → read a ≡ reply_in self.old.setting s (Read moment key.now tags.now a.commit)) }
         ensures after { IfOk result (λ a. (s : State) → IsAt self.old s → IsAt self.new (after self.old.setting s (Read moment key.now tags.now a.commit))) }
 
         // What stays.
         ensures setting { self.new.setting ≡ self.old.setting }
         ensures memory { OnErr result (self.new ≡ self.old) }
+        ensures lean { IsLean self.new }
     {
         let commit = self.book.count();
         let result = outcome_at(&self.book, commit, key)?;
         self.copies.reserve(key)?;
-        self.copies.advance(moment);
-        let ttl = self.copies.hand_out(key, commit);
+        pass(&mut self.copies, moment);
+        let ttl = lifetime(&self.copies, key);
+        self.copies.hand_out(key, commit, ttl);
         Ok(Answer {
             commit,
             clock: self.copies.clock(),
@@ -142,7 +142,7 @@ impl Hub {
     /// at no key but those whose results these commits changed.
     pub fn match_to(&mut self, moment: Moment, to: Commit) -> Result<Matched, Memory>
         requires above { self.old.front < to }
-        requires within { to ≤ length self.old.journal }
+        requires within { to ≤ self.old.commits }
 
         // What Ok means.
         ensures told { IfOk result (λ m. (s : State) → IsAt self.old s → matched m ≡ reply_in self.old.setting s (Match moment to)) }
@@ -151,13 +151,11 @@ impl Hub {
         // What stays.
         ensures setting { self.new.setting ≡ self.old.setting }
         ensures memory { OnErr result (self.new ≡ self.old) }
+        ensures lean { IsLean self.new }
     {
-        // The laws that say which copies a commit outdates.
-        record_changes_by_its_own_commits();
-        matches_record_commit_by_commit();
         match reserve_marks(self.alloc, &self.book, &mut self.copies, self.front, to) {
             Ok(marks) => {
-                self.copies.advance(moment);
+                pass(&mut self.copies, moment);
                 mark_all(&mut self.copies, &marks);
                 self.copies.forget_marks();
                 self.front = to;
@@ -181,11 +179,9 @@ impl Hub {
         ensures after { (s : State) → IsAt self.old s → IsAt self.new (after self.old.setting s (Fetch moment)) }
         ensures setting { self.new.setting ≡ self.old.setting }
         ensures sizes { IsRoomFor self.old.setting room.new }
+        ensures lean { IsLean self.new }
     {
-        // The laws that say that a page does not depend on how the record is kept.
-        keys_in_any_order();
-        bits_in_any_order();
-        self.copies.advance(moment);
+        pass(&mut self.copies, moment);
         let front = self.front;
         let commits = self.book.count();
         let moment = self.copies.clock();
@@ -202,8 +198,9 @@ impl Hub {
         ensures told { (s : State) → IsAt self.old s → counted result ≡ reply_in self.old.setting s (Tick moment) }
         ensures after { (s : State) → IsAt self.old s → IsAt self.new (after self.old.setting s (Tick moment)) }
         ensures setting { self.new.setting ≡ self.old.setting }
+        ensures lean { IsLean self.new }
     {
-        self.copies.advance(moment);
+        pass(&mut self.copies, moment);
         Stats {
             front: self.front,
             commits: self.book.count(),
@@ -214,14 +211,14 @@ impl Hub {
     /// The last commit that was matched.
     pub fn front(&self) -> Commit
         ensures same { result ≡ self.now.front }
-        ensures within { self.now.front ≤ length self.now.journal }
+        ensures within { self.now.front ≤ self.now.commits }
     {
         self.front
     }
 
     /// The number of commits.
     pub fn commits(&self) -> Commit
-        ensures { result ≡ length self.now.journal }
+        ensures { result ≡ self.now.commits }
     {
         self.book.count()
     }
@@ -237,10 +234,27 @@ impl Hub {
     pub fn record_count(&self) -> u32
         ensures { (s : State) → IsAt self.now s → result ≡ length (record_of s) }
     {
-        // The laws that say that its size does not depend on how the record is kept.
-        keys_in_any_order();
-        bits_in_any_order();
         self.copies.marked()
+    }
+}
+
+/// Moves the clock forward to a moment. What expires is dropped, and so are the keys that became idle.
+fn pass(copies: &mut Copies, moment: Moment)
+    ensures { Passes moment copies.old copies.new }
+{
+    copies.advance(moment);
+    copies.forget_idle();
+}
+
+/// For how many seconds a copy of a key may be kept: not at all where a further key would be active
+/// beyond the limit.
+fn lifetime(copies: &Copies, key: &Key) -> u32
+    ensures { result ≡ lifetime copies.now key.now }
+{
+    if copies.has_room(key) {
+        copies.config().ttl_high()
+    } else {
+        0
     }
 }
 

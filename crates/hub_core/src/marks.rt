@@ -1,9 +1,9 @@
 //! What the commits of a match mark.
-ghost use Rattle.std.specs.Prelude.{◌≡◌, ◌≤◌, ◌++◌, All, max, IfOk, OnOk};
+ghost use Rattle.std.specs.Prelude.{◌≡◌, ◌≤◌, ◌||◌, ◌&&◌, ◌==◌, ℕ, length, All, max, IfOk, OnOk};
+ghost use Rattle.std.specs.List.{list_any};
 ghost use Rattle.query_normal.specs.declared.key.KeyShape.{KeyShape as AKey};
-ghost use Rattle.hub_core.specs.Handed.{IsRoomFor, CanMark};
-ghost use Rattle.hub_core.specs.Standing.{until_in};
-ghost use Rattle.hub_core.specs.Marks.{key_of, altered_key, mark_of, marks_of, marked_until};
+ghost use Rattle.hub_core.specs.Handed.{until_in, IsMarkable, CanMark};
+ghost use Rattle.hub_core.specs.Marks.{key_of, is_key, altered_key, is_mark, AreMarksOf, marked_until};
 
 use crate::copies::Copies;
 use commit_book::{Book, Change};
@@ -27,9 +27,10 @@ pub fn reserve_marks(
     front: Commit,
     to: Commit,
 ) -> Result<Vec<Mark>, Memory>
-    requires { front ≤ to }
-    ensures marks { IfOk result (λ marks. marks.items ≡ marks_of book.now.journal front to) }
-    ensures room { IfOk result (λ marks. All (λ m. IsRoomFor copies.new m.key) marks.items) }
+    requires forward { front ≤ to }
+    requires within { to ≤ length book.now.journal }
+    ensures marks { IfOk result (λ marks. AreMarksOf book.now.journal copies.new.copies front to marks.items) }
+    ensures room { IfOk result (λ marks. All (λ m. IsMarkable copies.new m.key) marks.items) }
     ensures rest { copies.new ≡ record copies.old { markable = copies.new.markable } }
 {
     let mut marks = Vec::new(alloc);
@@ -47,8 +48,8 @@ fn push_mark(
     commit: Commit,
     marks: &mut Vec<Mark>,
 ) -> Result<(), Memory>
-    ensures marks { OnOk result (marks.new.items ≡ marks.old.items ++ mark_of commit (altered_key book.now.journal commit)) }
-    ensures room { OnOk result (All (λ m. IsRoomFor copies.old m.key) marks.old.items → All (λ m. IsRoomFor copies.new m.key) marks.new.items) }
+    ensures marks { OnOk result ((key : AKey) (n : ℕ) → list_any (is_mark key n) marks.new.items ≡ (list_any (is_mark key n) marks.old.items || (is_key key (altered_key book.now.journal commit) && (commit == n)))) }
+    ensures room { OnOk result (All (λ m. IsMarkable copies.old m.key) marks.old.items → All (λ m. IsMarkable copies.new m.key) marks.new.items) }
     ensures rest { copies.new ≡ record copies.old { markable = copies.new.markable } }
 {
     if let Some(change) = book.altered(commit) {

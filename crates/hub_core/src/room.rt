@@ -31,9 +31,9 @@ pub struct Numbers {
 
 impl Model for PageRoom {
     ghost use Rattle.std.specs.Prelude.{option_map};
-    ghost use Rattle.hub_core.specs.Room.{Fetched, page_in, IsKept};
+    ghost use Rattle.hub_core.specs.Room.{RoomView, page_in, IsKept};
 
-    ghost Value = { Fetched };
+    ghost Value = { RoomView };
 
     ghost view = { λ p. record {
       log2_bits = p.log2_bits;

@@ -7,7 +7,7 @@ use Rattle.hub_model.specs.declared.entry.Matched.{Matched}
 use Rattle.hub_model.specs.declared.entry.Stats.{Stats}
 use Rattle.hub_model.specs.declared.entry.Entry.TheVariants.{Match, Fetch, Tick}
 use Rattle.hub_model.specs.Desk.{Makes, Learns}
-use Rattle.hub_model.specs.Legal.{MayFollow, IsLegal}
+use Rattle.hub_model.specs.Legal.{MayFollow, IsLegalFrom, IsLegal}
 use Rattle.hub_model.specs.Reply.{Replied, matched, counted, reply, reply_in}
 use Rattle.hub_model.specs.Setting.{Setting}
 use Rattle.hub_model.specs.Record.{page_of}
@@ -15,7 +15,7 @@ use Rattle.hub_desk.specs.Desk.{matching, MatchesAll, Fetches, IsNoted}
 use Rattle.hub_core.specs.Room.{Fetched}
 use Rattle.hub_core.specs.Standing.{HubValue, IsAt, Stands}
 use Rattle.hub_model.specs.State.{State, start}
-use Rattle.hub_model.specs.Step.{after, state_of}
+use Rattle.hub_model.specs.Step.{after, after_all, state_of}
 
 -- the entries behind others have the places behind theirs
 pub enumerate_from-append : {X : Type 0} (n : ℕ) (xs ys : List X) → enumerate_from n (xs ++ ys) ≡ enumerate_from n xs ++ enumerate_from (n + length xs) ys
@@ -26,19 +26,19 @@ enumerate_from-append {X} n (x ∷ xs) ys =
     let same : enumerate_from (n + 1 + length xs) ys ≡ enumerate_from (n + length (x ∷ xs)) ys = ap (λ k. enumerate_from k ys) place in
     cc
 
--- what is stored behind a history makes it longer by an entry, by the law of one entry more
-pub noted : (old new : List Entry) (e : Entry) → ((g : Setting) (history : List Entry) (x : Entry) → state_of g (history ++ x ∷ []) ≡ after g (state_of g history) x) → ((g : Setting) (history : List Entry) (x : Entry) → IsLegal g (history ++ x ∷ []) ↔ (IsLegal g history × MayFollow (state_of g history) x)) → new ≡ old ++ e ∷ [] → IsNoted old new e
-noted old new e state legal stored =
+-- what is stored behind a history makes it go on, by the law of more entries
+pub noted : (old new es : List Entry) → ((g : Setting) (history more : List Entry) → state_of g (history ++ more) ≡ after_all g (state_of g history) more) → ((g : Setting) (history more : List Entry) → IsLegal g (history ++ more) ↔ (IsLegal g history × IsLegalFrom g (state_of g history) more)) → new ≡ old ++ es → IsNoted old new es
+noted old new es state legal stored =
     record {
       stored = stored;
-      state = λ g. subst (λ (l : List Entry). state_of g l ≡ after g (state_of g old) e) (sym stored) (state g old e);
-      legal = λ g was may. subst (λ (l : List Entry). IsLegal g l) (sym stored) ((legal g old e).1 (was, may));
+      state = λ g. subst (λ (l : List Entry). state_of g l ≡ after_all g (state_of g old) es) (sym stored) (state g old es);
+      legal = λ g was may. subst (λ (l : List Entry). IsLegal g l) (sym stored) ((legal g old es).1 (was, may));
     }
 
--- the hub after an entry stands for the longer history
-pub stands-more : (h new : HubValue) (history longer : List Entry) (e : Entry) → Stands h history → MayFollow (state_of h.setting history) e → new.setting ≡ h.setting → IsAt new (after h.setting (state_of h.setting history) e) → IsNoted history longer e → Stands new longer
-stands-more h new history longer e stands may setting at n =
-    let there : after h.setting (state_of h.setting history) e ≡ state_of h.setting longer = sym (n.state h.setting) in
+-- the hub after entries that may follow stands for the longer history
+pub stands-more : (h new : HubValue) (history longer es : List Entry) → Stands h history → IsLegalFrom h.setting (state_of h.setting history) es → new.setting ≡ h.setting → IsAt new (after_all h.setting (state_of h.setting history) es) → IsNoted history longer es → Stands new longer
+stands-more h new history longer es stands may setting at n =
+    let there : after_all h.setting (state_of h.setting history) es ≡ state_of h.setting longer = sym (n.state h.setting) in
     record {
       state = subst (λ (g : Setting). IsAt new (state_of g longer)) (sym setting) (subst (λ (s : State). IsAt new s) there at);
       legal = subst (λ (g : Setting). IsLegal g longer) (sym setting) (n.legal h.setting stands.legal may);
@@ -65,7 +65,7 @@ mine_there seen longer history e seen_is longer_is =
     cc
 
 -- what the hub told is the reply at the entry's place, which only this desk can have filled
-abbrev pub made : (g : Setting) (seen longer : List Entry) (h : HubValue) (history : List Entry) (e : Entry) (told : Replied) → g ≡ h.setting → seen ≡ history → Stands h history → MayFollow (state_of h.setting history) e → IsNoted history longer e → told ≡ reply_in h.setting (state_of h.setting history) e → Makes g seen longer (enumerate_from 0 seen) (enumerate_from 0 longer) e told
+abbrev pub made : (g : Setting) (seen longer : List Entry) (h : HubValue) (history : List Entry) (e : Entry) (told : Replied) → g ≡ h.setting → seen ≡ history → Stands h history → MayFollow h.setting (state_of h.setting history) e → IsNoted history longer (e ∷ []) → told ≡ reply_in h.setting (state_of h.setting history) e → Makes g seen longer (enumerate_from 0 seen) (enumerate_from 0 longer) e told
 made g seen longer h history e told setting seen_is stands may n told_is =
     record {
       before = history;
@@ -73,7 +73,7 @@ made g seen longer h history e told setting seen_is stands may n told_is =
       grew = ([], append-nil seen ∙ seen_is);
       helped = refl;
       seen = seen_there longer history e n.stored;
-      legal = subst (λ (x : Setting). IsLegal x longer) (sym setting) (n.legal h.setting stands.legal may);
+      legal = subst (λ (x : Setting). IsLegal x longer) (sym setting) (n.legal h.setting stands.legal (may, tt));
       mine = mine_there seen longer history e seen_is n.stored;
       told_is = replied_there g h history e told setting told_is;
     }
@@ -119,7 +119,7 @@ tick_there g h history moment front to setting stands front_is to_is ahead =
     sym here ∙ ap (λ (x : State). matching x moment) (sym there)
 
 -- the desk matched all commits by a match
-pub matched_all : (g : Setting) (seen longer : List Entry) (h : HubValue) (history : List Entry) (moment front to : ℕ) (told : Matched) → g ≡ h.setting → seen ≡ history → Stands h history → front ≡ h.front → to ≡ length h.journal → front < to → IsNoted history longer (Match moment to) → matched told ≡ reply_in h.setting (state_of h.setting history) (Match moment to) → MatchesAll g seen longer (enumerate_from 0 seen) (enumerate_from 0 longer) moment told
+pub matched_all : (g : Setting) (seen longer : List Entry) (h : HubValue) (history : List Entry) (moment front to : ℕ) (told : Matched) → g ≡ h.setting → seen ≡ history → Stands h history → front ≡ h.front → to ≡ length h.journal → front < to → IsNoted history longer (Match moment to ∷ []) → matched told ≡ reply_in h.setting (state_of h.setting history) (Match moment to) → MatchesAll g seen longer (enumerate_from 0 seen) (enumerate_from 0 longer) moment told
 matched_all g seen longer h history moment front to told setting seen_is stands front_is to_is behind n told_is =
     record {
       entry = Match moment to;
@@ -130,7 +130,7 @@ matched_all g seen longer h history moment front to told setting seen_is stands 
     }
 
 -- the desk matched all commits by a tick
-pub ticked_all : (g : Setting) (seen longer : List Entry) (h : HubValue) (history : List Entry) (moment front to : ℕ) (stats : Stats) → g ≡ h.setting → seen ≡ history → Stands h history → front ≡ h.front → to ≡ length h.journal → to ≤ front → IsNoted history longer (Tick moment) → counted stats ≡ reply_in h.setting (state_of h.setting history) (Tick moment) → MatchesAll g seen longer (enumerate_from 0 seen) (enumerate_from 0 longer) moment (record { front = stats.front; clock = stats.clock })
+pub ticked_all : (g : Setting) (seen longer : List Entry) (h : HubValue) (history : List Entry) (moment front to : ℕ) (stats : Stats) → g ≡ h.setting → seen ≡ history → Stands h history → front ≡ h.front → to ≡ length h.journal → to ≤ front → IsNoted history longer (Tick moment ∷ []) → counted stats ≡ reply_in h.setting (state_of h.setting history) (Tick moment) → MatchesAll g seen longer (enumerate_from 0 seen) (enumerate_from 0 longer) moment (record { front = stats.front; clock = stats.clock })
 ticked_all g seen longer h history moment front to stats setting seen_is stands front_is to_is ahead n told_is =
     record {
       entry = Tick moment;
@@ -141,7 +141,7 @@ ticked_all g seen longer h history moment front to stats setting seen_is stands 
     }
 
 -- the desk fetched the page into the room
-pub fetched_page : (g : Setting) (seen longer : List Entry) (h : HubValue) (history : List Entry) (moment : ℕ) (room : Fetched) → g ≡ h.setting → seen ≡ history → Stands h history → IsNoted history longer (Fetch moment) → room.page ≡ Some (page_of h.setting (after h.setting (state_of h.setting history) (Fetch moment))) → Fetches g seen longer (enumerate_from 0 seen) (enumerate_from 0 longer) moment room
+pub fetched_page : (g : Setting) (seen longer : List Entry) (h : HubValue) (history : List Entry) (moment : ℕ) (room : Fetched) → g ≡ h.setting → seen ≡ history → Stands h history → IsNoted history longer (Fetch moment ∷ []) → room.page ≡ Some (page_of h.setting (after h.setting (state_of h.setting history) (Fetch moment))) → Fetches g seen longer (enumerate_from 0 seen) (enumerate_from 0 longer) moment room
 fetched_page g seen longer h history moment room setting seen_is stands n held =
     record {
       page = page_of h.setting (after h.setting (state_of h.setting history) (Fetch moment));

@@ -1,15 +1,15 @@
 -- What the calls of a desk do that match all commits or fetch a page; and what contracts see of a desk that owns its hub.
-use Rattle.std.specs.Prelude.{◌≡◌, ℕ, ◌∷◌, [], ◌++◌, nat_lt, if◌then◌else◌, List, length, Some}
+use Rattle.std.specs.Prelude.{◌≡◌, ℕ, ◌++◌, nat_lt, if◌then◌else◌, List, length, Some}
 use Rattle.hub_core.specs.Room.{Fetched}
 use Rattle.hub_model.specs.declared.entry.Entry.{Entry}
 use Rattle.hub_model.specs.declared.entry.Entry.TheVariants.{Match, Fetch, Tick}
 use Rattle.hub_model.specs.declared.entry.Matched.{Matched}
 use Rattle.hub_model.specs.Desk.{Makes}
-use Rattle.hub_model.specs.Reply.{Replied, wrote, read, matched, fetched, counted}
+use Rattle.hub_model.specs.Reply.{Replied, matched, fetched, counted}
 use Rattle.hub_model.specs.Setting.{Setting}
 use Rattle.hub_model.specs.State.{State}
-use Rattle.hub_model.specs.Step.{after, state_of}
-use Rattle.hub_model.specs.Legal.{MayFollow, IsLegal}
+use Rattle.hub_model.specs.Step.{after_all, state_of}
+use Rattle.hub_model.specs.Legal.{IsLegalFrom, IsLegal}
 use Rattle.query_normal.specs.Pages.{Page}
 
 -- the entry that matches all commits of a state: a match up to the last one, or a tick where the front is there already
@@ -18,11 +18,9 @@ matching s moment = if nat_lt s.front (length s.journal) then Match moment (leng
 
 -- the front and the clock that the reply to such an entry tells
 abbrev pub IsFrontOf : Replied → Matched → Type 0
-IsFrontOf (wrote written) told = ⊥
-IsFrontOf (read answer) told = ⊥
 IsFrontOf (matched match) told = told ≡ match
-IsFrontOf (fetched page) told = ⊥
 IsFrontOf (counted stats) told = told ≡ record { front = stats.front; clock = stats.clock }
+IsFrontOf replied told = ⊥
 
 -- The desk has made the entry that matches all commits at its place, and was told the front and the clock.
 pub record MatchesAll (g : Setting) (old new : List Entry) (mine_old mine_new : List (ℕ × Entry)) (moment : ℕ) (told : Matched) : Type 0 where
@@ -38,11 +36,15 @@ pub record Fetches (g : Setting) (old new : List Entry) (mine_old mine_new : Lis
   pub held : room.page ≡ Some page
   pub made : Makes g old new mine_old mine_new (Fetch moment) (fetched page)
 
--- The history is longer by an entry: its state is that after the entry, and it is legal where the entry may follow.
-pub record IsNoted (old new : List Entry) (e : Entry) : Type 0 where
-  pub stored : new ≡ old ++ e ∷ []
-  pub state : (g : Setting) → state_of g new ≡ after g (state_of g old) e
-  pub legal : (g : Setting) → IsLegal g old → MayFollow (state_of g old) e → IsLegal g new
+-- The history goes on by these entries: its state is what they make of the state before, and it is legal where each may follow.
+pub record IsNoted (old new es : List Entry) : Type 0 where
+  pub stored : new ≡ old ++ es
+  pub state : (g : Setting) → state_of g new ≡ after_all g (state_of g old) es
+  pub legal : (g : Setting) → IsLegal g old → IsLegalFrom g (state_of g old) es → IsLegal g new
+
+-- one call makes two entries at most: one ahead of its own, and its own
+abbrev pub most_entries : ℕ
+most_entries = 2
 
 -- What contracts see of a desk that owns its hub.
 pub record Kept : Type 0 where

@@ -15,9 +15,13 @@ use q_base::{Memory, Moment};
 use query_normal::Key;
 
 /// What a connection asks of the store. A desk knows a history, which others may make longer, and
-/// its own entries with their places there.
+/// its own entries with their places there. A call that answers want of memory makes no entry, and
+/// may be made again.
 pub trait Desk {
-    /// What the desk is tied to.
+    /// What the desk is tied to. Whatever else would tell of entries that a desk made stands here:
+    /// places of its own that `mine` leaves out, places at which it was parted from another desk,
+    /// and lists of others that were joined to its own. A desk that kept one of these elsewhere
+    /// could make an entry that is not among `mine`, and answer want of memory.
     type Anchor;
 
     /// What the desk is tied to, which no call changes.
@@ -35,14 +39,14 @@ pub trait Desk {
     /// The next request's entries need no memory.
     ghost is_ready: { Self → Type 0 };
 
-    /// Takes the room for the entries of one request.
+    /// Takes the room for the entries of one request: its own, and what stands ahead of it.
     fn ready(&mut self) -> Result<(), Memory>
         ensures ready { OnOk result (is_ready self.new) }
         ensures none { Learns (setting self.old) (seen self.old) (seen self.new) (mine self.old) (mine self.new) }
         ensures anchor { anchor self.new ≡ anchor self.old }
         ensures setting { setting self.new ≡ setting self.old };
 
-    /// Writes: one entry.
+    /// Writes: one entry, behind those that have to stand ahead of it.
     fn write(
         &mut self,
         moment: Moment,
@@ -52,6 +56,7 @@ pub trait Desk {
         requires { is_ready self.old }
         ensures made { IfOk result (λ w. Makes (setting self.old) (seen self.old) (seen self.new) (mine self.old) (mine self.new) (Write moment change condition) (wrote w)) }
         ensures memory { OnErr result (Learns (setting self.old) (seen self.old) (seen self.new) (mine self.old) (mine self.new)) }
+        ensures again { OnErr result (is_ready self.new) }
         ensures anchor { anchor self.new ≡ anchor self.old }
         ensures setting { setting self.new ≡ setting self.old };
 
@@ -61,6 +66,7 @@ pub trait Desk {
         ensures made { IfOk result (λ a. Makes (setting self.old) (seen self.old) (seen self.new) (mine self.old) (mine self.new) (Read moment key tags a.commit) (read a)) }
         ensures fresh { IfOk result (λ a. length (state_of (setting self.old) (seen self.old)).journal ≤ a.commit) }
         ensures memory { OnErr result (Learns (setting self.old) (seen self.old) (seen self.new) (mine self.old) (mine self.new)) }
+        ensures again { OnErr result (is_ready self.new) }
         ensures anchor { anchor self.new ≡ anchor self.old }
         ensures setting { setting self.new ≡ setting self.old };
 
@@ -70,6 +76,7 @@ pub trait Desk {
         requires { is_ready self.old }
         ensures made { IfOk result (λ m. MatchesAll (setting self.old) (seen self.old) (seen self.new) (mine self.old) (mine self.new) moment m) }
         ensures memory { OnErr result (Learns (setting self.old) (seen self.old) (seen self.new) (mine self.old) (mine self.new)) }
+        ensures again { OnErr result (is_ready self.new) }
         ensures anchor { anchor self.new ≡ anchor self.old }
         ensures setting { setting self.new ≡ setting self.old };
 

@@ -1,19 +1,20 @@
 //! A desk that owns its hub, and keeps the list of its entries.
-ghost use Rattle.std.specs.Prelude.{◌≡◌, ◌<◌, [], length, vec_len, vec_capacity, IfOk};
+ghost use Rattle.std.specs.Prelude.{◌≡◌, ◌+◌, ◌<◌, ◌≤◌, [], ◌∷◌, length, vec_len, vec_capacity, IfOk};
 ghost use Rattle.std.specs.List.{enumerate_from};
 ghost use Rattle.hub_core.specs.Standing.{Stands};
-ghost use Rattle.hub_desk.specs.Desk.{IsNoted};
+ghost use Rattle.hub_desk.specs.Desk.{IsNoted, most_entries};
 
 use crate::desk::Desk;
 use hub_core::{Config, Hub, PageRoom};
-use hub_model::{
-    Answer, Change, Condition, Entry, Matched, Stats, Tags, Written, front_is_within,
-    no_entry_is_legal, one_entry_more,
-};
+use hub_model::laws::{front_is_within, more_entries, no_entry_is_legal};
+use hub_model::{Answer, Change, Condition, Entry, Matched, Stats, Tags, Written};
 use q_base::{Memory, Moment};
 use query_normal::Key;
 use std::alloc::Global;
 use std::marker::Model;
+
+/// So many entries a call makes at most: one ahead of its own, and its own.
+const MOST_ENTRIES: usize = 2;
 
 /// A hub with the history that it stands for, all of whose entries are this desk's own. Contracts see
 /// the configuration, the history, and for how many entries there is room.
@@ -70,10 +71,10 @@ impl Owned {
 /// Stores an entry in the room that was taken for it.
 fn note(entries: &mut Vec<Entry>, entry: Entry)
     requires { vec_len entries.old < vec_capacity entries.old }
-    ensures { IsNoted entries.old.items entries.new.items entry }
+    ensures { IsNoted entries.old.items entries.new.items (entry ∷ []) }
 {
-    // The law of a history with one entry more.
-    one_entry_more();
+    // The law of a history with more entries.
+    more_entries();
     if entries.push(entry).is_err() {
         unreachable!()
     }
@@ -90,10 +91,10 @@ impl Desk for Owned {
 
     ghost mine = { λ o. enumerate_from 0 o.entries };
 
-    ghost is_ready = { λ o. length o.entries < o.room };
+    ghost is_ready = { λ o. length o.entries + most_entries ≤ o.room };
 
     fn ready(&mut self) -> Result<(), Memory> {
-        self.entries.reserve(1)?;
+        self.entries.reserve(MOST_ENTRIES)?;
         Ok(())
     }
 

@@ -5,18 +5,18 @@ use Rattle.std.specs.Bool.{Decides}
 use Rattle.std.proofs.lemmas.Bool.{cases_Bool, cases_lt, and_parts, and_from, leb-true, le-leb, both_ways}
 use Rattle.q_doc.specs.Tree.{Tree}
 use Rattle.commit_book.specs.declared.change.Change.{Change}
-use Rattle.commit_book.specs.Journal.{is_of, put_at, document_after, document_at}
+use Rattle.commit_book.specs.Journal.{is_of, put_at, document_after, document_at, kept_with}
 use Rattle.hub_model.specs.declared.entry.Condition.{Condition}
 use Rattle.hub_model.specs.declared.entry.Condition.TheVariants.{Always, Present, Absent, Unchanged}
 use Rattle.hub_model.specs.declared.entry.Entry.{Entry}
-use Rattle.hub_model.specs.declared.entry.Entry.TheVariants.{Write, Read, Match, Fetch, Tick}
+use Rattle.hub_model.specs.declared.entry.Entry.TheVariants.{Write}
 use Rattle.hub_model.specs.declared.entry.Found.{Found}
 use Rattle.hub_model.specs.declared.entry.Found.TheVariants.{Missing, At}
 use Rattle.hub_model.specs.declared.entry.Tags.TheVariants.{Any, Listed}
 use Rattle.hub_model.specs.Direct.{found_behind, IsMet, IsAccepted, IsEqualAtOne, IsJournalFrom, IsJournalOf}
 use Rattle.hub_model.specs.Setting.{Setting}
 use Rattle.hub_model.specs.State.{State, start, at_moment}
-use Rattle.hub_model.specs.Step.{found_of, found_now, is_met, kept_with, is_accepted, wrote, after, state_of}
+use Rattle.hub_model.specs.Step.{found_of, found_now, is_met, is_accepted, wrote, after, state_of}
 use Rattle.hub_model.proofs.Changes.{version_at}
 use Rattle.hub_model.proofs.Copies.{any_from, found_by}
 
@@ -50,9 +50,9 @@ pub accepted-Decides : (g : Setting) (s : State) (change : Change) (condition : 
 accepted-Decides g s change condition =
     let met = met-Decides condition (found_now s change) (length s.journal) in (
       (λ h.
-          let parts = and_parts (is_met condition (found_now s change) (length s.journal)) (nat_le (kept_with s change) g.capacity) h in
-          record { met = met.0 parts.0; fits = leb-true (kept_with s change) g.capacity parts.1 }),
-      (λ h. and_from (is_met condition (found_now s change) (length s.journal)) (nat_le (kept_with s change) g.capacity) (met.1 h.met) (le-leb (kept_with s change) g.capacity h.fits)),
+          let parts = and_parts (is_met condition (found_now s change) (length s.journal)) (nat_le (kept_with s.journal change) g.capacity) h in
+          record { met = met.0 parts.0; fits = leb-true (kept_with s.journal change) g.capacity parts.1 }),
+      (λ h. and_from (is_met condition (found_now s change) (length s.journal)) (nat_le (kept_with s.journal change) g.capacity) (met.1 h.met) (le-leb (kept_with s.journal change) g.capacity h.fits)),
     )
 
 -- ---- what a write leaves
@@ -93,10 +93,7 @@ journal-from g s (Write moment change condition ∷ es) =
       | inl takes ↦ inl ((accepted-Decides g t change condition).0 takes, subst (λ (l : List Change). IsJournalFrom g l es (fold (after g) (wrote g change condition t) es).journal) (wrote-accepted g change condition t takes) rest)
       | inr other ↦ inr (refuses g t change condition other, subst (λ (l : List Change). IsJournalFrom g l es (fold (after g) (wrote g change condition t) es).journal) (wrote-refused g change condition t other) rest)
     ]
-journal-from g s (Read moment key tags at ∷ es) = journal-from g (after g s (Read moment key tags at)) es
-journal-from g s (Match moment to ∷ es) = journal-from g (after g s (Match moment to)) es
-journal-from g s (Fetch moment ∷ es) = journal-from g (at_moment s moment) es
-journal-from g s (Tick moment ∷ es) = journal-from g (at_moment s moment) es
+journal-from g s (e ∷ es) = journal-from g (after g s e) es
 
 -- and no other list is
 journal-alone : (g : Setting) (s : State) (history : List Entry) (journal : List Change) → IsJournalFrom g s.journal history journal → journal ≡ (fold (after g) s history).journal
@@ -115,10 +112,7 @@ journal-alone g s (Write moment change condition ∷ es) journal h =
         | inr left_out ↦ rest (subst (λ (l : List Change). IsJournalFrom g l es journal) (sym (wrote-refused g change condition t other)) left_out.1)
       ]
     ]
-journal-alone g s (Read moment key tags at ∷ es) journal h = journal-alone g (after g s (Read moment key tags at)) es journal h
-journal-alone g s (Match moment to ∷ es) journal h = journal-alone g (after g s (Match moment to)) es journal h
-journal-alone g s (Fetch moment ∷ es) journal h = journal-alone g (at_moment s moment) es journal h
-journal-alone g s (Tick moment ∷ es) journal h = journal-alone g (at_moment s moment) es journal h
+journal-alone g s (e ∷ es) journal h = journal-alone g (after g s e) es journal h
 
 pub journal-writes : (g : Setting) (history : List Entry) (journal : List Change) → IsJournalOf g history journal ↔ (journal ≡ (state_of g history).journal)
 unfolding state_of

@@ -1,8 +1,8 @@
 -- Copies, and the keys that have one.
-use Rattle.std.proofs.Common.{◌-◌, ap₂, not, ◌+◌, length, ◌≡◌, ℕ, zero, suc, ◌<◌, Bool, true, false, cond, ◌&&◌, ◌||◌, List, [], ◌∷◌, map, filter, refl, sym, ap, ◌∙◌, subst, inl, inr, arith}
-use Rattle.std.specs.Prelude.{nat_le, nat_lt, slice_index_or}
+use Rattle.std.proofs.Common.{◌≡◌, ℕ, zero, suc, ◌<◌, Bool, true, false, cond, ◌&&◌, ◌||◌, List, [], ◌∷◌, map, filter, refl, sym, ap, ◌∙◌, subst, inl, inr, arith}
+use Rattle.std.specs.Prelude.{nat_lt, slice_index_or}
 use Rattle.std.specs.List.{list_any, Contains, IsDistinct}
-use Rattle.std.proofs.lemmas.Bool.{cases_lt, le-leb, lt-leb, and_parts, and_from, or_cases, or_left, or_right, ltb-true, lt-ltb}
+use Rattle.std.proofs.lemmas.Bool.{and_parts, and_from, or_cases, or_left, or_right, ltb-true, lt-ltb}
 use Rattle.std.proofs.lemmas.List.Elements.{Contains-append_right, Contains-append_cases, All-contains, All-filter, All-contains_itself, filter_passes}
 use Rattle.query_normal.specs.declared.key.KeyShape.{KeyShape}
 use Rattle.query_normal.specs.Keys.{same_key}
@@ -95,63 +95,3 @@ among-keys_of key copies = among-unique (map (λ r. r.key) copies) key ∙ keys-
 
 pub distinct-keys_of : (copies : List Reading) → IsDistinct same_key (keys_of copies)
 distinct-keys_of copies = distinct-unique (map (λ r. r.key) copies)
-
--- ---- for the plain program
-
--- copies that pass two tests are found by both at once
-pub any_filtered : (p q t : Reading → Bool) (rs : List Reading) → list_any t (filter p (filter q rs)) ≡ list_any (λ r. q r && p r && t r) rs
-any_filtered p q t [] = refl
-any_filtered p q t (r ∷ rs) = by (q r) (p r) refl refl (any_filtered p q t rs)
-  where
-    by : (b c : Bool) → q r ≡ b → p r ≡ c → list_any t (filter p (filter q rs)) ≡ list_any (λ r. q r && p r && t r) rs → list_any t (filter p (cond b (r ∷ filter q rs) (filter q rs))) ≡ ((b && p r && t r) || list_any (λ r. q r && p r && t r) rs)
-    by false c k l h = h
-    by true true k l h = ap (λ (x : Bool). list_any t (cond x (r ∷ filter p (filter q rs)) (filter p (filter q rs)))) l ∙ ap₂ (λ (x y : Bool). (x && t r) || y) (sym l) h
-    by true false k l h = ap (λ (x : Bool). list_any t (cond x (r ∷ filter p (filter q rs)) (filter p (filter q rs)))) l ∙ ap₂ (λ (x y : Bool). (x && t r) || y) (sym l) h
-
--- the copies among these that are unexpired
-abbrev kept : ℕ → List Reading → List Reading
-kept clock rs = filter (is_live clock) (filter (λ r. nat_lt 0 r.ttl) rs)
-
--- one copy more counts where it is unexpired and no later one has its key
-pub kept_keys_more : (clock : ℕ) (r : Reading) (rs : List Reading) → length (keys_of (filter (is_live clock) (filter (λ r. nat_lt 0 r.ttl) (r ∷ rs)))) ≡ cond ((nat_lt 0 r.ttl && is_live clock r) && not (list_any (λ x. nat_lt 0 x.ttl && is_live clock x && same_key r.key x.key) rs)) (length (keys_of (filter (is_live clock) (filter (λ r. nat_lt 0 r.ttl) rs))) + 1) (length (keys_of (filter (is_live clock) (filter (λ r. nat_lt 0 r.ttl) rs))))
-kept_keys_more clock r rs = by (nat_lt 0 r.ttl) (is_live clock r) refl refl
-  where
-    there : list_any (same_key r.key) (map (λ x. x.key) (kept clock rs)) ≡ list_any (λ x. nat_lt 0 x.ttl && is_live clock x && same_key r.key x.key) rs
-    there = keys-map r.key (kept clock rs) ∙ any_filtered (is_live clock) (λ r. nat_lt 0 r.ttl) (λ x. same_key r.key x.key) rs
-
-    count : (b : Bool) (keys : List KeyShape) → length (cond b keys (r.key ∷ keys)) ≡ cond (not b) (length keys + 1) (length keys)
-    count true keys = refl
-    count false keys = omega arith
-
-    by : (b c : Bool) → nat_lt 0 r.ttl ≡ b → is_live clock r ≡ c → length (keys_of (filter (is_live clock) (cond b (r ∷ filter (λ r. nat_lt 0 r.ttl) rs) (filter (λ r. nat_lt 0 r.ttl) rs)))) ≡ cond ((b && c) && not (list_any (λ x. nat_lt 0 x.ttl && is_live clock x && same_key r.key x.key) rs)) (length (keys_of (kept clock rs)) + 1) (length (keys_of (kept clock rs)))
-    by false c k l = refl
-    by true false k l = ap (λ (x : Bool). length (keys_of (cond x (r ∷ kept clock rs) (kept clock rs)))) l
-    by true true k l =
-        ap (λ (x : Bool). length (keys_of (cond x (r ∷ kept clock rs) (kept clock rs)))) l
-        ∙ count (list_any (same_key r.key) (map (λ x. x.key) (kept clock rs))) (keys_of (kept clock rs))
-        ∙ ap (λ (x : Bool). cond (not x) (length (keys_of (kept clock rs)) + 1) (length (keys_of (kept clock rs)))) there
-
-abbrev pub kept_count : ℕ → List Reading → ℕ
-kept_count clock rs = length (keys_of (filter (is_live clock) (filter (λ r. nat_lt 0 r.ttl) rs)))
-
-abbrev pub counted : ℕ → Reading → List Reading → Bool
-counted clock r rs = (nat_lt 0 r.ttl && is_live clock r) && not (list_any (λ x. nat_lt 0 x.ttl && is_live clock x && same_key r.key x.key) rs)
-
-count_first : (clock : ℕ) (copies : List Reading) (r : Reading) (rs : List Reading) (b : Bool) → copies ≡ r ∷ rs → b ≡ counted clock r rs → kept_count clock copies ≡ cond b (kept_count clock rs + 1) (kept_count clock rs)
-count_first clock copies r rs b is told = ap (kept_count clock) is ∙ kept_keys_more clock r rs ∙ ap (λ (x : Bool). cond x (kept_count clock rs + 1) (kept_count clock rs)) (sym told)
-
-same_limit : (limit n : ℕ) → 0 < limit → nat_le (limit - 1) n ≡ nat_le limit (n + 1)
-same_limit limit n some = elim (cases_lt n (limit - 1)) [
-  | inl below ↦ lt-leb (limit - 1) n below ∙ sym (lt-leb limit (n + 1) (omega (arith, below, some)))
-  | inr above ↦ le-leb (limit - 1) n above ∙ sym (le-leb limit (n + 1) (omega (arith, above, some)))
-]
-
-pub reaches_counted : (clock limit : ℕ) (copies : List Reading) (r : Reading) (rs : List Reading) (b told : Bool) → copies ≡ r ∷ rs → b ≡ counted clock r rs → b ≡ true → 0 < limit → told ≡ nat_le (limit - 1) (kept_count clock rs) → told ≡ nat_le limit (kept_count clock copies)
-reaches_counted clock limit copies r rs b told is test passes some t =
-    let n : kept_count clock copies ≡ kept_count clock rs + 1 = count_first clock copies r rs b is test ∙ ap (λ (x : Bool). cond x (kept_count clock rs + 1) (kept_count clock rs)) passes in
-    t ∙ same_limit limit (kept_count clock rs) some ∙ ap (nat_le limit) (sym n)
-
-pub reaches_passed : (clock limit : ℕ) (copies : List Reading) (r : Reading) (rs : List Reading) (b told : Bool) → copies ≡ r ∷ rs → b ≡ counted clock r rs → b ≡ false → told ≡ nat_le limit (kept_count clock rs) → told ≡ nat_le limit (kept_count clock copies)
-reaches_passed clock limit copies r rs b told is test fails t =
-    let n : kept_count clock copies ≡ kept_count clock rs = count_first clock copies r rs b is test ∙ ap (λ (x : Bool). cond x (kept_count clock rs + 1) (kept_count clock rs)) fails in
-    t ∙ ap (nat_le limit) (sym n)

@@ -1,15 +1,15 @@
 -- What one entry more does to a history, and what the fold's clock and front are.
-use Rattle.std.proofs.Common.{◌≡◌, ℕ, ◌≤◌, max, List, [], ◌∷◌, ◌++◌, length, map, fold, Some, None, refl, sym, ap, ◌∙◌, subst, arith, length-append}
+use Rattle.std.proofs.Common.{◌≡◌, ℕ, ◌≤◌, max, List, [], ◌∷◌, ◌++◌, length, map, fold, Some, None, refl, ap, ◌∙◌, arith, length-append}
 use Rattle.std.specs.Prelude.{unwrap_or}
 use Rattle.std.specs.List.{filter_map, last_or}
 use Rattle.std.proofs.lemmas.List.Sums.{fold-append}
 use Rattle.hub_model.specs.declared.entry.Entry.{Entry}
-use Rattle.hub_model.specs.declared.entry.Entry.TheVariants.{Write, Read, Match, Fetch, Tick}
-use Rattle.hub_model.specs.Direct.{moment_of, clock_of, to_of, front_of}
+use Rattle.hub_model.specs.declared.entry.Entry.TheVariants.{Write, Match}
+use Rattle.hub_model.specs.Direct.{clock_of, to_of, front_of}
 use Rattle.hub_model.specs.Legal.{MayFollow, IsLegalFrom, IsLegal}
 use Rattle.hub_model.specs.Setting.{Setting}
 use Rattle.hub_model.specs.State.{State, start, at_moment}
-use Rattle.hub_model.specs.Step.{after, state_of}
+use Rattle.hub_model.specs.Step.{after, after_all, moment_of, state_of}
 use Rattle.hub_model.proofs.Accepted.{wrote-keeps}
 
 -- ---- one entry more, and more entries
@@ -25,7 +25,7 @@ unfolding state_of
 state_of-push g history e = fold-append (after g) start history (e ∷ [])
 
 -- the state of a history with more entries
-pub state_of-append : (g : Setting) (history more : List Entry) → state_of g (history ++ more) ≡ fold (after g) (state_of g history) more
+pub state_of-append : (g : Setting) (history more : List Entry) → state_of g (history ++ more) ≡ after_all g (state_of g history) more
 unfolding state_of
 state_of-append g history more = fold-append (after g) start history more
 
@@ -34,18 +34,28 @@ pub legal-none : (g : Setting) → IsLegal g []
 unfolding IsLegal
 legal-none g = tt
 
-legal_from-append : (g : Setting) (s : State) (history more : List Entry) → IsLegalFrom g s history → IsLegalFrom g (fold (after g) s history) more → IsLegalFrom g s (history ++ more)
+legal_from-append : (g : Setting) (s : State) (history more : List Entry) → IsLegalFrom g s history → IsLegalFrom g (after_all g s history) more → IsLegalFrom g s (history ++ more)
 legal_from-append g s [] more legal rest = rest
 legal_from-append g s (e ∷ es) more legal rest = (legal.0, legal_from-append g (after g s e) es more legal.1 rest)
 
-legal_from-parts : (g : Setting) (s : State) (history more : List Entry) → IsLegalFrom g s (history ++ more) → IsLegalFrom g s history × IsLegalFrom g (fold (after g) s history) more
+legal_from-parts : (g : Setting) (s : State) (history more : List Entry) → IsLegalFrom g s (history ++ more) → IsLegalFrom g s history × IsLegalFrom g (after_all g s history) more
 legal_from-parts g s [] more legal = (tt, legal)
 legal_from-parts g s (e ∷ es) more legal = (let parts = legal_from-parts g (after g s e) es more legal.1 in ((legal.0, parts.0), parts.1))
 
 -- a legal history stays legal by an entry that may follow
-pub legal-push : (g : Setting) (history : List Entry) (e : Entry) → IsLegal g history → MayFollow (state_of g history) e → IsLegal g (history ++ e ∷ [])
+pub legal-push : (g : Setting) (history : List Entry) (e : Entry) → IsLegal g history → MayFollow g (state_of g history) e → IsLegal g (history ++ e ∷ [])
 unfolding IsLegal state_of
 legal-push g history e legal may = legal_from-append g start history (e ∷ []) legal (may, tt)
+
+-- what entries make of the first state is the state of a history
+pub state_of-whole : (g : Setting) (history : List Entry) → state_of g history ≡ after_all g start history
+unfolding state_of
+state_of-whole g history = refl
+
+-- a legal history stays legal by entries of which each may follow
+pub legal-append : (g : Setting) (history more : List Entry) → IsLegal g history → IsLegalFrom g (state_of g history) more → IsLegal g (history ++ more)
+unfolding IsLegal state_of
+legal-append g history more legal rest = legal_from-append g start history more legal rest
 
 -- a longer legal history is legal up to there, and goes on legally
 pub legal-parts : (g : Setting) (history more : List Entry) → IsLegal g (history ++ more) → IsLegal g history × IsLegalFrom g (state_of g history) more
@@ -56,12 +66,9 @@ legal-parts g history more legal = legal_from-parts g start history more legal
 
 clock-after : (g : Setting) (s : State) (e : Entry) → (after g s e).clock ≡ max s.clock (moment_of e)
 clock-after g s (Write moment change condition) = wrote-keeps (λ (t : State). t.clock ≡ max s.clock moment) g change condition (at_moment s moment) refl refl
-clock-after g s (Read moment key tags at) = refl
-clock-after g s (Match moment to) = refl
-clock-after g s (Fetch moment) = refl
-clock-after g s (Tick moment) = refl
+clock-after g s e = refl
 
-clock-from : (g : Setting) (s : State) (history : List Entry) → (fold (after g) s history).clock ≡ fold max s.clock (map moment_of history)
+clock-from : (g : Setting) (s : State) (history : List Entry) → (after_all g s history).clock ≡ fold max s.clock (map moment_of history)
 clock-from g s [] = refl
 clock-from g s (e ∷ es) = clock-from g (after g s e) es ∙ ap (λ (n : ℕ). fold max n (map moment_of es)) (clock-after g s e)
 
@@ -73,12 +80,9 @@ clock-greatest g history = clock-from g start history
 
 front-after : (g : Setting) (s : State) (e : Entry) (es : List Entry) → unwrap_or (last_or (Some (after g s e).front) (filter_map to_of es)) 0 ≡ unwrap_or (last_or (Some s.front) (filter_map to_of (e ∷ es))) 0
 front-after g s (Write moment change condition) es = wrote-keeps (λ (t : State). unwrap_or (last_or (Some t.front) (filter_map to_of es)) 0 ≡ unwrap_or (last_or (Some s.front) (filter_map to_of es)) 0) g change condition (at_moment s moment) refl refl
-front-after g s (Read moment key tags at) es = refl
-front-after g s (Match moment to) es = refl
-front-after g s (Fetch moment) es = refl
-front-after g s (Tick moment) es = refl
+front-after g s e es = refl
 
-front-from : (g : Setting) (s : State) (history : List Entry) → (fold (after g) s history).front ≡ unwrap_or (last_or (Some s.front) (filter_map to_of history)) 0
+front-from : (g : Setting) (s : State) (history : List Entry) → (after_all g s history).front ≡ unwrap_or (last_or (Some s.front) (filter_map to_of history)) 0
 front-from g s [] = refl
 front-from g s (e ∷ es) = front-from g (after g s e) es ∙ front-after g s e es
 
@@ -94,34 +98,15 @@ front-last g history = front-from g start history ∙ last_or-zero (filter_map t
 -- ---- what every legal history keeps
 
 -- the front is not above the number of commits
-within-after : (g : Setting) (s : State) (e : Entry) → s.front ≤ length s.journal → MayFollow s e → (after g s e).front ≤ length (after g s e).journal
+within-after : (g : Setting) (s : State) (e : Entry) → s.front ≤ length s.journal → MayFollow g s e → (after g s e).front ≤ length (after g s e).journal
 within-after g s (Write moment change condition) h may = wrote-keeps (λ (t : State). t.front ≤ length t.journal) g change condition (at_moment s moment) (let size = length-append s.journal (change ∷ []) in omega (arith, size, h)) h
-within-after g s (Read moment key tags at) h may = h
 within-after g s (Match moment to) h may = may.1
-within-after g s (Fetch moment) h may = h
-within-after g s (Tick moment) h may = h
+within-after g s e h may = h
 
-within-from : (g : Setting) (s : State) (history : List Entry) → s.front ≤ length s.journal → IsLegalFrom g s history → (fold (after g) s history).front ≤ length (fold (after g) s history).journal
+within-from : (g : Setting) (s : State) (history : List Entry) → s.front ≤ length s.journal → IsLegalFrom g s history → (after_all g s history).front ≤ length (after_all g s history).journal
 within-from g s [] h legal = h
 within-from g s (e ∷ es) h legal = within-from g (after g s e) es (within-after g s e h legal.0) legal.1
 
 pub front-within : (g : Setting) (history : List Entry) → IsLegal g history → (state_of g history).front ≤ length (state_of g history).journal
 unfolding IsLegal state_of
 front-within g history legal = within-from g start history (omega arith) legal
-
-front-grows : (g : Setting) (s : State) (e : Entry) → MayFollow s e → s.front ≤ (after g s e).front
-front-grows g s (Write moment change condition) may = wrote-keeps (λ (t : State). s.front ≤ t.front) g change condition (at_moment s moment) (omega arith) (omega arith)
-front-grows g s (Read moment key tags at) may = omega arith
-front-grows g s (Match moment to) may = let up = may.0 in omega (arith, up)
-front-grows g s (Fetch moment) may = omega arith
-front-grows g s (Tick moment) may = omega arith
-
-front_from-grows : (g : Setting) (s : State) (history : List Entry) → IsLegalFrom g s history → s.front ≤ (fold (after g) s history).front
-front_from-grows g s [] legal = omega arith
-front_from-grows g s (e ∷ es) legal = omega (arith, front-grows g s e legal.0, front_from-grows g (after g s e) es legal.1)
-
--- the front never falls
-pub front-never_falls : (g : Setting) (history more : List Entry) → IsLegal g (history ++ more) → (state_of g history).front ≤ (state_of g (history ++ more)).front
-front-never_falls g history more legal =
-    let parts = legal-parts g history more legal in
-    subst (λ (s : State). (state_of g history).front ≤ s.front) (sym (state_of-append g history more)) (front_from-grows g (state_of g history) more parts.1)

@@ -1,14 +1,15 @@
 mod Accepted
 mod Bits
-mod Changes
+pub mod Changes
 mod Copies
-mod Covered
-mod Handed
+pub mod Covered
+pub mod Handed
 mod Histories
-mod KeySets
+pub mod KeySets
+mod LaterStates
 mod Moves
 mod Readings
-mod Recorded
-mod Results
+pub mod Recorded
+pub mod Results
 mod Rows
-mod Untils
+pub mod Untils

@@ -4,7 +4,7 @@ use Rattle.std.specs.List.{Contains}
 use Rattle.std.proofs.lemmas.List.Elements.{Contains-append_left, Contains-append_cases, Contains-push}
 use Rattle.query_normal.specs.declared.key.KeyShape.{KeyShape}
 use Rattle.hub_model.specs.declared.entry.Entry.{Entry}
-use Rattle.hub_model.specs.declared.entry.Entry.TheVariants.{Write, Read, Match, Fetch, Tick}
+use Rattle.hub_model.specs.declared.entry.Entry.TheVariants.{Write, Read}
 use Rattle.hub_model.specs.declared.entry.Tags.{Tags}
 use Rattle.hub_model.specs.Direct.{clock_of, IsRead}
 use Rattle.hub_model.specs.Lifetime.{ttl_of}
@@ -25,19 +25,14 @@ reading_at g s moment key at = record { key = key; at = at; clock = (at_moment s
 
 -- what an entry adds to the readings
 given : Setting → State → Entry → List Reading
-given g s (Write moment change condition) = []
 given g s (Read moment key tags at) = reading_at g s moment key at ∷ []
-given g s (Match moment to) = []
-given g s (Fetch moment) = []
-given g s (Tick moment) = []
+given g s e = []
 
 given-after : (g : Setting) (s : State) (e : Entry) → (after g s e).readings ≡ s.readings ++ given g s e
 unfolding given reading_at
 given-after g s (Write moment change condition) = wrote-keeps (λ (t : State). t.readings ≡ s.readings ++ []) g change condition (at_moment s moment) (sym (append-nil s.readings)) (sym (append-nil s.readings))
 given-after g s (Read moment key tags at) = refl
-given-after g s (Match moment to) = sym (append-nil s.readings)
-given-after g s (Fetch moment) = sym (append-nil s.readings)
-given-after g s (Tick moment) = sym (append-nil s.readings)
+given-after g s e = sym (append-nil s.readings)
 
 -- what entries add
 given_from : Setting → State → List Entry → List Reading
@@ -69,7 +64,6 @@ made-from g s (e ∷ es) r h = elim (Contains-append_cases (given g s e) (given_
 -- a read that made a reading is of its key and commit, with its clock and lifetime
 read_by : (g : Setting) (before : List Entry) (e : Entry) (rest history : List Entry) (key : KeyShape) (at clock ttl : ℕ) → history ≡ before ++ e ∷ rest → Contains (given g (state_of g before) e) (record { key = key; at = at; clock = clock; ttl = ttl }) → IsRead g history key at clock ttl
 unfolding given reading_at
-read_by g before (Write moment change condition) rest history key at clock ttl place h = absurd (none (record { key = key; at = at; clock = clock; ttl = ttl }) h)
 read_by g before (Read moment of tags commit) rest history key at clock ttl place h =
     let e = only (reading_at g (state_of g before) moment of commit) (record { key = key; at = at; clock = clock; ttl = ttl }) h in
     let key_is : of ≡ key = ap (λ (r : Reading). r.key) e in
@@ -87,9 +81,7 @@ read_by g before (Read moment of tags commit) rest history key at clock ttl plac
       clock_is = sym (told ∙ clock_is);
       ttl_is = cc;
     }
-read_by g before (Match moment to) rest history key at clock ttl place h = absurd (none (record { key = key; at = at; clock = clock; ttl = ttl }) h)
-read_by g before (Fetch moment) rest history key at clock ttl place h = absurd (none (record { key = key; at = at; clock = clock; ttl = ttl }) h)
-read_by g before (Tick moment) rest history key at clock ttl place h = absurd (none (record { key = key; at = at; clock = clock; ttl = ttl }) h)
+read_by g before e rest history key at clock ttl place h = absurd (none (record { key = key; at = at; clock = clock; ttl = ttl }) h)
 
 -- a reading of the state is of a read
 pub read-from : (g : Setting) (history : List Entry) (key : KeyShape) (at clock ttl : ℕ) → Contains (state_of g history).readings (record { key = key; at = at; clock = clock; ttl = ttl }) → IsRead g history key at clock ttl

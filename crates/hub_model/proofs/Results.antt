@@ -1,12 +1,10 @@
 -- Results of keys in a journal.
-use Rattle.std.proofs.Common.{◌||◌, Option, ◌+◌, ◌-◌, min, ◌∙◌, sym, ◌≡◌, ◌≢◌, ℕ, zero, suc, ◌<◌, ◌≤◌, true, not, ◌&&◌, ◌==◌, List, [], ◌∷◌, ◌++◌, length, refl, ap, ap₂, inl, inr, arith, subst}
+use Rattle.std.proofs.Common.{◌∙◌, sym, ◌≡◌, ◌≢◌, ℕ, zero, suc, ◌<◌, ◌≤◌, true, not, ◌&&◌, ◌==◌, List, [], ◌∷◌, ◌++◌, length, refl, ap, ap₂, inl, inr, arith, subst}
 use Rattle.std.specs.Prelude.{slice_get, nat_lt}
 use Rattle.std.specs.Bool.{Decides}
 use Rattle.std.specs.Ordering.{eq_by_cmp}
 use Rattle.std.proofs.lemmas.Bool.{cases_Bool, cases_lt, and_parts, or_cases, or_left, or_right, and_from, lt-ltb, ltb-true, not-true, not_from_false, both_ways}
 use Rattle.std.proofs.lemmas.Bool.Decides.{Decides-eqb}
-use Rattle.std.proofs.lemmas.Option.{slice_get_past}
-use Rattle.q_doc.specs.Tree.{Tree}
 use Rattle.q_doc.specs.Order.{tree_cmp}
 use Rattle.q_doc.specs.OrderLaws.{tree_eq-Decides}
 use Rattle.query_normal.specs.declared.key.KeyShape.{KeyShape}
@@ -96,29 +94,3 @@ outdated-later key c journal more front later within grew d =
     let here : result_at key (journal ++ more) d.0 ≡ result_at key journal d.0 = result_at-append key journal more d.0 (omega (arith, upto, within)) in
     let copied : result_at key (journal ++ more) c ≡ result_at key journal c = result_at-append key journal more c (omega (arith, after, upto, within)) in
     (d.0, after, omega (arith, upto, grew), λ e. d.3 (sym here ∙ e ∙ copied))
-
--- ---- for the plain program
-
--- a commit past the last finds what the last finds
-past_last : (journal : List Change) (n k : ℕ) (collection id : List ℕ) → length journal ≤ n → document_at journal (k + n) collection id ≡ document_at journal n collection id
-past_last journal n k collection id past = by k
-  where
-    none_there : (m : ℕ) → length journal ≤ m → (before : Option (ℕ × Tree)) → document_after collection id (suc m) (slice_get journal m) before ≡ before
-    none_there m h before = ap (λ (change : Option Change). document_after collection id (suc m) change before) (slice_get_past journal m h)
-
-    by : (k : ℕ) → document_at journal (k + n) collection id ≡ document_at journal n collection id
-    by zero = ap (λ m. document_at journal m collection id) (omega arith)
-    by (suc k) = ap (λ m. document_at journal m collection id) (let next : suc k + n ≡ suc (k + n) = omega arith in next) ∙ none_there (k + n) (omega (arith, past)) (document_at journal (k + n) collection id) ∙ by k
-
-pub document_at_min : (journal : List Change) (n : ℕ) (collection id : List ℕ) → document_at journal n collection id ≡ document_at journal (min n (length journal)) collection id
-document_at_min journal n collection id = elim (cases_lt n (length journal)) [
-  | inl within ↦ ap (λ m. document_at journal m collection id) (let same : n ≡ min n (length journal) = omega (arith, within) in same)
-  | inr past ↦ (
-      let whole : n ≡ (n - length journal) + length journal = omega (arith, past) in
-      ap (λ m. document_at journal m collection id) whole ∙ past_last journal (length journal) (n - length journal) collection id (omega arith)
-      ∙ ap (λ m. document_at journal m collection id) (let same : length journal ≡ min n (length journal) = omega (arith, past) in same))
-]
-
--- one commit more to look at
-pub is_outdated_more : (key : KeyShape) (c : ℕ) (journal : List Change) (n : ℕ) → is_outdated key c journal (n + 1) ≡ (nat_lt c (n + 1) && not (same_finding (result_at key journal (n + 1)) (result_at key journal c)) || is_outdated key c journal n)
-is_outdated_more key c journal n = subst (λ m. is_outdated key c journal m ≡ (nat_lt c m && not (same_finding (result_at key journal m) (result_at key journal c)) || is_outdated key c journal n)) (let next : suc n ≡ n + 1 = omega arith in next) refl

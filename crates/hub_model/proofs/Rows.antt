@@ -14,13 +14,13 @@ use Rattle.hub_model.specs.declared.entry.Condition.TheVariants.{Always, Present
 use Rattle.hub_model.specs.declared.entry.Entry.{Entry}
 use Rattle.hub_model.specs.declared.entry.Entry.TheVariants.{Write, Read, Match, Fetch}
 use Rattle.hub_model.specs.declared.entry.Found.TheVariants.{Missing, At}
-use Rattle.hub_model.specs.declared.entry.Outcome.TheVariants.{Whole}
+use Rattle.hub_model.specs.declared.entry.Outcome.TheVariants.{Whole, Absent as Nothing}
 use Rattle.hub_model.specs.declared.entry.Tags.TheVariants.{Any, Listed}
 use Rattle.hub_model.specs.declared.entry.Written.TheVariants.{Done, Precondition, Full}
 use Rattle.hub_model.specs.Setting.{Setting, default_setting}
-use Rattle.hub_model.specs.Record.{record_of, bits_of}
+use Rattle.hub_model.specs.Record.{record_of, outdated_copies, bits_of}
 use Rattle.hub_model.specs.Step.{state_of}
-use Rattle.hub_model.specs.State.{start, at_moment}
+use Rattle.hub_model.specs.State.{Reading, start, at_moment}
 use Rattle.hub_model.specs.Copies.{active_keys}
 use Rattle.hub_model.specs.Legal.{IsLegal}
 use Rattle.hub_model.specs.Reply.{reply, wrote, read, matched, fetched}
@@ -129,6 +129,37 @@ found_at = (refl, refl, refl, refl, refl)
 outdated_at : (is_outdated p1 0 undone 4 ≡ true) × (is_outdated p1 0 undone 0 ≡ false) × (is_outdated p1 1 undone 3 ≡ false) × (is_outdated p1 1 undone 4 ≡ true) × (is_outdated p1 4 undone 4 ≡ false)
 outdated_at = (refl, refl, refl, refl, refl)
 
+-- p1 is read before it is put and again before it is deleted: both copies are outdated, though there is again nothing
+abbrev back_again : List Entry
+back_again =
+    Write 100 (put_p2 0) Always
+    ∷ Read 100 p1 (Listed []) 1
+    ∷ Write 100 (put_p1 1) Always
+    ∷ Read 100 p1 (Listed []) 2
+    ∷ Write 100 delete_p1 Always
+    ∷ Match 100 3
+    ∷ []
+
+abbrev copy_of_p1 : ℕ → Reading
+copy_of_p1 at = record { key = p1; at = at; clock = 100; ttl = 60 }
+
+undone_between : (record_of (state_of sixty back_again) ≡ p1 ∷ [])
+    × (outdated_copies (state_of sixty back_again) ≡ copy_of_p1 1 ∷ copy_of_p1 2 ∷ [])
+    × (result_at p1 (state_of sixty back_again).journal 1 ≡ result_at p1 (state_of sixty back_again).journal 3)
+unfolding state_of cost_of digits escape_byte
+undone_between = (refl, refl, refl)
+
+-- ---- of a least and a greatest lifetime the greatest is given
+
+abbrev ten_to_ninety : Setting
+ten_to_ninety = record default_setting { ttl_low = 10; ttl_high = 90 }
+
+lifetimes : (reply ten_to_ninety [] (Read 100 p1 (Listed []) 0) ≡ read (record { commit = 0; clock = 100; ttl = 90; result = Nothing }))
+    × (record_of (state_of ten_to_ninety (covered ++ Fetch 189 ∷ [])) ≡ p1 ∷ [])
+    × (record_of (state_of ten_to_ninety (covered ++ Fetch 190 ∷ [])) ≡ [])
+unfolding state_of reply cost_of digits escape_byte
+lifetimes = (refl, refl, refl)
+
 -- ---- with one key at most, another key's reply may not be kept; with none, no reply may
 
 abbrev few_active : ℕ → Setting
@@ -173,6 +204,16 @@ conditions : (reply sixty seven (Write 100 (put_p1 8) (unchanged 3)) ≡ wrote (
     × (reply sixty seven (Write 100 (put_elsewhere 8) Absent) ≡ wrote (Done 8 Missing 100))
 unfolding state_of reply cost_of digits escape_byte
 conditions = (refl, refl, refl, refl, refl, refl, refl, refl, refl)
+
+-- an equal document that is put again is another version: what knows the first is not met, and its copy is outdated
+abbrev put_twice : List Entry
+put_twice = Write 100 (put_p1 1) Always ∷ Write 100 (put_p1 1) Always ∷ []
+
+equal_documents : (reply sixty put_twice (Write 100 (put_p1 2) (unchanged 1)) ≡ wrote (Precondition (At 2) 100))
+    × (reply sixty put_twice (Write 100 (put_p1 2) (unchanged 2)) ≡ wrote (Done 3 (At 2) 100))
+    × (is_outdated p1 1 (state_of sixty put_twice).journal 2 ≡ true)
+unfolding state_of reply cost_of digits escape_byte
+equal_documents = (refl, refl, refl)
 
 -- a refused write moves the clock and adds nothing; the deletion of nothing is a commit
 refused : (state_of sixty (Write 100 (put_p1 1) Present ∷ []) ≡ at_moment start 100)

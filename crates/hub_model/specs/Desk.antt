@@ -2,17 +2,19 @@
 use Rattle.std.specs.Prelude.{◌≡◌, ℕ, List, [], ◌∷◌, ◌++◌, length}
 use Rattle.std.specs.List.{enumerate_from}
 use Rattle.hub_model.specs.declared.entry.Entry.{Entry}
+use Rattle.hub_model.specs.Helps.{helps_of}
 use Rattle.hub_model.specs.Legal.{IsLegal}
 use Rattle.hub_model.specs.Reply.{Replied, reply}
 use Rattle.hub_model.specs.Setting.{Setting}
+use Rattle.hub_model.specs.Step.{state_of}
 
 -- the first list is a beginning of the second
 abbrev pub IsPrefix : {X : Type 0} → List X → List X → Type 0
 IsPrefix {X} xs ys = (rest : List X) × (xs ++ rest ≡ ys)
 
--- the entries that stand ahead of this one in the same call: there are none
+-- these entries stand ahead of this one in the same call, after a history
 abbrev pub IsHelped : Setting → List Entry → List Entry → Entry → Type 0
-IsHelped g before helps e = helps ≡ []
+IsHelped g before helps e = helps ≡ helps_of g (state_of g before) e
 
 -- The caller has made an entry, after all that it knew, and was told the reply at its place.
 pub record Makes (g : Setting) (old new : List Entry) (mine_old mine_new : List (ℕ × Entry)) (e : Entry) (told : Replied) : Type 0 where

@@ -1,30 +1,22 @@
--- What a history has come to, said of its entries alone.
-use Rattle.std.specs.Prelude.{◌≡◌, ◌⊎◌, ◌≤◌, Contains, ℕ, ◌+◌, max, List, [], ◌∷◌, ◌++◌, length, map, fold, Option, Some, None, unwrap_or}
+-- What a history has come to, said of its entries: the clock, the journal and the front of these alone, the readings with the lifetimes that the states before them give.
+use Rattle.std.specs.Prelude.{◌≡◌, ◌⊎◌, ◌≤◌, Contains, ℕ, max, List, [], ◌∷◌, ◌++◌, length, map, fold, Option, Some, None, unwrap_or}
 use Rattle.std.specs.List.{filter_map, last_or}
 use Rattle.q_doc.specs.Tree.{Tree}
 use Rattle.query_normal.specs.declared.key.KeyShape.{KeyShape}
 use Rattle.commit_book.specs.declared.change.Change.{Change}
-use Rattle.commit_book.specs.Journal.{document_at, cost_of, kept}
+use Rattle.commit_book.specs.Journal.{document_at, kept_with}
 use Rattle.hub_model.specs.declared.entry.Condition.{Condition}
 use Rattle.hub_model.specs.declared.entry.Condition.TheVariants.{Always, Present, Absent, Unchanged}
 use Rattle.hub_model.specs.declared.entry.Found.{Found}
 use Rattle.hub_model.specs.declared.entry.Found.TheVariants.{Missing, At}
 use Rattle.hub_model.specs.declared.entry.Entry.{Entry}
-use Rattle.hub_model.specs.declared.entry.Entry.TheVariants.{Write, Read, Match, Fetch, Tick}
+use Rattle.hub_model.specs.declared.entry.Entry.TheVariants.{Write, Read, Match}
 use Rattle.hub_model.specs.declared.entry.Tags.{Tags}
 use Rattle.hub_model.specs.declared.entry.Tags.TheVariants.{Any, Listed}
 use Rattle.hub_model.specs.Lifetime.{ttl_of}
 use Rattle.hub_model.specs.Setting.{Setting}
 use Rattle.hub_model.specs.State.{at_moment}
-use Rattle.hub_model.specs.Step.{found_of, state_of}
-
--- the moment of an entry
-abbrev pub moment_of : Entry → ℕ
-moment_of (Write moment change condition) = moment
-moment_of (Read moment key tags at) = moment
-moment_of (Match moment to) = moment
-moment_of (Fetch moment) = moment
-moment_of (Tick moment) = moment
+use Rattle.hub_model.specs.Step.{found_of, moment_of, state_of}
 
 -- the greatest moment, and 0 for the empty list
 abbrev pub clock_of : List Entry → ℕ
@@ -42,7 +34,7 @@ IsMet Absent found commits = found ≡ Missing
 IsMet (Unchanged Any) found commits = (version : ℕ) × (found ≡ At version)
 IsMet (Unchanged (Listed tags)) found commits = (version t : ℕ) × (found ≡ At version) × Contains tags t × (version ≤ t) × (t ≤ commits)
 
--- The record of a change has a document behind some changes, and had the same at a listed commit.
+-- The record of a change has a document behind some changes, and had it in the same version at a listed commit.
 pub record IsEqualAtOne (journal : List Change) (change : Change) (tags : List ℕ) : Type 0 where
   pub tag : ℕ
   pub listed : Contains tags tag
@@ -54,7 +46,7 @@ pub record IsEqualAtOne (journal : List Change) (change : Change) (tags : List �
 -- A write is accepted behind some changes: its condition is true of what they leave, and with it they take no more than the capacity.
 pub record IsAccepted (g : Setting) (journal : List Change) (change : Change) (condition : Condition) : Type 0 where
   pub met : IsMet condition (found_behind journal change) (length journal)
-  pub fits : kept journal + cost_of change ≤ g.capacity
+  pub fits : kept_with journal change ≤ g.capacity
 
 -- the changes that are accepted behind some, and those together: an accepted write adds its change, and nothing else does
 abbrev pub IsJournalFrom : Setting → List Change → List Entry → List Change → Type 0
@@ -62,10 +54,7 @@ IsJournalFrom g before [] journal = journal ≡ before
 IsJournalFrom g before (Write moment change condition ∷ es) journal =
     (IsAccepted g before change condition × IsJournalFrom g (before ++ change ∷ []) es journal)
     ⊎ ((IsAccepted g before change condition → ⊥) × IsJournalFrom g before es journal)
-IsJournalFrom g before (Read moment key tags at ∷ es) journal = IsJournalFrom g before es journal
-IsJournalFrom g before (Match moment to ∷ es) journal = IsJournalFrom g before es journal
-IsJournalFrom g before (Fetch moment ∷ es) journal = IsJournalFrom g before es journal
-IsJournalFrom g before (Tick moment ∷ es) journal = IsJournalFrom g before es journal
+IsJournalFrom g before (e ∷ es) journal = IsJournalFrom g before es journal
 
 -- the changes of the accepted writes, in order
 abbrev pub IsJournalOf : Setting → List Entry → List Change → Type 0

@@ -1,17 +1,12 @@
 -- What a key finds in a journal: the list of the accepted changes, the newest last. The change at place n, counted from 1, is commit n.
-use Rattle.std.specs.Prelude.{ℕ, zero, suc, ◌==◌, Bool, false, ◌&&◌, true, List, Option, Some, None, slice_get, option_and_then}
+use Rattle.std.specs.Prelude.{ℕ, ◌==◌, Bool, false, ◌&&◌, true, List, Option, Some, None}
 use Rattle.std.specs.Ordering.{eq_by_cmp}
 use Rattle.q_doc.specs.Order.{tree_cmp}
 use Rattle.q_doc.specs.Tree.{Tree}
 use Rattle.commit_book.specs.declared.change.Change.{Change}
-use Rattle.commit_book.specs.Journal.{put_at, document_at}
+use Rattle.commit_book.specs.Journal.{document_at}
 use Rattle.query_normal.specs.declared.key.KeyShape.{KeyShape}
 use Rattle.query_normal.specs.declared.key.KeyShape.TheVariants.{Record}
-
--- what the change of this commit puts, by its number and its document; commits begin at 1, so the empty store puts nothing
-abbrev pub row_at : List Change → ℕ → Option (ℕ × Tree)
-row_at journal zero = None
-row_at journal (suc n) = option_and_then (λ change. put_at (suc n) change.document) (slice_get journal n)
 
 -- What a key finds: nothing, or a record's version and document.
 pub data Finding : Type 0 where

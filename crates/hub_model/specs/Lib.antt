@@ -1,7 +1,9 @@
 pub mod Copies
 pub mod Desk
 pub mod Direct
+pub mod Helps
 pub mod Journal
+pub mod Later
 pub mod Legal
 pub mod Lifetime
 pub mod Outdated

@@ -5,6 +5,7 @@ use Rattle.query_normal.specs.Pages.{Page}
 use Rattle.query_normal.specs.declared.key.KeyShape.{KeyShape}
 use Rattle.hub_model.specs.declared.entry.Answer.{Answer}
 use Rattle.commit_book.specs.declared.change.Change.{Change}
+use Rattle.commit_book.specs.Journal.{kept_with}
 use Rattle.hub_model.specs.declared.entry.Condition.{Condition}
 use Rattle.hub_model.specs.declared.entry.Entry.{Entry}
 use Rattle.hub_model.specs.declared.entry.Entry.TheVariants.{Write, Read, Match, Fetch, Tick}
@@ -20,7 +21,7 @@ use Rattle.hub_model.specs.Lifetime.{ttl_of}
 use Rattle.hub_model.specs.Record.{page_of}
 use Rattle.hub_model.specs.Setting.{Setting}
 use Rattle.hub_model.specs.State.{State, at_moment}
-use Rattle.hub_model.specs.Step.{found_now, is_met, kept_with, has_matched, state_of}
+use Rattle.hub_model.specs.Step.{found_now, is_met, has_matched, state_of}
 
 -- What a caller of the hub is told.
 pub data Replied : Type 0 where
@@ -34,7 +35,7 @@ pub data Replied : Type 0 where
 abbrev pub written : Setting → Change → Condition → State → Written
 written g change condition s =
     if is_met condition (found_now s change) (length s.journal)
-    then (if nat_le (kept_with s change) g.capacity then Done (length s.journal + 1) (found_now s change) s.clock else Full (kept_with s change) s.clock)
+    then (if nat_le (kept_with s.journal change) g.capacity then Done (length s.journal + 1) (found_now s change) s.clock else Full (kept_with s.journal change) s.clock)
     else Precondition (found_now s change) s.clock
 
 -- what a read tells of a finding

@@ -1,5 +1,5 @@
 -- A history is a list of entries, the newest last; its state is what the entries leave, one after another.
-use Rattle.std.specs.Prelude.{ℕ, ◌+◌, Bool, true, false, ◌&&◌, if◌then◌else◌, nat_le, List, [], ◌∷◌, ◌++◌, length, fold, Option, Some, None}
+use Rattle.std.specs.Prelude.{ℕ, Bool, true, false, ◌&&◌, if◌then◌else◌, nat_le, List, [], ◌∷◌, ◌++◌, length, fold, Option, Some, None}
 use Rattle.std.specs.List.{list_any}
 use Rattle.q_doc.specs.Tree.{Tree}
 use Rattle.query_normal.specs.declared.key.KeyShape.{KeyShape}
@@ -11,7 +11,7 @@ use Rattle.hub_model.specs.declared.entry.Entry.TheVariants.{Write, Read, Match,
 use Rattle.hub_model.specs.declared.entry.Found.{Found}
 use Rattle.hub_model.specs.declared.entry.Found.TheVariants.{Missing, At}
 use Rattle.hub_model.specs.declared.entry.Tags.TheVariants.{Any, Listed}
-use Rattle.commit_book.specs.Journal.{document_at, cost_of, kept}
+use Rattle.commit_book.specs.Journal.{document_at, kept_with}
 use Rattle.hub_model.specs.Lifetime.{ttl_of}
 use Rattle.hub_model.specs.Setting.{Setting}
 use Rattle.hub_model.specs.State.{State, start, at_moment}
@@ -36,13 +36,9 @@ is_met (Unchanged tags) Missing commits = false
 is_met (Unchanged Any) (At version) commits = true
 is_met (Unchanged (Listed tags)) (At version) commits = list_any (λ t. nat_le version t && nat_le t commits) tags
 
--- what the journal takes with one change more, in bytes
-abbrev pub kept_with : State → Change → ℕ
-kept_with s change = kept s.journal + cost_of change
-
 -- whether a write is accepted: its condition is met, and there is room for it
 abbrev pub is_accepted : Setting → State → Change → Condition → Bool
-is_accepted g s change condition = is_met condition (found_now s change) (length s.journal) && nat_le (kept_with s change) g.capacity
+is_accepted g s change condition = is_met condition (found_now s change) (length s.journal) && nat_le (kept_with s.journal change) g.capacity
 
 -- an accepted change is the next commit
 abbrev pub wrote : Setting → Change → Condition → State → State
@@ -56,14 +52,25 @@ has_read g key at s = record s { readings = s.readings ++ record { key = key; at
 abbrev pub has_matched : Setting → ℕ → State → State
 has_matched g to s = record s { front = to }
 
--- what an entry makes of a state
+-- the moment of an entry
+abbrev pub moment_of : Entry → ℕ
+moment_of (Write moment change condition) = moment
+moment_of (Read moment key tags at) = moment
+moment_of (Match moment to) = moment
+moment_of (Fetch moment) = moment
+moment_of (Tick moment) = moment
+
+-- what an entry makes of a state: each moves the clock, and a write, a read and a match do more
 abbrev pub after : Setting → State → Entry → State
 after g s (Write moment change condition) = wrote g change condition (at_moment s moment)
 after g s (Read moment key tags at) = has_read g key at (at_moment s moment)
 after g s (Match moment to) = has_matched g to (at_moment s moment)
-after g s (Fetch moment) = at_moment s moment
-after g s (Tick moment) = at_moment s moment
+after g s e = at_moment s (moment_of e)
+
+-- what entries make of a state, one after another
+abbrev pub after_all : Setting → State → List Entry → State
+after_all g s es = fold (after g) s es
 
 -- what a history has come to under a configuration
 unfoldable pub state_of : Setting → List Entry → State
-state_of g history = fold (after g) start history
+state_of g history = after_all g start history

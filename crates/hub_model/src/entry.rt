@@ -13,7 +13,7 @@ pub enum Condition {
     Present,
     /// There is none.
     Absent,
-    /// There is a document, and it is the one of a tagged commit.
+    /// There is a document, and a tagged commit had it in the same version.
     Unchanged(Tags),
 }
 

@@ -15,16 +15,18 @@ ghost use Rattle.hub_model.specs.declared.entry.Entry.TheVariants.{Write, Read, 
 ghost use Rattle.hub_model.specs.declared.entry.Tags.{Tags as SomeTags};
 ghost use Rattle.hub_model.specs.declared.entry.Tags.TheVariants.{Listed};
 ghost use Rattle.hub_model.specs.Copies.{IsActive, live, active_keys, is_active};
+ghost use Rattle.hub_model.specs.Desk.{IsPrefix};
 ghost use Rattle.hub_model.specs.Direct.{clock_of, front_of, found_behind, IsMet, IsAccepted, IsEqualAtOne, IsJournalOf, IsRead};
 ghost use Rattle.commit_book.specs.Journal.{is_of, document_at};
 ghost use Rattle.hub_model.specs.Journal.{Finding, result_at, same_finding};
-ghost use Rattle.hub_model.specs.Legal.{MayFollow, IsLegal};
+ghost use Rattle.hub_model.specs.Later.{IsLater};
+ghost use Rattle.hub_model.specs.Legal.{MayFollow, IsLegalFrom, IsLegal};
 ghost use Rattle.hub_model.specs.Lifetime.{ttl_of};
 ghost use Rattle.hub_model.specs.Outdated.{IsOutdated, IsChangedAfter, is_outdated, is_changed};
 ghost use Rattle.hub_model.specs.Record.{IsRecorded, is_recorded, record_of, outdated_copies, bits_of, page_of};
 ghost use Rattle.hub_model.specs.Setting.{Setting};
 ghost use Rattle.hub_model.specs.State.{Reading, State, start, at_moment};
-ghost use Rattle.hub_model.specs.Step.{is_accepted, after, has_read, state_of};
+ghost use Rattle.hub_model.specs.Step.{is_accepted, after, after_all, has_read, state_of};
 ghost use Rattle.hub_model.specs.Until.{until_among, latest_until, until_of_outdated};
 
 // What the tests of the definitions tell.
@@ -44,7 +46,8 @@ pub fn acceptance_is_tested()
     ensures { (g : Setting) (s : State) (change : AChange) (condition : ACondition) → IsTrue (is_accepted g s change condition) ↔ IsAccepted g s.journal change condition }
 {}
 
-/// What is listed is unchanged exactly where there is a document, and a listed commit had the same.
+/// What is listed is unchanged exactly where there is a document, and a listed commit had it in the
+/// same version. An equal document that was put again is another version.
 pub fn listed_results_are_unchanged()
     ensures { (journal : List AChange) (change : AChange) (tags : List ℕ) → IsMet (Unchanged (Listed tags)) (found_behind journal change) (length journal) ↔ IsEqualAtOne journal change tags }
 {}
@@ -130,7 +133,31 @@ pub fn no_entry_is_legal()
 /// A history is legal with one entry more exactly where it is legal and the entry may follow.
 pub fn one_entry_more()
     ensures state { (g : Setting) (history : List AnEntry) (e : AnEntry) → state_of g (history ++ e ∷ []) ≡ after g (state_of g history) e }
-    ensures legal { (g : Setting) (history : List AnEntry) (e : AnEntry) → IsLegal g (history ++ e ∷ []) ↔ (IsLegal g history × MayFollow (state_of g history) e) }
+    ensures legal { (g : Setting) (history : List AnEntry) (e : AnEntry) → IsLegal g (history ++ e ∷ []) ↔ (IsLegal g history × MayFollow g (state_of g history) e) }
+{}
+
+/// A history goes on by any entries as by one: its state is what they make of the state before them,
+/// and it is legal exactly where it was and each may follow in turn.
+pub fn more_entries()
+    ensures whole { (g : Setting) (history : List AnEntry) → state_of g history ≡ after_all g start history }
+    ensures state { (g : Setting) (history more : List AnEntry) → state_of g (history ++ more) ≡ after_all g (state_of g history) more }
+    ensures legal { (g : Setting) (history more : List AnEntry) → IsLegal g (history ++ more) ↔ (IsLegal g history × IsLegalFrom g (state_of g history) more) }
+{}
+
+/// A beginning of a legal history is legal.
+pub fn beginnings_are_legal()
+    ensures { (g : Setting) (history longer : List AnEntry) → IsPrefix history longer → IsLegal g longer → IsLegal g history }
+{}
+
+/// The state of a longer legal history is later.
+pub fn longer_histories_are_later()
+    ensures { (g : Setting) (history longer : List AnEntry) → IsPrefix history longer → IsLegal g longer → IsLater (state_of g history) (state_of g longer) }
+{}
+
+/// States are ordered: each is as late as itself, and what is later than a later one is later.
+pub fn later_states_are_ordered()
+    ensures itself { (s : State) → IsLater s s }
+    ensures onward { (s t u : State) → IsLater s t → IsLater t u → IsLater s u }
 {}
 
 /// The front is not above the number of commits.

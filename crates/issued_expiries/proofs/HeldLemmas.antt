@@ -1,238 +1,247 @@
--- The held keys and their places in the queue.
-use Rattle.std.proofs.Common.{◌≡◌, ◌⊎◌, cond, leb, zero, ℕ, ◌+◌, ◌-◌, ◌<◌, ◌≤◌, suc, max, Bool, true, false, ◌||◌, List, [], ◌∷◌, ◌++◌, length, take, map, filter, set, get_or, All, Contains, Option, Some, None, refl, sym, ap, ◌∙◌, subst, arith, inl, inr}
-use Rattle.std.specs.List.{slice_get, swap_remove, list_any, IsDistinct}
+-- The held keys and their copies.
+use Rattle.std.proofs.Common.{◌≡◌, ◌⊎◌, cond, zero, ℕ, ◌+◌, ◌<◌, ◌≤◌, suc, max, Bool, true, false, ◌||◌, List, [], ◌∷◌, ◌++◌, length, map, filter, get_or, All, Option, Some, None, IsSome, IfSome, is_some, option_map, nat_lt, position, Result, Ok, Err, OnOk, length-append, refl, sym, ap, ◌∙◌, subst, arith, inl, inr}
+use Rattle.std.specs.List.{list_any, IsDistinct, position_or_len, slice_get}
 use Rattle.std.specs.List.Sorted.{IsPermutation}
-use Rattle.std.specs.Map.{keys_of, set_value}
-use Rattle.std.specs.declared.cmp.Reverse.{Reverse}
-use Rattle.std.proofs.lemmas.Option.{get_or_from_slice_get}
-use Rattle.std.proofs.lemmas.Bool.{cases_Bool, cases_eq, cond-true, cond-false, lt-leb, le-leb}
-use Rattle.std.proofs.lemmas.List.{get_or-set_other, get_or-take, length-take, get_or_append_left}
-use Rattle.std.proofs.lemmas.List.Sorted.{Contains-permutation, sum_by_popped, sum_by_pushed}
-use Rattle.std.proofs.lemmas.Map.Entries.{lookup_from_place, All-lookup}
-use Rattle.std.proofs.Math.Seq.{get_or-append_seam}
-use Rattle.indexmap.specs.IndexMap.{insert_entry}
+use Rattle.std.specs.Map.{lookup, keys_of, set_value}
+use Rattle.std.proofs.lemmas.Bool.{cases_Bool}
+use Rattle.std.proofs.lemmas.List.Elements.{All-map}
+use Rattle.std.proofs.lemmas.List.Sorted.{IsPermutation-map, IsPermutation-sym, All-permutation, length_permutation}
+use Rattle.std.proofs.lemmas.Map.{lookup-set_value}
+use Rattle.std.proofs.lemmas.Map.Entries.{All-lookup}
+use Rattle.indexmap.proofs.MapLemmas.{lookup_permutation}
 use Rattle.query_normal.specs.declared.key.KeyShape.{KeyShape}
 use Rattle.query_normal.specs.Keys.{same_key}
 use Rattle.query_normal.specs.SameKey.{same_key-Decides, same_key_equiv}
-use Rattle.issued_expiries.specs.Due.{due, due_count, IsCovered, IsCoveredBut, IsDueAt}
-use Rattle.issued_expiries.specs.KeyCopies.{Kept, greatest, is_later, last_until}
-use Rattle.issued_expiries.specs.Entries.{Entries, kept_of, held_of, Ages, AreUnexpired}
+use Rattle.expiring_map.specs.declared.timed.Timed.{Timed}
+use Rattle.expiring_map.specs.Entries.{with_value_at, extended_at, Removes, Expires}
+use Rattle.issued_expiries.specs.KeyCopies.{Kept, HasRoom, greatest, is_later, last_until}
+use Rattle.issued_expiries.specs.Entries.{Entries, copies_in, kept_of, held_of, greatest_in, Ages, AreTied, AreUnexpired, Puts, Trims}
 use Rattle.issued_expiries.specs.Copies.{Copy}
 
--- ---- the queue
+-- what a map keeps of the keys
+abbrev pub Held : Type 0
+Held = List (KeyShape × Timed Kept)
 
--- what stands in a list stands behind one more
-contains_later : {X : Type 0} (xs : List X) (x y : X) → Contains xs x → Contains (y ∷ xs) x
-contains_later xs x y found = (suc found.0, omega (arith, found.1), found.2)
+-- ---- the entries, with their copies alone
 
--- a place of a longer queue
-pub due_later : (held : Entries) (queue after : List (Reverse (ℕ × ℕ))) (until place i : ℕ) → IsPermutation (due until place ∷ queue) after → IsDueAt held queue i → IsDueAt held after i
-due_later held queue after until place i perm found d =
-    let old = found d in
-    (old.0, old.1, Contains-permutation (due until place ∷ queue) after (due old.0 i) perm (contains_later queue (due old.0 i) (due until place) old.2))
+pub keys_shown : (held : Held) → keys_of (copies_in held) ≡ keys_of held
+keys_shown [] = refl
+keys_shown (e ∷ held) = ap (λ (ks : List KeyShape). e.0 ∷ ks) (keys_shown held)
 
--- each place is covered once the one that was not is put in
-pub covered_all : (held : Entries) (queue after : List (Reverse (ℕ × ℕ))) (until place : ℕ) → IsPermutation (due until place ∷ queue) after →
-    ((d : KeyShape × Kept) → last_until (get_or held place d).1 ≡ until) → IsCoveredBut place held queue → IsCovered held after
-covered_all held queue after until place perm here covered i within =
-    elim (cases_eq i place) [
-      | inl same ↦ (λ d. (
-        until,
-        (let e = here d in subst (λ (n : ℕ). until ≤ last_until (get_or held n d).1) (sym same) (omega (arith, e))),
-        subst (λ (n : ℕ). Contains after (due until n)) (sym same)
-            (Contains-permutation (due until place ∷ queue) after (due until place) perm (0, omega arith, refl)),
-      ))
-      | inr other ↦ due_later held queue after until place i perm (covered i within other)
-    ]
+pub length_shown : (held : Held) → length (copies_in held) ≡ length held
+length_shown [] = refl
+length_shown (e ∷ held) = ap suc (length_shown held)
 
--- after the last key took a place, the other places are as they were
-pub covered_moved : (held rest : Entries) (queue : List (Reverse (ℕ × ℕ))) (place : ℕ) (e : KeyShape × Kept) → place < length held → rest ≡ swap_remove held place e →
-    IsCoveredBut place held queue → IsCoveredBut place rest queue
-covered_moved held rest queue place e within is covered i low other d =
-    let cut = length-take (length held - 1) (set held place (get_or held (length held - 1) e)) in
-    let size : length rest ≡ length (take (length held - 1) (set held place (get_or held (length held - 1) e))) = ap length is in
-    let low_here : i < length held - 1 = omega (arith, cut, size, low) in
-    let here : get_or rest i d ≡ get_or held i d =
-    ap (λ (xs : Entries). get_or xs i d) is
-    ∙ get_or-take (length held - 1) (set held place (get_or held (length held - 1) e)) i d low_here
-    ∙ get_or-set_other held place i (get_or held (length held - 1) e) d other in
-    let old = covered i (omega (arith, low_here)) other d in
-    (old.0, subst (λ (x : KeyShape × Kept). old.0 ≤ last_until x.1) (sym here) old.1, old.2)
+-- the copies of an entry
+abbrev pub kept_in : Option (Timed Kept) → Option Kept
+kept_in None = None
+kept_in (Some timed) = Some timed.value
 
--- how many are due after a push
-due_pushed : (moment until place : ℕ) (queue after : List (Reverse (ℕ × ℕ))) → IsPermutation (due until place ∷ queue) after →
-    due_count moment after ≡ cond (leb until moment) 1 0 + due_count moment queue
-due_pushed moment until place queue after perm = sum_by_pushed (λ (d : Reverse (ℕ × ℕ)). cond (leb d.0.0 moment) 1 0) (due until place) queue after perm
+-- the copies of an entry with its key
+abbrev pub kept_there : Option (KeyShape × Timed Kept) → Option Kept
+kept_there o = option_map (λ e. e.1.value) o
 
--- at most one more
-pub due_more : (moment until place : ℕ) (queue after : List (Reverse (ℕ × ℕ))) → IsPermutation (due until place ∷ queue) after → due_count moment after ≤ due_count moment queue + 1
-due_more moment until place queue after perm =
-    let pushed = due_pushed moment until place queue after perm in
-    let one : cond (leb until moment) 1 0 ≤ 1 = at_most_one (leb until moment) in
-    omega (arith, pushed, one)
-  where
-    at_most_one : (b : Bool) → cond b 1 0 ≤ 1
-    at_most_one true = omega arith
-    at_most_one false = omega arith
-
--- none more where the place is due later
-pub due_same : (moment until place : ℕ) (queue after : List (Reverse (ℕ × ℕ))) → moment < until → IsPermutation (due until place ∷ queue) after → due_count moment after ≡ due_count moment queue
-due_same moment until place queue after later perm =
-    let pushed = due_pushed moment until place queue after perm in
-    let none : ◌≡◌ {A = ℕ} (cond (leb until moment) 1 0) 0 = cond-false (leb until moment) 1 0 (lt-leb until moment later) in
-    omega (arith, pushed, none)
-
--- one less after a place that was due came out
-pub due_popped : (moment until place : ℕ) (queue after : List (Reverse (ℕ × ℕ))) → until ≤ moment → IsPermutation queue (due until place ∷ after) → due_count moment queue ≡ due_count moment after + 1
-due_popped moment until place queue after past perm =
-    let popped = sum_by_popped (λ (d : Reverse (ℕ × ℕ)). cond (leb d.0.0 moment) 1 0) (due until place) queue after perm in
-    let one : ◌≡◌ {A = ℕ} (cond (leb until moment) 1 0) 1 = cond-true (leb until moment) 1 0 (le-leb until moment past) in
-    omega (arith, popped, one)
-
--- what stands in a list is its first or stands behind it
-contains_at : {X : Type 0} (x y : X) (xs : List X) (k : ℕ) → k < length (x ∷ xs) → get_or (x ∷ xs) k y ≡ y → (x ≡ y) ⊎ Contains xs y
-contains_at x y xs zero low e = inl e
-contains_at x y xs (suc k) low e = inr (k, omega (arith, low), e)
-
--- the other places stay covered when one comes out
-pub covered_popped : (held : Entries) (queue after : List (Reverse (ℕ × ℕ))) (until place : ℕ) → IsPermutation queue (due until place ∷ after) → IsCovered held queue → IsCoveredBut place held after
-covered_popped held queue after until place perm covered i within other d =
-    let old = covered i within d in
-    let there = Contains-permutation queue (due until place ∷ after) (due old.0 i) perm old.2 in (
-      old.0,
-      old.1,
-      elim (contains_at (due until place) (due old.0 i) after there.0 there.1 there.2) [
-        | inl same ↦ absurd (other (sym (ap (λ (x : Reverse (ℕ × ℕ)). x.0.1) same)))
-        | inr found ↦ found
-      ],
-    )
-
--- where no place is due, no key's last copy is past the moment
-all_later : (moment : ℕ) (held : Entries) (queue : List (Reverse (ℕ × ℕ))) → IsCovered held queue → All (λ (d : Reverse (ℕ × ℕ)). moment < d.0.0) queue → All (λ (e : KeyShape × Kept). moment < last_until e.1) held
-all_later moment held queue covered later i d within =
-    let at = covered i within d in
-    let found = at.2 in
-    let late : moment < at.0 = subst (λ (x : Reverse (ℕ × ℕ)). moment < x.0.0) found.2 (later found.0 (due at.0 i) found.1) in
-    omega (arith, late, at.1)
-
-pub unexpired_all : (moment : ℕ) (held : Entries) (queue : List (Reverse (ℕ × ℕ))) → IsCovered held queue → All (λ (d : Reverse (ℕ × ℕ)). moment < d.0.0) queue → AreUnexpired moment held
-unexpired_all moment held queue covered later key = All-lookup (λ (kept : Kept). moment < last_until kept) (same_key key) held (all_later moment held queue covered later)
-
--- a queue covers keys of which each last copy is as late or later
-pub covered_risen : (held after : Entries) (queue : List (Reverse (ℕ × ℕ))) → length after ≡ length held → ((i : ℕ) (d : KeyShape × Kept) → last_until (get_or held i d).1 ≤ last_until (get_or after i d).1) →
-    IsCovered held queue → IsCovered after queue
-covered_risen held after queue same risen covered i within d =
-    let old = covered i (omega (arith, same, within)) d in
-    let up = risen i d in
-    (old.0, omega (arith, old.1, up), old.2)
-
--- and one key more, whose place was put in
-pub covered_new : (held after : Entries) (queue queue_after : List (Reverse (ℕ × ℕ))) (until : ℕ) → length after ≡ length held + 1 → IsPermutation (due until (length held) ∷ queue) queue_after →
-    ((d : KeyShape × Kept) → last_until (get_or after (length held) d).1 ≡ until) → ((i : ℕ) (d : KeyShape × Kept) → i < length held → get_or after i d ≡ get_or held i d) →
-    IsCovered held queue → IsCovered after queue_after
-covered_new held after queue queue_after until more perm last others covered i within =
-    elim (cases_eq i (length held)) [
-      | inl same ↦ (λ d. (
-        until,
-        (let e = last d in subst (λ (n : ℕ). until ≤ last_until (get_or after n d).1) (sym same) (omega (arith, e))),
-        subst (λ (n : ℕ). Contains queue_after (due until n)) (sym same)
-            (Contains-permutation (due until (length held) ∷ queue) queue_after (due until (length held)) perm (0, omega arith, refl)),
-      ))
-      | inr other ↦ (λ d. (
-          let inside : i < length held = omega (arith, more, within, other) in
-          let old = due_later held queue queue_after until (length held) i perm (covered i inside) d in
-          (old.0, subst (λ (x : KeyShape × Kept). old.0 ≤ last_until x.1) (sym (others i d inside)) old.1, old.2)))
-    ]
-
--- ---- what a moment does
-
--- a step later
-pub ages_then : (moment : ℕ) (first second third : Option Kept) (a b c : Bool) → Ages moment first second a b → Ages moment second third b c → Ages moment first third a c
-ages_then moment first second third a b c (inl before) (inl after) = inl (after.0 ∙ before.0, after.1 ∙ before.1)
-ages_then moment first second third a b c (inl before) (inr (kept, is, past, gone, idle)) = inr (kept, sym before.0 ∙ is, past, gone, idle)
-ages_then moment first second third a b c (inr (kept, is, past, gone, idle)) (inl after) = inr (kept, is, past, after.0 ∙ gone, after.1 ∙ idle)
-ages_then moment first second third a b c (inr (kept, is, past, gone, idle)) (inr (other, other_is, other_past, other_gone, other_idle)) = inr (kept, is, past, other_gone, other_idle)
-
--- the key at a place went, and no other
-pub ages_dropped : (moment : ℕ) (held rest : Entries) (place : ℕ) (e : KeyShape × Kept) (idle after : List KeyShape) → Some e ≡ slice_get held place → IsDistinct same_key (keys_of held) → place < length held →
-    ((d : KeyShape × Kept) → last_until (get_or held place d).1 ≤ moment) →
-    ((q : KeyShape) → kept_of q rest ≡ cond (same_key e.0 q) None (kept_of q held)) →
-    ((q : KeyShape) → list_any (same_key q) after ≡ (same_key e.0 q || list_any (same_key q) idle)) →
-    (key : KeyShape) → Ages moment (kept_of key held) (kept_of key rest) (list_any (same_key key) idle) (list_any (same_key key) after)
-ages_dropped moment held rest place e idle after there distinct within past without with_key key =
-    elim (cases_Bool (same_key e.0 key)) [
-      | inl same ↦ (
-          let is : e.0 ≡ key = (same_key-Decides e.0 key).0 same in
-          let found : kept_of e.0 held ≡ Some e.1 = lookup_from_place same_key_equiv held place e.0 e.1 distinct (sym there) in
-          let p = past e in
-          let at = get_or_from_slice_get held place e e (sym there) in
-          inr (
-            e.1,
-            ap (λ (k : KeyShape). kept_of k held) (sym is) ∙ found,
-            subst (λ (x : KeyShape × Kept). last_until x.1 ≤ moment) at p,
-            without key ∙ ap (λ (b : Bool). cond b None (kept_of key held)) same,
-            with_key key ∙ ap (λ (b : Bool). b || list_any (same_key key) idle) same,
-          ))
-      | inr other ↦ inl (
-        without key ∙ ap (λ (b : Bool). cond b None (kept_of key held)) other,
-        with_key key ∙ ap (λ (b : Bool). b || list_any (same_key key) idle) other,
-      )
-    ]
-
--- ---- entries
-
--- a new key stands last
-pub insert_last : (held : Entries) (key : KeyShape) (kept : Kept) → kept_of key held ≡ None → insert_entry same_key held key kept ≡ held ++ (key, kept) ∷ []
-insert_last [] key kept absent = refl
-insert_last (e ∷ held) key kept absent =
-    elim (cases_Bool (same_key key e.0)) [
-      | inl hit ↦ absurd (let first : Some e.1 ≡ None = rw hit at absent in cc)
-      | inr other ↦ rw other (ap (λ (es : Entries). e ∷ es) (insert_last held key kept (rw other at absent)))
-    ]
-
-pub keys-append : (some others : Entries) → keys_of (some ++ others) ≡ keys_of some ++ keys_of others
-keys-append [] others = refl
-keys-append (e ∷ some) others = ap (λ (ks : List KeyShape). e.0 ∷ ks) (keys-append some others)
-
-pub put_last : (held after : Entries) (key : KeyShape) (kept : Kept) (d : KeyShape × Kept) → after ≡ held ++ (key, kept) ∷ [] → get_or after (length held) d ≡ (key, kept)
-put_last held after key kept d is = ap (λ (es : Entries). get_or es (length held) d) is ∙ get_or-append_seam held (key, kept) [] d
-
-pub put_others : (held after : Entries) (key : KeyShape) (kept : Kept) (i : ℕ) (d : KeyShape × Kept) → after ≡ held ++ (key, kept) ∷ [] → i < length held → get_or after i d ≡ get_or held i d
-put_others held after key kept i d is within = ap (λ (es : Entries). get_or es i d) is ∙ get_or_append_left held ((key, kept) ∷ []) d i within
-
--- a key's copies are replaced by ones whose last is as late or later
-pub lasts_risen : (held : Entries) (key : KeyShape) (old new : Kept) → kept_of key held ≡ Some old → last_until old ≤ last_until new →
-    (i : ℕ) (d : KeyShape × Kept) → last_until (get_or held i d).1 ≤ last_until (get_or (set_value (same_key key) held new) i d).1
-lasts_risen [] key old new found up i d = absurd (let f = found in cc)
-lasts_risen (e ∷ held) key old new found up zero d =
-    elim (cases_Bool (same_key key e.0)) [
-      | inl hit ↦ (
-          let is : e.1 ≡ old = (let f : Some e.1 ≡ Some old = rw hit at found in cc) in
-          rw hit (subst (λ (k : Kept). last_until k ≤ last_until new) (sym is) up))
-      | inr other ↦ rw other (omega arith)
-    ]
-lasts_risen (e ∷ held) key old new found up (suc i) d =
-    elim (cases_Bool (same_key key e.0)) [
-      | inl hit ↦ rw hit (omega arith)
-      | inr other ↦ rw other (lasts_risen held key old new (rw other at found) up i d)
-    ]
-
--- a key's copies are replaced by ones with the same last
-pub lasts_same : (held : Entries) (key : KeyShape) (old new : Kept) → kept_of key held ≡ Some old → last_until new ≡ last_until old →
-    (i : ℕ) (d : KeyShape × Kept) → last_until (get_or (set_value (same_key key) held new) i d).1 ≡ last_until (get_or held i d).1
-lasts_same [] key old new found same i d = absurd (let f = found in cc)
-lasts_same (e ∷ held) key old new found same zero d =
-    elim (cases_Bool (same_key key e.0)) [
-      | inl hit ↦ (
-          let is : e.1 ≡ old = (let f : Some e.1 ≡ Some old = rw hit at found in cc) in
-          rw hit (same ∙ ap last_until (sym is)))
-      | inr other ↦ rw other refl
-    ]
-lasts_same (e ∷ held) key old new found same (suc i) d =
+-- the copies that a look-up finds
+pub kept_shown : (held : Held) (key : KeyShape) → kept_of key (copies_in held) ≡ kept_in (lookup (same_key key) held)
+kept_shown [] key = refl
+kept_shown (e ∷ held) key =
     elim (cases_Bool (same_key key e.0)) [
       | inl hit ↦ rw hit refl
-      | inr other ↦ rw other (lasts_same held key old new (rw other at found) same i d)
+      | inr other ↦ rw other (kept_shown held key)
     ]
+
+pub found_shown : (held : Held) (key : KeyShape) → is_some (lookup (same_key key) held) ≡ is_some (kept_of key (copies_in held))
+found_shown held key = found (lookup (same_key key) held) ∙ sym (ap (λ (o : Option Kept). is_some o) (kept_shown held key))
+  where
+    found : (o : Option (Timed Kept)) → is_some o ≡ is_some (kept_in o)
+    found None = refl
+    found (Some timed) = refl
+
+pub none_shown : (held : Held) (key : KeyShape) → lookup (same_key key) held ≡ None → kept_of key (copies_in held) ≡ None
+none_shown held key absent = kept_shown held key ∙ ap kept_in absent
+
+pub none_found : {X : Type 0} (o : Option X) → false ≡ is_some o → o ≡ None
+none_found None h = refl
+none_found (Some n) h = absurd (let e = h in cc)
+
+pub place_found : (key : KeyShape) (keys : List KeyShape) (place : ℕ) → Some place ≡ position (same_key key) keys → place ≡ position_or_len (same_key key) keys
+place_found key keys place found =
+    elim (cases_Bool (nat_lt (position_or_len (same_key key) keys) (length keys))) [
+      | inl within ↦ (let own : Some place ≡ Some (position_or_len (same_key key) keys) = rw within at found in cc)
+      | inr past ↦ absurd (let none : Some place ≡ None = rw past at found in cc)
+    ]
+
+-- the copies at the place of a key
+pub kept_at : (held : Held) (key : KeyShape) (place : ℕ) (kept : Kept) → place ≡ position_or_len (same_key key) (keys_of held) → kept_there (slice_get held place) ≡ Some kept → kept_of key (copies_in held) ≡ Some kept
+kept_at [] key place kept at there = absurd (let h = there in cc)
+kept_at (e ∷ held) key place kept at there =
+    elim (cases_Bool (same_key key e.0)) [
+      | inl hit ↦ (
+          let first : place ≡ 0 = rw hit at at in
+          rw hit (subst (λ (i : ℕ). kept_there (slice_get (e ∷ held) i) ≡ Some kept) first there))
+      | inr other ↦ (
+          let rest = position_or_len (same_key key) (keys_of held) in
+          let behind : place ≡ 1 + rest = rw other at at in
+          let next : place ≡ suc rest = omega (arith, behind) in
+          rw other (kept_at held key rest kept refl (subst (λ (i : ℕ). kept_there (slice_get (e ∷ held) i) ≡ Some kept) next there)))
+    ]
+
+-- copies written at the place of a key
+pub written_shown : (held : Held) (key : KeyShape) (place : ℕ) (kept : Kept) → place ≡ position_or_len (same_key key) (keys_of held) → copies_in (with_value_at held place kept) ≡ set_value (same_key key) (copies_in held) kept
+written_shown [] key place kept at = refl
+written_shown (e ∷ held) key place kept at =
+    elim (cases_Bool (same_key key e.0)) [
+      | inl hit ↦ (
+          let first : place ≡ 0 = rw hit at at in
+          ap (λ (i : ℕ). copies_in (with_value_at (e ∷ held) i kept)) first ∙ rw hit refl)
+      | inr other ↦ (
+          let rest = position_or_len (same_key key) (keys_of held) in
+          let behind : place ≡ 1 + rest = rw other at at in
+          let next : place ≡ suc rest = omega (arith, behind) in
+          ap (λ (i : ℕ). copies_in (with_value_at (e ∷ held) i kept)) next
+          ∙ ap (λ (es : Entries). (e.0, e.1.value) ∷ es) (written_shown held key rest kept refl)
+          ∙ rw other refl)
+    ]
+
+extended_shown : (held : Held) (place until : ℕ) → copies_in (extended_at held place until) ≡ copies_in held
+extended_shown [] place until = refl
+extended_shown (e ∷ held) zero until = refl
+extended_shown (e ∷ held) (suc place) until = ap (λ (es : Entries). (e.0, e.1.value) ∷ es) (extended_shown held place until)
+
+pub length_written : (held : Held) (place : ℕ) (kept : Kept) → length (with_value_at held place kept) ≡ length held
+length_written [] place kept = refl
+length_written (e ∷ held) zero kept = refl
+length_written (e ∷ held) (suc place) kept = ap suc (length_written held place kept)
+
+length_extended : (held : Held) (place until : ℕ) → length (extended_at held place until) ≡ length held
+length_extended [] place until = refl
+length_extended (e ∷ held) zero until = refl
+length_extended (e ∷ held) (suc place) until = ap suc (length_extended held place until)
+
+-- other copies with the same last
+pub tied_written : (held : Held) (place : ℕ) (old new : Kept) → kept_there (slice_get held place) ≡ Some old → last_until new ≡ last_until old → AreTied held → AreTied (with_value_at held place new)
+tied_written [] place old new there same tied i d low = absurd (omega (arith, low))
+tied_written (e ∷ held) zero old new there same tied zero d low =
+    let is : e.1.value ≡ old = (let h = there in cc) in
+    tied 0 e (omega arith) ∙ ap last_until is ∙ sym same
+tied_written (e ∷ held) zero old new there same tied (suc i) d low = tied (suc i) d low
+tied_written (e ∷ held) (suc place) old new there same tied zero d low = tied 0 e (omega arith)
+tied_written (e ∷ held) (suc place) old new there same tied (suc i) d low = tied_written held place old new there same (λ k x less. tied (suc k) x (omega (arith, less))) i d (omega (arith, low))
+
+-- a copy more, and the later second
+pub tied_put : (held : Held) (place : ℕ) (old new : Kept) (until : ℕ) → kept_there (slice_get held place) ≡ Some old → last_until new ≡ max (last_until old) until → AreTied held → AreTied (extended_at (with_value_at held place new) place until)
+tied_put [] place old new until there up tied i d low = absurd (omega (arith, low))
+tied_put (e ∷ held) zero old new until there up tied zero d low =
+    let is : e.1.value ≡ old = (let h = there in cc) in
+    let own : e.1.until ≡ last_until old = tied 0 e (omega arith) ∙ ap last_until is in
+    omega (arith, own, up)
+tied_put (e ∷ held) zero old new until there up tied (suc i) d low = tied (suc i) d low
+tied_put (e ∷ held) (suc place) old new until there up tied zero d low = tied 0 e (omega arith)
+tied_put (e ∷ held) (suc place) old new until there up tied (suc i) d low = tied_put held place old new until there up (λ k x less. tied (suc k) x (omega (arith, less))) i d (omega (arith, low))
+
+-- one key more
+pub length_new : (held after : Held) (key : KeyShape) (timed : Timed Kept) → after ≡ held ++ (key, timed) ∷ [] → kept_of key (copies_in held) ≡ None → length after ≡ cond (is_some (kept_of key (copies_in held))) (length held) (length held + 1)
+length_new held after key timed is absent =
+    let size : length after ≡ length (held ++ (key, timed) ∷ []) = ap (λ (es : Held). length es) is in
+    let more = length-append held ((key, timed) ∷ []) in
+    (let e : length after ≡ length held + 1 = omega (arith, size, more) in e)
+    ∙ sym (ap (λ (o : Option Kept). cond (is_some o) (length held) (length held + 1)) absent)
+
+-- what holds where a call succeeds
+pub on_ok : {T E : Type 0} (r : Result T E) (P Q : Type 0) → OnOk r P → (P → Q) → OnOk r Q
+on_ok (Ok value) P Q p then = then p
+on_ok (Err e) P Q p then = tt
+
+pub new_shown : (held after : Held) (key : KeyShape) (until : ℕ) (kept : Kept) → after ≡ held ++ (key, record { until = until; value = kept }) ∷ [] → copies_in after ≡ copies_in held ++ (key, kept) ∷ []
+new_shown held after key until kept is = ap copies_in is ∙ last held
+  where
+    last : (es : Held) → copies_in (es ++ (key, record { until = until; value = kept }) ∷ []) ≡ copies_in es ++ (key, kept) ∷ []
+    last [] = refl
+    last (e ∷ es) = ap (λ (xs : Entries). (e.0, e.1.value) ∷ xs) (last es)
+
+-- the test of two keys either way round
+pub other_way : (a b : KeyShape) → same_key a b ≡ false → same_key b a ≡ false
+other_way a b other =
+    elim (cases_Bool (same_key b a)) [
+      | inl hit ↦ absurd (
+          let same : b ≡ a = (same_key-Decides b a).0 hit in
+          let back : same_key a b ≡ true = (same_key-Decides a b).1 (sym same) in
+          let clash : true ≡ false = sym back ∙ other in cc)
+      | inr fails ↦ fails
+    ]
+
+-- what a look-up finds with a new key at the end
+kept_new : (entries : Entries) (key : KeyShape) (kept : Kept) → kept_of key entries ≡ None → kept_of key (entries ++ (key, kept) ∷ []) ≡ Some kept
+kept_new [] key kept absent = rw (same_key-Decides key key).1 refl
+kept_new (e ∷ entries) key kept absent =
+    elim (cases_Bool (same_key key e.0)) [
+      | inl hit ↦ absurd (let first : Some e.1 ≡ None = rw hit at absent in cc)
+      | inr other ↦ rw other (kept_new entries key kept (rw other at absent))
+    ]
+
+kept_others : (entries : Entries) (key other : KeyShape) (kept : Kept) → same_key other key ≡ false → kept_of other (entries ++ (key, kept) ∷ []) ≡ kept_of other entries
+kept_others [] key other kept miss = rw miss refl
+kept_others (e ∷ entries) key other kept miss =
+    elim (cases_Bool (same_key other e.0)) [
+      | inl hit ↦ rw hit refl
+      | inr else ↦ rw else (kept_others entries key other kept miss)
+    ]
+
+pub puts_new : (entries after : Entries) (key : KeyShape) (commit until : ℕ) (kept : Kept) → kept_of key entries ≡ None → after ≡ entries ++ (key, kept) ∷ [] → kept ≡ record { copies = (commit, until) ∷ []; capacity = 1 } → Puts key commit until entries after
+puts_new entries after key commit until kept absent is one = record {
+  copies = λ test.
+      ap (λ (es : Entries). greatest_in test (kept_of key es)) is
+      ∙ ap (greatest_in test) (kept_new entries key kept absent)
+      ∙ ap (λ (k : Kept). greatest test k.copies) one
+      ∙ by (test commit)
+      ∙ sym (ap (λ (o : Option Kept). max (greatest_in test o) (cond (test commit) until 0)) absent);
+  others = λ other miss. ap (λ (es : Entries). kept_of other es) is ∙ kept_others entries key other kept (other_way key other miss);
+}
+  where
+    by : (b : Bool) → cond b (max until 0) 0 ≡ max 0 (cond b until 0)
+    by true = (let e : max until 0 ≡ max 0 until = omega arith in e)
+    by false = (let e : 0 ≡ max 0 0 = omega arith in e)
+
+-- what a look-up finds where the copies of a key are replaced
+kept_set : (entries : Entries) (key asked : KeyShape) (old new : Kept) → kept_of key entries ≡ Some old → kept_of asked (set_value (same_key key) entries new) ≡ cond (same_key key asked) (Some new) (kept_of asked entries)
+kept_set entries key asked old new found = lookup-set_value same_key_equiv (same_key key) (same_key_equiv.congr key) asked new entries (subst (λ (o : Option Kept). IsSome o) (sym found) refl)
+
+pub puts_again : (entries after : Entries) (key : KeyShape) (commit until : ℕ) (old new : Kept) → kept_of key entries ≡ Some old → after ≡ set_value (same_key key) entries new →
+    ((test : ℕ → Bool) → greatest test new.copies ≡ max (greatest test old.copies) (cond (test commit) until 0)) → Puts key commit until entries after
+puts_again entries after key commit until old new found is put = record {
+  copies = λ test.
+      ap (λ (es : Entries). greatest_in test (kept_of key es)) is
+      ∙ ap (greatest_in test) (kept_set entries key key old new found)
+      ∙ ap (λ (b : Bool). greatest_in test (cond b (Some new) (kept_of key entries))) ((same_key-Decides key key).1 refl)
+      ∙ put test
+      ∙ sym (ap (λ (o : Option Kept). max (greatest_in test o) (cond (test commit) until 0)) found);
+  others = λ other miss.
+      ap (λ (es : Entries). kept_of other es) is
+      ∙ kept_set entries key other old new found
+      ∙ ap (λ (b : Bool). cond b (Some new) (kept_of other entries)) miss;
+}
+
+-- the copies after a put at the place of a key
+pub put_shown : (held after : Held) (key : KeyShape) (place until : ℕ) (new : Kept) → place ≡ position_or_len (same_key key) (keys_of held) → after ≡ extended_at (with_value_at held place new) place until →
+    copies_in after ≡ set_value (same_key key) (copies_in held) new
+put_shown held after key place until new at is = ap copies_in is ∙ extended_shown (with_value_at held place new) place until ∙ written_shown held key place new at
+
+pub length_put : (held after : Held) (place until : ℕ) (new : Kept) → after ≡ extended_at (with_value_at held place new) place until → length after ≡ length held
+length_put held after place until new is = ap (λ (es : Held). length es) is ∙ length_extended (with_value_at held place new) place until ∙ length_written held place new
+
+keys_set : (entries : Entries) (key : KeyShape) (new : Kept) → keys_of (set_value (same_key key) entries new) ≡ keys_of entries
+keys_set [] key new = refl
+keys_set (e ∷ entries) key new =
+    elim (cases_Bool (same_key key e.0)) [
+      | inl hit ↦ rw hit refl
+      | inr other ↦ rw other (ap (λ (ks : List KeyShape). e.0 ∷ ks) (keys_set entries key new))
+    ]
+
+pub distinct_set : (entries after : Entries) (key : KeyShape) (new : Kept) → after ≡ set_value (same_key key) entries new → IsDistinct same_key (keys_of entries) → IsDistinct same_key (keys_of after)
+distinct_set entries after key new is distinct = subst (λ (ks : List KeyShape). IsDistinct same_key ks) (sym (ap (λ (es : Entries). keys_of es) is ∙ keys_set entries key new)) distinct
+
+pub distinct_shown : (held : Held) → IsDistinct same_key (keys_of held) → IsDistinct same_key (keys_of (copies_in held))
+distinct_shown held distinct = subst (λ (ks : List KeyShape). IsDistinct same_key ks) (sym (keys_shown held)) distinct
 
 -- a key's copies are replaced by ones of which the same are unexpired
 pub held_same : (clock : ℕ) (held : Entries) (key : KeyShape) (old new : Kept) → kept_of key held ≡ Some old → filter (is_later clock) new.copies ≡ filter (is_later clock) old.copies →
@@ -246,10 +255,81 @@ held_same clock (e ∷ held) key old new found same =
       | inr other ↦ rw other (ap (λ (copies : List Copy). map (λ copy. (e.0, copy.0, copy.1)) (filter (is_later clock) e.1.copies) ++ copies) (held_same clock held key old new (rw other at found) same))
     ]
 
--- the greatest until after a put
-pub last_up : (old new : Kept) (commit until : ℕ) → ((test : ℕ → Bool) → greatest test new.copies ≡ max (greatest test old.copies) (cond (test commit) until 0)) → last_until old ≤ last_until new
-last_up old new commit until put = (let p = put (λ _. true) in omega (arith, p))
+-- what a trim of the copies of a key leaves
+pub trimmed : (clock : ℕ) (entries after : Entries) (key : KeyShape) (old new : Kept) → kept_of key entries ≡ Some old → after ≡ set_value (same_key key) entries new →
+    filter (is_later clock) new.copies ≡ filter (is_later clock) old.copies → last_until new ≡ last_until old → Trims clock key entries after
+trimmed clock entries after key old new found is later last = record {
+  keys = ap (λ (es : Entries). keys_of es) is ∙ keys_set entries key new;
+  held = ap (held_of clock) is ∙ held_same clock entries key old new found later;
+  last =
+      ap (λ (es : Entries). greatest_in (λ _. true) (kept_of key es)) is
+      ∙ ap (greatest_in (λ _. true)) (kept_set entries key key old new found)
+      ∙ ap (λ (b : Bool). greatest_in (λ _. true) (cond b (Some new) (kept_of key entries))) ((same_key-Decides key key).1 refl)
+      ∙ last
+      ∙ sym (ap (greatest_in (λ _. true)) found);
+  others = λ other miss.
+      ap (λ (es : Entries). kept_of other es) is
+      ∙ kept_set entries key other old new found
+      ∙ ap (λ (b : Bool). cond b (Some new) (kept_of other entries)) miss;
+}
 
--- the last of one copy
-pub last_one : (kept : Kept) (commit until : ℕ) → kept ≡ record { copies = (commit, until) ∷ []; capacity = 1 } → last_until kept ≡ until
-last_one kept commit until is = ap last_until is ∙ (let e : max until 0 ≡ until = omega arith in e)
+pub room_set : (entries after : Entries) (key : KeyShape) (old new : Kept) → kept_of key entries ≡ Some old → after ≡ set_value (same_key key) entries new → HasRoom new → IfSome (kept_of key after) HasRoom
+room_set entries after key old new found is room =
+    subst (λ (o : Option Kept). IfSome o HasRoom)
+    (sym (ap (λ (es : Entries). kept_of key es) is ∙ kept_set entries key key old new found ∙ ap (λ (b : Bool). cond b (Some new) (kept_of key entries)) ((same_key-Decides key key).1 refl))) room
+
+-- ---- what a moment does
+
+-- a step later
+pub ages_then : (moment : ℕ) (first second third : Option Kept) (a b c : Bool) → Ages moment first second a b → Ages moment second third b c → Ages moment first third a c
+ages_then moment first second third a b c (inl before) (inl after) = inl (after.0 ∙ before.0, after.1 ∙ before.1)
+ages_then moment first second third a b c (inl before) (inr (kept, is, past, gone, idle)) = inr (kept, sym before.0 ∙ is, past, gone, idle)
+ages_then moment first second third a b c (inr (kept, is, past, gone, idle)) (inl after) = inr (kept, is, past, after.0 ∙ gone, after.1 ∙ idle)
+ages_then moment first second third a b c (inr (kept, is, past, gone, idle)) (inr (other, other_is, other_past, other_gone, other_idle)) = inr (kept, is, past, other_gone, other_idle)
+
+-- the key whose last copy expired went, and no other
+pub ages_expired : (moment : ℕ) (key : KeyShape) (value : Kept) (held rest : Held) (idle after : List KeyShape) → AreTied held → IsDistinct same_key (keys_of (copies_in held)) → Expires moment key value held rest →
+    ((q : KeyShape) → list_any (same_key q) after ≡ (same_key key q || list_any (same_key q) idle)) →
+    (asked : KeyShape) → Ages moment (kept_of asked (copies_in held)) (kept_of asked (copies_in rest)) (list_any (same_key asked) idle) (list_any (same_key asked) after)
+ages_expired moment key value held rest idle after tied distinct expires with_key asked =
+    let perm : IsPermutation (copies_in held) ((key, value) ∷ copies_in rest) =
+    IsPermutation-map (λ (e : KeyShape × Timed Kept). (e.0, e.1.value)) held ((key, record { until = expires.until; value = value }) ∷ rest) expires.removed.parted in
+    let found : kept_of asked (copies_in held) ≡ kept_of asked ((key, value) ∷ copies_in rest) =
+    lookup_permutation same_key_equiv ((key, value) ∷ copies_in rest) (copies_in held) (IsPermutation-sym (copies_in held) ((key, value) ∷ copies_in rest) perm) distinct (same_key asked) (same_key_equiv.congr asked) in
+    elim (cases_Bool (same_key key asked)) [
+      | inl same ↦ (
+          let is : key ≡ asked = (same_key-Decides key asked).0 same in
+          let own : same_key asked key ≡ true = (same_key-Decides asked key).1 (sym is) in
+          let all = All-permutation (λ (e : KeyShape × Timed Kept). e.1.until ≡ last_until e.1.value) held ((key, record { until = expires.until; value = value }) ∷ rest) expires.removed.parted tied in
+          let last : expires.until ≡ last_until value = all 0 (key, record { until = expires.until; value = value }) (omega arith) in
+          let past = expires.past in
+          inr (
+            value,
+            found ∙ (rw own refl),
+            omega (arith, last, past),
+            ap (λ (k : KeyShape). kept_of k (copies_in rest)) (sym is) ∙ none_shown rest key expires.removed.absent,
+            with_key asked ∙ ap (λ (b : Bool). b || list_any (same_key asked) idle) same,
+          ))
+      | inr other ↦ (
+          let miss : same_key asked key ≡ false = other_way key asked other in
+          inl (
+            sym (found ∙ (rw miss refl)),
+            with_key asked ∙ ap (λ (b : Bool). b || list_any (same_key asked) idle) other,
+          ))
+    ]
+
+pub tied_rest : (moment : ℕ) (key : KeyShape) (value : Kept) (held rest : Held) → Expires moment key value held rest → AreTied held → AreTied rest
+tied_rest moment key value held rest expires tied k d low =
+    All-permutation (λ (e : KeyShape × Timed Kept). e.1.until ≡ last_until e.1.value) held ((key, record { until = expires.until; value = value }) ∷ rest) expires.removed.parted tied (suc k) d (omega (arith, low))
+
+pub fewer : (moment : ℕ) (key : KeyShape) (value : Kept) (held rest : Held) → Expires moment key value held rest → length held ≡ length rest + 1
+fewer moment key value held rest expires =
+    let size = length_permutation held ((key, record { until = expires.until; value = value }) ∷ rest) expires.removed.parted in
+    omega (arith, size)
+
+-- where no key leaves, none is past the moment
+pub unexpired_all : (moment : ℕ) (held : Held) → AreTied held → All (λ (e : KeyShape × Timed Kept). moment < e.1.until) held → AreUnexpired moment (copies_in held)
+unexpired_all moment held tied later key =
+    All-lookup (λ (kept : Kept). moment < last_until kept) (same_key key) (copies_in held)
+    (All-map (λ (e : KeyShape × Kept). moment < last_until e.1) (λ (e : KeyShape × Timed Kept). (e.0, e.1.value)) held
+    (λ k d low. (let t = tied k d low in let l = later k d low in omega (arith, t, l))))

@@ -1,39 +1,18 @@
 -- What an issue and a reserve leave.
-use Rattle.std.proofs.Common.{◌≡◌, ◌⊎◌, cond, ℕ, ◌+◌, ◌<◌, ◌≤◌, max, Bool, true, false, not, ◌&&◌, ◌||◌, List, [], ◌∷◌, ◌++◌, length, Option, Some, None, IfSome, is_some, find, Result, Ok, Err, OnOk, OnErr, option_to_list, refl, sym, ap, ◌∙◌, subst, arith, inl, inr}
+use Rattle.std.proofs.Common.{◌≡◌, ◌⊎◌, cond, ℕ, ◌+◌, ◌<◌, ◌≤◌, max, Bool, true, false, not, ◌&&◌, ◌||◌, List, [], ◌∷◌, ◌++◌, length, Option, Some, None, IfSome, is_some, refl, sym, ap, ◌∙◌, subst, arith, inl, inr}
 use Rattle.std.specs.List.{list_any, IsDistinct}
 use Rattle.std.specs.Map.{keys_of}
-use Rattle.std.specs.BinaryHeap.{IsHeap}
-use Rattle.std.specs.declared.cmp.Reverse.{Reverse}
 use Rattle.std.proofs.lemmas.Bool.{cases_Bool, lt-ltb}
-use Rattle.std.proofs.lemmas.List.Folds.{list_any-append}
-use Rattle.std.proofs.lemmas.Map.Made.{IfSome-find_same, is_some-lookup}
+use Rattle.std.proofs.lemmas.Map.Made.{is_some-lookup}
 use Rattle.std.proofs.lemmas.Map.Entries.{length-keys_of}
 use Rattle.query_normal.specs.declared.key.KeyShape.{KeyShape}
 use Rattle.query_normal.specs.Keys.{same_key}
 use Rattle.query_normal.specs.SameKey.{same_key-Decides}
 use Rattle.issued_expiries.specs.Copies.{SameCopies, active_keys, is_active, later_of, latest_where, with_copy}
 use Rattle.issued_expiries.specs.KeyCopies.{Kept, HasRoom, last_until}
-use Rattle.issued_expiries.specs.Due.{queue_cmp, IsCovered}
-use Rattle.issued_expiries.specs.Entries.{Entries, kept_of, held_of, greatest_in, AreUnexpired, AreGone, HaveRoom, IsSound, Puts, Trims}
-use Rattle.issued_expiries.proofs.HeldLemmas.{covered_risen}
+use Rattle.issued_expiries.specs.Entries.{Entries, copies_in, kept_of, held_of, greatest_in, AreTied, AreUnexpired, AreGone, HaveRoom, IsSound, Puts, Trims}
+use Rattle.issued_expiries.proofs.HeldLemmas.{Held, length_shown, other_way}
 use Rattle.issued_expiries.proofs.ViewLemmas.{if_above, later_above, latest_kept, active_kept, active_keys_kept}
-
--- ---- keys
-
--- what a set's look-up takes out is the key
-pub taken_is : (key copy : KeyShape) (keys : List KeyShape) → Some copy ≡ find (same_key key) keys → copy ≡ key
-taken_is key copy keys taken = subst (λ (o : Option KeyShape). IfSome o (λ k. k ≡ key)) (sym taken) (IfSome-find_same same_key-Decides key keys)
-
--- the test of two keys either way round
-pub other_way : (a b : KeyShape) → same_key a b ≡ false → same_key b a ≡ false
-other_way a b other =
-    elim (cases_Bool (same_key b a)) [
-      | inl hit ↦ absurd (
-          let same : b ≡ a = (same_key-Decides b a).0 hit in
-          let back : same_key a b ≡ true = (same_key-Decides a b).1 (sym same) in
-          let clash : true ≡ false = sym back ∙ other in cc)
-      | inr fails ↦ fails
-    ]
 
 -- ---- the copies after an issue
 
@@ -90,24 +69,23 @@ few_after None len after is few (inl there) = absurd (let clash : false ≡ true
 few_after None len after is few (inr less) = (let e : after ≡ len + 1 = is in omega (arith, e, less))
 few_after (Some kept) len after is few some = (let e : after ≡ len = is in omega (arith, e, few))
 
-pub sound_put : (clock : ℕ) (entries after : Entries) (queue queue_after : List (Reverse (ℕ × ℕ))) (reserved left idle busy : List KeyShape) (key : KeyShape) (commit until : ℕ) →
-    IsSound clock entries queue reserved idle → clock < until → Puts key commit until entries after →
+pub sound_put : (clock : ℕ) (held after : Held) (reserved left idle busy : List KeyShape) (key : KeyShape) (commit until : ℕ) →
+    IsSound clock held reserved idle → clock < until → Puts key commit until (copies_in held) (copies_in after) →
     ((q : KeyShape) → list_any (same_key q) left ≡ (not (same_key key q) && list_any (same_key q) reserved)) →
     ((q : KeyShape) → list_any (same_key q) busy ≡ (not (same_key key q) && list_any (same_key q) idle)) →
-    IsDistinct same_key (keys_of after) → IsHeap queue_cmp queue_after → IsCovered after queue_after →
-    length after ≡ cond (is_some (kept_of key entries)) (length entries) (length entries + 1) →
-    (is_active (held_of clock entries) key ≡ true) ⊎ (active_keys (held_of clock entries) < 1000000) →
-    IsSound clock after queue_after left busy
-sound_put clock entries after queue queue_after reserved left idle busy key commit until sound late puts left_is busy_is distinct ordered covered len few = record {
+    IsDistinct same_key (keys_of (copies_in after)) → AreTied after →
+    length after ≡ cond (is_some (kept_of key (copies_in held))) (length held) (length held + 1) →
+    (is_active (held_of clock (copies_in held)) key ≡ true) ⊎ (active_keys (held_of clock (copies_in held)) < 1000000) →
+    IsSound clock after left busy
+sound_put clock held after reserved left idle busy key commit until sound late puts left_is busy_is distinct tied len few = record {
   distinct = distinct;
   few =
-      few_after (kept_of key entries) (length entries) (length after) len sound.few (elim few [
-        | inl active ↦ inl (sym (active_kept clock entries key sound.distinct sound.unexpired) ∙ active)
-        | inr less ↦ inr (let e = active_keys_kept clock entries sound.distinct sound.unexpired in omega (arith, e, less))
+      few_after (kept_of key (copies_in held)) (length held) (length after) len sound.few (elim few [
+        | inl active ↦ inl (sym (active_kept clock (copies_in held) key sound.distinct sound.unexpired) ∙ active)
+        | inr less ↦ inr (let e = active_keys_kept clock (copies_in held) sound.distinct sound.unexpired in let n = length_shown held in omega (arith, e, n, less))
       ]);
-  unexpired = put_unexpired clock entries after key commit until late puts sound.unexpired;
-  ordered = ordered;
-  covered = covered;
+  tied = tied;
+  unexpired = put_unexpired clock (copies_in held) (copies_in after) key commit until late puts sound.unexpired;
   room = λ asked there. (
       let parts = left_of key asked (list_any (same_key asked) reserved) (list_any (same_key asked) left) (left_is asked) there in
       subst (λ (o : Option Kept). IfSome o HasRoom) (sym (puts.others asked parts.0)) (sound.room asked parts.1));
@@ -115,6 +93,18 @@ sound_put clock entries after queue queue_after reserved left idle busy key comm
       let parts = left_of key asked (list_any (same_key asked) idle) (list_any (same_key asked) busy) (busy_is asked) there in
       puts.others asked parts.0 ∙ sound.gone asked parts.1);
 }
+
+-- a reservation less
+pub sound_released : (clock : ℕ) (held after : Held) (reserved left idle : List KeyShape) (key : KeyShape) → after ≡ held →
+    ((q : KeyShape) → list_any (same_key q) left ≡ (not (same_key key q) && list_any (same_key q) reserved)) → IsSound clock held reserved idle → IsSound clock after left idle
+sound_released clock held after reserved left idle key is left_is sound = subst (λ (es : Held). IsSound clock es left idle) (sym is) (record {
+  distinct = sound.distinct;
+  few = sound.few;
+  tied = sound.tied;
+  unexpired = sound.unexpired;
+  room = λ asked there. sound.room asked (left_of key asked (list_any (same_key asked) reserved) (list_any (same_key asked) left) (left_is asked) there).1;
+  gone = sound.gone;
+})
 
 -- one key more at most
 pub len_after : (b : Bool) (len after : ℕ) → after ≡ cond b len (len + 1) → after ≤ len + 1
@@ -155,18 +145,17 @@ trim_unexpired clock key entries after trims unexpired asked =
     ]
 
 -- what was left out of the copies of a key leaves all sound
-pub sound_trimmed : (clock : ℕ) (key : KeyShape) (entries after : Entries) (queue : List (Reverse (ℕ × ℕ))) (reserved now idle : List KeyShape) → IsSound clock entries queue reserved idle → Trims clock key entries after →
-    HaveRoom now after → IsSound clock after queue now idle
-sound_trimmed clock key entries after queue reserved now idle sound trims room =
-    let len : length after ≡ length entries = sym (length-keys_of after) ∙ ap length trims.keys ∙ length-keys_of entries in
+pub sound_trimmed : (clock : ℕ) (key : KeyShape) (held after : Held) (reserved now idle : List KeyShape) → IsSound clock held reserved idle → Trims clock key (copies_in held) (copies_in after) → AreTied after →
+    HaveRoom now (copies_in after) → IsSound clock after now idle
+sound_trimmed clock key held after reserved now idle sound trims tied room =
+    let len : length (copies_in after) ≡ length (copies_in held) = sym (length-keys_of (copies_in after)) ∙ ap length trims.keys ∙ length-keys_of (copies_in held) in
     record {
       distinct = subst (λ (ks : List KeyShape). IsDistinct same_key ks) (sym trims.keys) sound.distinct;
-      few = (let f = sound.few in omega (arith, len, f));
-      unexpired = trim_unexpired clock key entries after trims sound.unexpired;
-      ordered = sound.ordered;
-      covered = covered_risen entries after queue len (λ i d. (let l = trims.lasts i d in omega (arith, l))) sound.covered;
+      few = (let f = sound.few in let n = length_shown held in let m = length_shown after in omega (arith, len, f, n, m));
+      tied = tied;
+      unexpired = trim_unexpired clock key (copies_in held) (copies_in after) trims sound.unexpired;
       room = room;
-      gone = λ asked there. none_kept entries after asked trims.keys (sound.gone asked there);
+      gone = λ asked there. none_kept (copies_in held) (copies_in after) asked trims.keys (sound.gone asked there);
     }
 
 -- the reserved keys have room still, of which none is the key
@@ -180,40 +169,42 @@ room_others clock key entries after reserved trims absent room asked there =
     ]
 
 -- and with the key
-pub room_with : {E : Type 0} (result : Result (Unit {0}) E) (key copy : KeyShape) (after : Entries) (reserved now : List KeyShape) → copy ≡ key → HaveRoom reserved after → IfSome (kept_of key after) HasRoom →
-    OnOk result ((other : KeyShape) → list_any (same_key other) now ≡ (same_key copy other || list_any (same_key other) reserved)) → OnErr result (now ≡ reserved) → HaveRoom now after
-room_with (Ok u) key copy after reserved now is room own ok err asked there =
-    elim (cases_Bool (same_key copy asked)) [
+pub room_with : (key : KeyShape) (after : Entries) (reserved now : List KeyShape) → HaveRoom reserved after → IfSome (kept_of key after) HasRoom →
+    ((other : KeyShape) → same_key key other ≡ false → list_any (same_key other) now ≡ list_any (same_key other) reserved) → HaveRoom now after
+room_with key after reserved now room own others asked there =
+    elim (cases_Bool (same_key key asked)) [
       | inl hit ↦ (
-          let same : key ≡ asked = sym is ∙ (same_key-Decides copy asked).0 hit in
+          let same : key ≡ asked = (same_key-Decides key asked).0 hit in
           subst (λ (k : KeyShape). IfSome (kept_of k after) HasRoom) same own)
-      | inr other ↦ room asked (sym (ok asked ∙ ap (λ (b : Bool). b || list_any (same_key asked) reserved) other) ∙ there)
+      | inr other ↦ room asked (sym (others asked other) ∙ there)
     ]
-room_with (Err e) key copy after reserved now is room own ok err asked there = room asked (sym (ap (list_any (same_key asked)) err) ∙ there)
 
 -- ---- an idle key that is given
-
-pub popped_is : (o : Option KeyShape) (old new : List KeyShape) → old ≡ new ++ option_to_list o → IfSome o (λ key. list_any (same_key key) old ≡ true)
-popped_is None old new is = tt
-popped_is (Some key) old new is =
-    ap (list_any (same_key key)) is
-    ∙ list_any-append (same_key key) new (key ∷ [])
-    ∙ ap (λ (b : Bool). list_any (same_key key) new || (b || false)) ((same_key-Decides key key).1 refl)
-    ∙ or_true (list_any (same_key key) new)
-  where
-    or_true : (a : Bool) → (a || true) ≡ true
-    or_true true = refl
-    or_true false = refl
 
 pub popped_inactive : (o : Option KeyShape) (clock : ℕ) (entries : Entries) (idle : List KeyShape) → IsDistinct same_key (keys_of entries) → AreUnexpired clock entries → AreGone idle entries → IfSome o (λ key. list_any (same_key key) idle ≡ true) →
     IfSome o (λ key. is_active (held_of clock entries) key ≡ false)
 popped_inactive None clock entries idle distinct unexpired gone there = tt
 popped_inactive (Some key) clock entries idle distinct unexpired gone there = active_kept clock entries key distinct unexpired ∙ ap (λ (o : Option Kept). is_some o) (gone key there)
 
--- all is sound after a stash
-pub sound_stashed : (clock : ℕ) (entries entries_after : Entries) (queue queue_after : List (Reverse (ℕ × ℕ))) (reserved idle idle_after : List KeyShape) → entries_after ≡ entries → queue_after ≡ queue → idle_after ≡ idle →
-    IsSound clock entries queue reserved idle → IsSound clock entries_after queue_after reserved idle_after
-sound_stashed clock entries entries_after queue queue_after reserved idle idle_after entries_is queue_is idle_is sound =
-    subst (λ (es : Entries). IsSound clock es queue_after reserved idle_after) (sym entries_is)
-    (subst (λ (q : List (Reverse (ℕ × ℕ))). IsSound clock entries q reserved idle_after) (sym queue_is)
-    (subst (λ (ks : List KeyShape). IsSound clock entries queue reserved ks) (sym idle_is) sound))
+-- all is sound with the same entries
+pub sound_same : (clock : ℕ) (held after : Held) (reserved idle idle_after : List KeyShape) → after ≡ held → idle_after ≡ idle → IsSound clock held reserved idle → IsSound clock after reserved idle_after
+sound_same clock held after reserved idle idle_after is idle_is sound =
+    subst (λ (es : Held). IsSound clock es reserved idle_after) (sym is) (subst (λ (ks : List KeyShape). IsSound clock held reserved ks) (sym idle_is) sound)
+
+-- after what expired was left out of the copies of a key that is not reserved
+pub sound_cut : (clock : ℕ) (key : KeyShape) (held after : Held) (reserved now idle idle_after : List KeyShape) → IsSound clock held reserved idle → Trims clock key (copies_in held) (copies_in after) → AreTied after →
+    list_any (same_key key) reserved ≡ false → now ≡ reserved → idle_after ≡ idle → IsSound clock after now idle_after
+sound_cut clock key held after reserved now idle idle_after sound trims tied absent same idle_is =
+    sound_same clock after after now idle idle_after refl idle_is
+    (sound_trimmed clock key held after reserved now idle sound trims tied
+    (subst (λ (ks : List KeyShape). HaveRoom ks (copies_in after)) (sym same) (room_others clock key (copies_in held) (copies_in after) reserved trims absent sound.room)))
+
+-- and the key was reserved
+pub sound_reserved : (clock : ℕ) (key : KeyShape) (held after last : Held) (reserved between now idle idle_after : List KeyShape) → IsSound clock held reserved idle → Trims clock key (copies_in held) (copies_in after) → AreTied after →
+    list_any (same_key key) reserved ≡ false → between ≡ reserved → idle_after ≡ idle → IfSome (kept_of key (copies_in after)) HasRoom →
+    ((other : KeyShape) → same_key key other ≡ false → list_any (same_key other) now ≡ list_any (same_key other) between) → last ≡ after → IsSound clock last now idle_after
+sound_reserved clock key held after last reserved between now idle idle_after sound trims tied absent same idle_is own others is =
+    let room = room_others clock key (copies_in held) (copies_in after) reserved trims absent sound.room in
+    sound_same clock after last now idle idle_after is idle_is
+    (sound_trimmed clock key held after reserved now idle sound trims tied
+    (room_with key (copies_in after) reserved now room own (λ other miss. others other miss ∙ ap (list_any (same_key other)) same)))

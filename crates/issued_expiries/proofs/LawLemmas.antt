@@ -1,5 +1,5 @@
 -- Copies that are the same whatever is asked.
-use Rattle.std.proofs.Common.{◌≡◌, cond, eqb, ℕ, ◌+◌, ◌≤◌, max, Bool, true, false, ◌&&◌, ◌||◌, List, [], ◌∷◌, map, Option, Some, None, is_some, refl, sym, ap, ◌∙◌, subst, arith, inl, inr}
+use Rattle.std.proofs.Common.{◌≡◌, cond, eqb, ltb, not, ℕ, ◌+◌, ◌≤◌, max, Bool, true, false, ◌&&◌, ◌||◌, List, [], ◌∷◌, map, Option, Some, None, is_some, refl, sym, ap, ◌∙◌, subst, arith, inl, inr}
 use Rattle.std.specs.List.{list_any, AllByRecursion, IsDistinct}
 use Rattle.std.specs.Set.{unique_keys, is_member}
 use Rattle.std.proofs.lemmas.Bool.{cases_Bool, cases_lt, lt-ltb, le-ltb, eq-eqb, eqb-true}
@@ -9,8 +9,8 @@ use Rattle.query_normal.specs.declared.key.KeyShape.{KeyShape}
 use Rattle.query_normal.specs.Keys.{same_key}
 use Rattle.query_normal.specs.SameKey.{same_key_equiv}
 use Rattle.issued_expiries.specs.Copies.{Copy, SameCopies, active_keys, is_active, later_of, latest_where, unexpired, until_at, with_copy}
-use Rattle.issued_expiries.specs.Expiries.{Issued}
-use Rattle.issued_expiries.specs.Events.{Event, issue, advance, EndsAs, clock_after, copies_of}
+use Rattle.issued_expiries.specs.Expiries.{Issued, is_idle}
+use Rattle.issued_expiries.specs.Events.{Event, issue, advance, give, forget, EndsAs, clock_after, copies_of, was_active, went_idle}
 use Rattle.issued_expiries.proofs.ViewLemmas.{only_above, only_again, active_is, active-map, latest_unexpired}
 
 -- ---- they stay the same
@@ -49,6 +49,8 @@ pub clock_ends : (events : List Event) (after : Issued) → EndsAs events after 
 clock_ends [] after ends = ap (λ (i : Issued). i.clock) ends
 clock_ends (issue key commit until ∷ events) after (before, ends, follows) = follows.0 ∙ clock_ends events before ends
 clock_ends (advance moment ∷ events) after (before, ends, follows) = follows.0 ∙ ap (λ (n : ℕ). max n moment) (clock_ends events before ends)
+clock_ends (give key ∷ events) after (before, ends, follows) = ap (λ (i : Issued). i.clock) follows.0 ∙ clock_ends events before ends
+clock_ends (forget ∷ events) after (before, ends, follows) = ap (λ (i : Issued). i.clock) follows ∙ clock_ends events before ends
 
 pub held_ends : (events : List Event) (after : Issued) → EndsAs events after → SameCopies after.held (unexpired (clock_after events) (copies_of events))
 held_ends [] after ends = λ key test. ap (λ (i : Issued). latest_where key test i.held) ends
@@ -65,6 +67,10 @@ held_ends (advance moment ∷ events) after (before, ends, follows) =
     (same_then (unexpired (max (clock_after events) moment) before.held) (unexpired (max (clock_after events) moment) (unexpired (clock_after events) (copies_of events))) (unexpired (max (clock_after events) moment) (copies_of events))
     (same_later before.held (unexpired (clock_after events) (copies_of events)) (max (clock_after events) moment) (held_ends events before ends))
     (later_again (clock_after events) (max (clock_after events) moment) (copies_of events) (omega arith))))
+held_ends (give key ∷ events) after (before, ends, follows) =
+    subst (λ (copies : List Copy). SameCopies copies (unexpired (clock_after events) (copies_of events))) (sym (ap (λ (i : Issued). i.held) follows.0)) (held_ends events before ends)
+held_ends (forget ∷ events) after (before, ends, follows) =
+    subst (λ (copies : List Copy). SameCopies copies (unexpired (clock_after events) (copies_of events))) (sym (ap (λ (i : Issued). i.held) follows)) (held_ends events before ends)
 
 -- ---- they answer alike
 
@@ -102,6 +108,26 @@ pub count_alike : (a b : List Copy) → SameCopies a b → active_keys a ≡ act
 count_alike a b same =
     length-from_keys same_key_equiv (unique_keys same_key (map (λ copy. copy.0) a)) (map (λ copy. copy.0) b) (distinct_unique (map (λ copy. copy.0) a)) (λ key. (
     member_unique (map (λ copy. copy.0) a) key ∙ active-map a key ∙ active_alike a b key same ∙ sym (active-map b key)))
+
+-- ---- the idle keys
+
+active_ends : (events : List Event) (after : Issued) (key : KeyShape) → EndsAs events after → is_active after.held key ≡ was_active events key
+active_ends events after key ends = active_alike after.held (unexpired (clock_after events) (copies_of events)) key (held_ends events after ends)
+
+pub idle_ends : (events : List Event) (after : Issued) (key : KeyShape) → EndsAs events after → is_idle after key ≡ went_idle events key
+idle_ends [] after key ends = ap (λ (i : Issued). is_idle i key) ends
+idle_ends (issue other commit until ∷ events) after key (before, ends, follows) =
+    follows.2 key
+    ∙ ap (λ (n : ℕ). not (same_key other key && ltb n until) && is_idle before key) (clock_ends events before ends)
+    ∙ ap (λ (b : Bool). not (same_key other key && ltb (clock_after events) until) && b) (idle_ends events before key ends)
+idle_ends (advance moment ∷ events) after key (before, ends, follows) =
+    follows.2 key
+    ∙ ap (λ (b : Bool). is_idle before key || is_active before.held key && not b) (active_ends (advance moment ∷ events) after key (before, ends, follows))
+    ∙ ap (λ (b : Bool). is_idle before key || b && not (was_active (advance moment ∷ events) key)) (active_ends events before key ends)
+    ∙ ap (λ (b : Bool). b || was_active events key && not (was_active (advance moment ∷ events) key)) (idle_ends events before key ends)
+idle_ends (give other ∷ events) after key (before, ends, follows) =
+    follows.2 key ∙ ap (λ (b : Bool). not (same_key other key) && b) (idle_ends events before key ends)
+idle_ends (forget ∷ events) after key (before, ends, follows) = ap (λ (i : Issued). is_idle i key) follows
 
 -- ---- commit by commit
 

@@ -1,14 +1,12 @@
 -- What is kept of keys: the copies of each, of which at least one is unexpired.
-use Rattle.std.specs.Prelude.{◌≡◌, ◌⊎◌, ℕ, ◌<◌, ◌≤◌, Bool, true, false, max, if◌then◌else◌, List, [], ◌∷◌, ◌++◌, length, map, filter, slice_index_or, Option, Some, None, IfSome}
+use Rattle.std.specs.Prelude.{◌≡◌, ◌⊎◌, ℕ, ◌<◌, ◌≤◌, Bool, true, false, max, if◌then◌else◌, List, [], ◌∷◌, ◌++◌, length, map, filter, All, Option, Some, None, IfSome}
 use Rattle.std.specs.List.{list_any, IsDistinct}
 use Rattle.std.specs.Map.{lookup, keys_of}
-use Rattle.std.specs.declared.cmp.Reverse.{Reverse}
-use Rattle.std.specs.BinaryHeap.{IsHeap}
 use Rattle.query_normal.specs.declared.key.KeyShape.{KeyShape}
 use Rattle.query_normal.specs.Keys.{same_key}
 use Rattle.issued_expiries.specs.Copies.{Copy}
 use Rattle.issued_expiries.specs.KeyCopies.{Kept, HasRoom, greatest, is_later, last_until}
-use Rattle.issued_expiries.specs.Due.{queue_cmp, IsCovered}
+use Rattle.expiring_map.specs.declared.timed.Timed.{Timed}
 
 -- keys, each with its copies
 abbrev pub Entries : Type 0
@@ -40,15 +38,22 @@ HaveRoom reserved entries = (key : KeyShape) → list_any (same_key key) reserve
 abbrev pub AreGone : List KeyShape → Entries → Type 0
 AreGone idle entries = (key : KeyShape) → list_any (same_key key) idle ≡ true → kept_of key entries ≡ None
 
--- the queue covers the places of the keys, of which each has an unexpired copy
-pub record IsSound (clock : ℕ) (entries : Entries) (queue : List (Reverse (ℕ × ℕ))) (reserved idle : List KeyShape) : Type 0 where
-  pub distinct : IsDistinct same_key (keys_of entries)
-  pub few : length entries ≤ 1000000
-  pub unexpired : AreUnexpired clock entries
-  pub ordered : IsHeap queue_cmp queue
-  pub covered : IsCovered entries queue
-  pub room : HaveRoom reserved entries
-  pub gone : AreGone idle entries
+-- the keys of a map, each with its copies
+abbrev pub copies_in : List (KeyShape × Timed Kept) → Entries
+copies_in held = map (λ e. (e.0, e.1.value)) held
+
+-- each key leaves when its last copy expires
+abbrev pub AreTied : List (KeyShape × Timed Kept) → Type 0
+AreTied held = All (λ e. e.1.until ≡ last_until e.1.value) held
+
+-- each key has an unexpired copy and leaves with its last one
+pub record IsSound (clock : ℕ) (held : List (KeyShape × Timed Kept)) (reserved idle : List KeyShape) : Type 0 where
+  pub distinct : IsDistinct same_key (keys_of (copies_in held))
+  pub few : length held ≤ 1000000
+  pub tied : AreTied held
+  pub unexpired : AreUnexpired clock (copies_in held)
+  pub room : HaveRoom reserved (copies_in held)
+  pub gone : AreGone idle (copies_in held)
 
 -- what a moment does to a key: it stays as it was, or its last copy expired and it became idle
 abbrev pub Ages : ℕ → Option Kept → Option Kept → Bool → Bool → Type 0
@@ -70,6 +75,5 @@ pub record Puts (key : KeyShape) (commit until : ℕ) (before after : Entries) :
 pub record Trims (clock : ℕ) (key : KeyShape) (before after : Entries) : Type 0 where
   pub keys : keys_of after ≡ keys_of before
   pub held : held_of clock after ≡ held_of clock before
-  pub lasts : (i : ℕ) (d : KeyShape × Kept) → last_until (slice_index_or after i d).1 ≡ last_until (slice_index_or before i d).1
   pub last : greatest_in (λ _. true) (kept_of key after) ≡ greatest_in (λ _. true) (kept_of key before)
   pub others : (other : KeyShape) → same_key key other ≡ false → kept_of other after ≡ kept_of other before

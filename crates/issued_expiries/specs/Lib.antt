@@ -1,5 +1,4 @@
 pub mod Copies
-pub mod Due
 pub mod Entries
 pub mod Events
 pub mod Expiries

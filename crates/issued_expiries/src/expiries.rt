@@ -1,5 +1,5 @@
 //! The unexpired copies of all keys.
-ghost use Rattle.std.specs.Prelude.{◌≡◌, ◌⊎◌, ℕ, ◌+◌, ◌*◌, ◌<◌, ◌≤◌, max, not, ◌&&◌, ◌||◌, if◌then◌else◌, nat_lt, true, false, [], IsTrue, IfOk, OnOk, OnErr, IfSome, IfNone, All, length};
+ghost use Rattle.std.specs.Prelude.{◌≡◌, ◌⊎◌, ℕ, ◌+◌, ◌^◌, ◌<◌, ◌≤◌, max, not, ◌&&◌, ◌||◌, if◌then◌else◌, nat_lt, true, false, [], IsTrue, IfOk, OnOk, OnErr, IfSome, IfNone, All, length};
 ghost use Rattle.std.specs.List.{list_any};
 ghost use Rattle.std.specs.BinaryHeap.{heap_items, heap_len, heap_capacity};
 ghost use Rattle.indexmap.specs.IndexMap.{index_map_len, spare};
@@ -10,14 +10,12 @@ ghost use Rattle.issued_expiries.specs.Copies.{SameCopies, active_keys, is_activ
 ghost use Rattle.issued_expiries.specs.Expiries.{none_issued, is_idle, is_reserved};
 
 use crate::held::{Held, expire, make_room, put};
-use crate::key_sets::{leave_out, take_all, take_one};
-use crate::queue::Queue;
-use crate::reserved::Reserved;
-use indexmap::{IndexMap, IndexSet};
+use expiring_map::ExpiringMap;
+use expiring_map::key_sets::{leave_out, take_all, take_one};
+use indexmap::IndexSet;
 use q_base::{Commit, Memory, Moment};
 use query_normal::Key;
 use std::alloc::Global;
-use std::collections::BinaryHeap;
 use std::marker::Model;
 
 /// The copies that were issued of keys and are not expired, and the keys of which none is left.
@@ -26,33 +24,29 @@ pub struct Expiries {
     alloc: Global,
     clock: u64,
     held: Held,
-    queue: Queue,
-    reserved: Reserved,
     idle: IndexSet<Key>,
 }
 
 impl Model for Expiries {
-    ghost use Rattle.std.specs.Prelude.{◌+◌, ◌*◌, ◌≤◌, length};
-    ghost use Rattle.std.specs.BinaryHeap.{heap_items, heap_len, heap_capacity};
-    ghost use Rattle.indexmap.specs.IndexMap.{index_map_len, spare};
+    ghost use Rattle.std.specs.Prelude.{◌+◌, ◌≤◌, length};
     ghost use Rattle.indexmap.specs.IndexSet.{spare as set_spare};
-    ghost use Rattle.issued_expiries.specs.Entries.{IsSound, held_of};
+    ghost use Rattle.q_base.specs.declared.moment.TheConstants.{GREATEST_SECONDS};
+    ghost use Rattle.issued_expiries.specs.Entries.{IsSound, copies_in, held_of};
     ghost use Rattle.issued_expiries.specs.Expiries.{Issued};
 
     ghost Value = { Issued };
 
     ghost view = { λ e. record {
       clock = e.clock;
-      held = held_of e.clock e.held.entries;
-      reserved = e.reserved;
+      held = held_of e.clock (copies_in e.held.entries);
+      reserved = e.held.reserved;
       idle = e.idle.keys;
     } };
 
     ghost invariant = { λ e. record {
-      sound : IsSound e.clock e.held.entries (heap_items e.queue) e.reserved e.idle.keys;
-      map_room : length e.reserved ≤ spare e.held;
-      idle_room : index_map_len e.held + length e.reserved ≤ set_spare e.idle;
-      queue_room : heap_len e.queue + index_map_len e.held + 2 * length e.reserved ≤ heap_capacity e.queue;
+      capped : e.clock ≤ GREATEST_SECONDS;
+      sound : IsSound e.clock e.held.entries e.held.reserved e.idle.keys;
+      idle_room : length e.held.entries + length e.held.reserved ≤ set_spare e.idle;
     } };
 }
 
@@ -64,9 +58,7 @@ impl Expiries {
         Ok(Expiries {
             alloc,
             clock: 0,
-            held: IndexMap::new(alloc),
-            queue: BinaryHeap::new(alloc),
-            reserved: Reserved::new(alloc),
+            held: ExpiringMap::new(alloc),
             idle: IndexSet::new(alloc),
         })
     }
@@ -79,18 +71,12 @@ impl Expiries {
         ensures rest { self.new ≡ record self.old { reserved = self.new.reserved } }
         ensures err { OnErr result (self.new ≡ self.old) }
     {
-        if self.reserved.contains(key) {
+        if self.held.reserves(key) {
             return Ok(());
         }
-        let copy = key.clone()?;
         make_room(&mut self.held, self.alloc, key, self.clock)?;
-        stash(
-            &mut self.held,
-            &mut self.queue,
-            &mut self.idle,
-            &mut self.reserved,
-            copy,
-        )
+        reserve_idle(&mut self.idle, self.held.len(), self.held.reserved())?;
+        self.held.reserve(key)
     }
 
     /// Holds a copy of a reserved key at a commit until a second, if that is later than the clock. A
@@ -103,19 +89,12 @@ impl Expiries {
         ensures reserved { (other : AKey) → is_reserved self.new other ≡ (not (same_key key.now other) && is_reserved self.old other) }
         ensures clock { self.new.clock ≡ self.old.clock }
     {
-        let copy = self.reserved.take(key);
         if until <= self.clock {
+            self.held.release(key);
             return;
         }
         leave_out(&mut self.idle, key);
-        put(
-            &mut self.held,
-            &mut self.queue,
-            self.alloc,
-            copy,
-            commit,
-            until,
-        );
+        put(&mut self.held, self.alloc, key, commit, until);
     }
 
     /// Moves the clock forward to a moment. The copies that are not later expire, and each key of
@@ -129,15 +108,22 @@ impl Expiries {
         let seconds = moment.seconds();
         if self.clock < seconds {
             self.clock = seconds;
-            expire(&mut self.held, &mut self.idle, &mut self.queue, seconds);
+            expire(&mut self.held, &mut self.idle, moment);
         }
+    }
+
+    /// The greatest moment so far.
+    pub fn clock(&self) -> Moment
+        ensures { result ≡ self.now.clock }
+    {
+        Moment::of(self.clock)
     }
 
     /// Whether the key has an unexpired copy.
     pub fn active(&self, key: &Key) -> bool
         ensures { result ≡ is_active self.now.held key.now }
     {
-        self.held.contains_key(key)
+        self.held.contains(key)
     }
 
     /// How many keys have an unexpired copy.
@@ -155,7 +141,7 @@ impl Expiries {
         ensures { result ≡ latest_of self.now.held key.now from below }
     {
         match self.held.get(key) {
-            Some(copies) => later_than(copies.greatest(from, below), self.clock),
+            Some(timed) => later_than(timed.value.greatest(from, below), self.clock),
             None => None,
         }
     }
@@ -182,7 +168,7 @@ impl Expiries {
     pub fn forget_reserved(&mut self)
         ensures { self.new ≡ record self.old { reserved = [] } }
     {
-        self.reserved.clear();
+        self.held.forget_reserved();
     }
 }
 
@@ -193,31 +179,14 @@ fn later_than(until: u64, clock: u64) -> Option<u64>
     if clock < until { Some(until) } else { None }
 }
 
-/// Keeps a key of which a copy is to be issued, with room for it wherever it may go.
-fn stash(
-    held: &mut Held,
-    queue: &mut Queue,
-    idle: &mut IndexSet<Key>,
-    reserved: &mut Reserved,
-    key: Key,
-) -> Result<(), Memory>
-    requires map_room { length reserved.old ≤ spare held.old }
-    requires idle_room { index_map_len held.old + length reserved.old ≤ set_spare idle.old }
-    requires queue_room { heap_len queue.old + index_map_len held.old + 2 * length reserved.old ≤ heap_capacity queue.old }
-    ensures entries { held.new.entries ≡ held.old.entries }
-    ensures items { heap_items queue.new ≡ heap_items queue.old }
-    ensures idle { idle.new.keys ≡ idle.old.keys }
-    ensures map_room { length reserved.new ≤ spare held.new }
-    ensures idle_room { index_map_len held.new + length reserved.new ≤ set_spare idle.new }
-    ensures queue_room { heap_len queue.new + index_map_len held.new + 2 * length reserved.new ≤ heap_capacity queue.new }
-    ensures ok { OnOk result ((other : AKey) → list_any (same_key other) reserved.new ≡ (same_key key other || list_any (same_key other) reserved.old)) }
-    ensures err { OnErr result (reserved.new ≡ reserved.old) }
+/// Makes room for each held key, each reserved key and one more among the idle ones.
+fn reserve_idle(idle: &mut IndexSet<Key>, held: usize, reserved: usize) -> Result<(), Memory>
+    requires { reserved ≤ 2 ^ 63 }
+    ensures keys { idle.new.keys ≡ idle.old.keys }
+    ensures room { OnOk result (held + reserved + 1 ≤ set_spare idle.new) }
+    ensures spare { set_spare idle.old ≤ set_spare idle.new }
 {
-    let more = reserved.len() + 1;
-    let keys = more.checked_add(held.len()).ok_or(Memory)?;
-    let places = more.checked_add(keys).ok_or(Memory)?;
-    held.reserve(more)?;
+    let keys = held.checked_add(reserved + 1).ok_or(Memory)?;
     idle.reserve(keys)?;
-    queue.reserve(places)?;
-    reserved.add(key)
+    Ok(())
 }

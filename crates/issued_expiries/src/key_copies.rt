@@ -12,8 +12,6 @@ use std::marker::Model;
 /// memory of its own.
 #[derive(Debug, Drop)]
 pub struct KeyCopies {
-    /// The greatest until of all.
-    last: u64,
     commit: u64,
     until: u64,
     /// The copies at other commits.
@@ -21,14 +19,12 @@ pub struct KeyCopies {
 }
 
 impl Model for KeyCopies {
-    ghost use Rattle.std.specs.Prelude.{◌≡◌, ◌+◌, ◌∷◌, true};
-    ghost use Rattle.issued_expiries.specs.KeyCopies.{Kept, greatest};
+    ghost use Rattle.std.specs.Prelude.{◌+◌, ◌∷◌};
+    ghost use Rattle.issued_expiries.specs.KeyCopies.{Kept};
 
     ghost Value = { Kept };
 
     ghost view = { λ c. record { copies = (c.commit, c.until) ∷ c.others.copies; capacity = c.others.capacity + 1 } };
-
-    ghost invariant = { λ c. c.last ≡ greatest (λ _. true) ((c.commit, c.until) ∷ c.others.copies) };
 }
 
 impl KeyCopies {
@@ -37,18 +33,10 @@ impl KeyCopies {
         ensures { result ≡ record { copies = (commit, until) ∷ []; capacity = 1 } }
     {
         KeyCopies {
-            last: until,
             commit,
             until,
             others: SortedCopies::new(alloc),
         }
-    }
-
-    /// The greatest until of all.
-    pub fn last(&self) -> u64
-        ensures { result ≡ last_until self.now }
-    {
-        self.last
     }
 
     /// The greatest until of a copy at or above a commit and below another, or 0 without one. It
@@ -72,7 +60,6 @@ impl KeyCopies {
         ensures capacity { self.new.capacity ≡ self.old.capacity }
         ensures len { length self.new.copies ≤ length self.old.copies + 1 }
     {
-        self.last = self.last.max(until);
         if commit == self.commit {
             self.until = self.until.max(until);
         } else {

@@ -2,14 +2,16 @@
 ghost use Rattle.std.specs.Prelude.{◌≡◌, ◌↔◌, ℕ, List};
 ghost use Rattle.query_normal.specs.declared.key.KeyShape.{KeyShape as AKey};
 ghost use Rattle.issued_expiries.specs.Copies.{Copy, SameCopies, active_keys, is_active, latest_of, unexpired, until_at, with_copy};
-ghost use Rattle.issued_expiries.specs.Events.{Event, EndsAs, clock_after, copies_of};
-ghost use Rattle.issued_expiries.specs.Expiries.{Issued};
+ghost use Rattle.issued_expiries.specs.Events.{Event, EndsAs, clock_after, copies_of, went_idle};
+ghost use Rattle.issued_expiries.specs.Expiries.{Issued, is_idle};
 
-/// After any list of issues and advances the clock is the greatest moment, and what is asked of the
-/// copies is what the list of all that were issued and are unexpired answers.
+/// After any list of issues, advances and idle keys that were given the clock is the greatest moment,
+/// and what is asked of the copies is what the list of all that were issued and are unexpired answers.
+/// The idle keys are those that an advance made inactive, are so still, and were not given since.
 pub fn calls_leave_the_unexpired_copies()
     ensures clock { (events : List Event) (after : Issued) → EndsAs events after → after.clock ≡ clock_after events }
     ensures held { (events : List Event) (after : Issued) → EndsAs events after → SameCopies after.held (unexpired (clock_after events) (copies_of events)) }
+    ensures idle { (events : List Event) (after : Issued) (key : AKey) → EndsAs events after → is_idle after key ≡ went_idle events key }
 {}
 
 /// Copies that are the same whatever is asked give the same answers.

@@ -4,11 +4,8 @@
 mod expiries;
 mod held;
 mod key_copies;
-mod key_sets;
 mod laws;
 mod maxima;
-mod queue;
-mod reserved;
 mod sorted_copies;
 
 pub use expiries::Expiries;

@@ -1,3 +1,4 @@
+pub mod Moment
 pub mod Name
-pub mod NameBytes
+pub mod NameRefusal
 pub mod Positions

@@ -12,10 +12,14 @@ is_name_byte byte = (nat_le 97 byte && nat_le byte 122) || (nat_le 48 byte && na
 abbrev pub first_bad : List ℕ → Option ℕ
 first_bad bytes = position (λ byte. not (is_name_byte byte)) bytes
 
+-- the most bytes of a name
+abbrev pub most_name_bytes : ℕ
+most_name_bytes = 64
+
 -- 1 to 64 such bytes
 pub record IsName (bytes : List ℕ) : Type 0 where
   pub some : 1 ≤ length bytes
-  pub few : length bytes ≤ 64
+  pub few : length bytes ≤ most_name_bytes
   pub good : first_bad bytes ≡ None
 
 -- the name that bytes of a fitting number are, or the first byte that no name has
@@ -27,4 +31,4 @@ name_unless bytes (Some place) = Err (BadByte place)
 abbrev pub read_name : List ℕ → Result (List ℕ) NameRefusal
 read_name bytes =
     if length bytes == 0 then Err Empty
-    else (if nat_lt 64 (length bytes) then Err (TooLong (length bytes)) else name_unless bytes (first_bad bytes))
+    else (if nat_lt most_name_bytes (length bytes) then Err (TooLong (length bytes)) else name_unless bytes (first_bad bytes))

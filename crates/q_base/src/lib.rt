@@ -11,7 +11,7 @@ mod tests;
 mod text;
 
 pub use memory::Memory;
-pub use moment::{Commit, Moment};
+pub use moment::{Commit, GREATEST_SECONDS, Moment};
 pub use name::{Name, NameRefusal};
 pub use positions::{Positions, positions_of};
 pub use shared_text::SharedText;

@@ -1,5 +1,6 @@
 //! Moments, and the numbers of commits.
 ghost use Rattle.std.specs.Prelude.{◌≡◌, ◌≤◌, min};
+ghost use Rattle.q_base.specs.Moment.{greatest_moment};
 
 use std::marker::Model;
 
@@ -17,13 +18,13 @@ pub struct Moment {
 
 impl Model for Moment {
     ghost use Rattle.std.specs.Prelude.{ℕ, ◌≤◌};
-    ghost use Rattle.q_base.specs.declared.moment.TheConstants.{GREATEST_SECONDS};
+    ghost use Rattle.q_base.specs.Moment.{greatest_moment};
 
     ghost Value = { ℕ };
 
     ghost view = { λ m. m.seconds };
 
-    ghost invariant = { λ m. m.seconds ≤ GREATEST_SECONDS };
+    ghost invariant = { λ m. m.seconds ≤ greatest_moment };
 
     ghost inverse = { λ n. record { seconds = n } };
 }
@@ -31,7 +32,7 @@ impl Model for Moment {
 impl Moment {
     /// The moment so many seconds after 1970 began; a greater number than the greatest is taken as that.
     pub fn of(seconds: u64) -> Moment
-        ensures { result ≡ min seconds GREATEST_SECONDS }
+        ensures { result ≡ min seconds greatest_moment }
     {
         Moment {
             seconds: seconds.min(GREATEST_SECONDS),
@@ -41,7 +42,7 @@ impl Moment {
     /// The seconds since 1970 began.
     pub fn seconds(self) -> u64
         ensures same { result ≡ self }
-        ensures capped { result ≤ GREATEST_SECONDS }
+        ensures capped { result ≤ greatest_moment }
     {
         self.seconds
     }

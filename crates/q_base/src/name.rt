@@ -1,5 +1,5 @@
 //! The names of collections and of the documents in them.
-ghost use Rattle.std.specs.Prelude.{◌≡◌, ◌⊎◌, ◌≤◌, length, nat_eq, Some, refl, IfOk};
+ghost use Rattle.std.specs.Prelude.{◌≡◌, ◌⊎◌, nat_eq, Some, refl, IfOk};
 ghost use Rattle.q_base.specs.Name.{IsName, read_name, is_name_byte, first_bad};
 ghost use Rattle.std.specs.Ordering.{nat_cmp};
 ghost use Rattle.std.specs.Cmp.{partial_equiv_from_equiv};
@@ -8,6 +8,7 @@ ghost use Rattle.std.specs.Cmp.Rules.{hashing};
 ghost use Rattle.std.specs.Hash as fed;
 ghost use Rattle.std.proofs.Common.{rules};
 
+use short_text::ShortText;
 use std::alloc::{AllocError, Global};
 use std::cmp::Ordering;
 use std::error::Error;
@@ -18,34 +19,22 @@ use std::marker::Model;
 /// The most bytes that a name has.
 pub const MOST_NAME_BYTES: usize = 64;
 
-/// The most bytes of a name that takes no memory beside its value.
-const SHORT: usize = 22;
-
 /// The name of a collection or of a document: 1 to 64 bytes of `a` to `z`, `0` to `9`, `_` and `-`.
 /// It is 24 bytes large, and takes memory only where it has more than 22 bytes.
 #[derive(Drop)]
 pub struct Name {
-    kept: Kept,
-}
-
-/// Where the bytes are.
-#[derive(Drop)]
-enum Kept {
-    /// In place, and behind them what no one reads.
-    Short { len: u8, bytes: [u8; SHORT] },
-    Long(Box<Vec<u8>>),
+    text: ShortText,
 }
 
 impl Model for Name {
     ghost use Rattle.std.specs.Prelude.{ℕ, List};
     ghost use Rattle.q_base.specs.Name.{IsName};
-    ghost use Rattle.q_base.specs.NameBytes.{kept_bytes, IsKept};
 
     ghost Value = { List ℕ };
 
-    ghost view = { λ n. kept_bytes n.kept };
+    ghost view = { λ n. n.text };
 
-    ghost invariant = { λ n. record { kept : IsKept n.kept; valid : IsName (kept_bytes n.kept) } };
+    ghost invariant = { λ n. IsName n.text };
 }
 
 /// Why bytes are no name. The first that holds, in this order, is the answer.
@@ -63,11 +52,16 @@ pub enum NameRefusal {
         /// The offset of the first such byte.
         place: usize,
     },
-    /// Want of memory. A name needs none, so no call answers this.
+    /// There was no memory for the name, which takes some where it has more than 22 bytes.
     Memory,
 }
 
 impl fmt::Display for NameRefusal {
+    ghost use Rattle.std.specs.Prelude.{Some};
+    ghost use Rattle.q_base.specs.NameRefusal.{sentence};
+
+    ghost output = { λ e. Some (sentence e) };
+
     fn fmt<W: fmt::Write>(&self, f: &mut fmt::Formatter<W>) -> fmt::Result {
         match self {
             NameRefusal::Empty => write!(f, "a name has at least one byte"),
@@ -113,40 +107,18 @@ impl Name {
         requires { IsName bytes.now }
         ensures { IfOk result (λ name. name ≡ bytes.now) }
     {
-        if bytes.len() <= SHORT {
-            Ok(Name::short(bytes))
-        } else {
-            Ok(Name {
-                kept: Kept::Long(Box::new(alloc, Vec::from_slice(alloc, bytes)?)?),
-            })
-        }
-    }
-
-    fn short(text: &[u8]) -> Name
-        requires name { IsName text.now }
-        requires short { length text.now ≤ SHORT }
-        ensures { result ≡ text.now }
-    {
-        let len = text.len();
-        let mut bytes = [0u8; SHORT];
-        bytes[..len].copy_from_slice(text);
-        Name {
-            kept: Kept::Short {
-                len: len as u8,
-                bytes,
-            },
-        }
+        Ok(Name {
+            text: ShortText::from_slice(alloc, bytes)?,
+        })
     }
 
     /// The bytes of the name.
+    #[inline]
     pub fn as_slice(&self) -> &[u8]
         ensures same { result.now ≡ self.now }
         ensures is_name { IsName self.now }
     {
-        match &self.kept {
-            Kept::Short { len, bytes } => &bytes[..*len as usize],
-            Kept::Long(bytes) => bytes.as_slice(),
-        }
+        self.text.as_slice()
     }
 }
 
@@ -175,15 +147,11 @@ impl fmt::Debug for Name {
 impl Clone for Name {
     ghost is_clone = { λ s t. s ≡ t };
 
+    #[inline]
     fn clone(&self) -> Result<Name, AllocError> {
-        let kept = match &self.kept {
-            Kept::Short { len, bytes } => Kept::Short {
-                len: *len,
-                bytes: *bytes,
-            },
-            Kept::Long(bytes) => Kept::Long(bytes.clone()?),
-        };
-        Ok(Name { kept })
+        Ok(Name {
+            text: self.text.clone()?,
+        })
     }
 }
 

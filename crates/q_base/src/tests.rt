@@ -3,6 +3,9 @@
 use crate::{Name, SharedText, positions_of};
 use std::test::Fail;
 
+// The size that the README tells.
+const _: () = prove!(size_of::<Name>() == 24);
+
 #[test]
 fn positions_are_those_of_the_vectors(rt: HostRuntime) -> Result<(), Fail> {
     let cases: [(&[u8], u8, u8, &[u32]); 14] = [

@@ -1,5 +1,9 @@
 pub mod ConvertLemmas
+pub mod DataLength
+pub mod LexedLength
+pub mod NodeLength
 pub mod PrintedLaws
+pub mod PrintedLength
 pub mod ReadData
 pub mod ReadingLemmas
 pub mod ReadsBack
@@ -7,3 +11,4 @@ pub mod StandardFacts
 pub mod TreeLemmas
 pub mod WholeDocument
 pub mod WholeLemmas
+pub mod WordLength

@@ -19,7 +19,7 @@ use Rattle.q_doc.specs.Document.{FitsI64, IsValue, AreValues, AreMembers, HasTex
 use Rattle.q_doc.specs.Found.{found, whole}
 use Rattle.q_doc.specs.Judged.{judged, judged_found, or_not_whole}
 use Rattle.q_doc.specs.Printed.{data_of, items_data, members_data, printed, tokens_of}
-use Rattle.q_doc.specs.declared.doc.TheConstants.{MAX_LENGTH, MAX_DEPTH}
+use Rattle.q_doc.specs.Limits.{longest_document, deepest_document}
 use Rattle.q_doc.specs.declared.refusal.DocRefusal.TheVariants.{TooLong, TooDeep}
 use Rattle.q_doc.proofs.ReadData.{found-IsRead, IsRead}
 use Rattle.q_doc.proofs.WholeLemmas.{document_whole}
@@ -92,10 +92,10 @@ mutual
 -- ---- the laws
 
 -- a printed document that is not too long is read as that document
-pub printed_reads : (t : Tree) → IsPlainDocument t → HasTexts t → length (printed t) ≤ MAX_LENGTH → judged (printed t) ≡ Ok t
+pub printed_reads : (t : Tree) → IsPlainDocument t → HasTexts t → length (printed t) ≤ longest_document → judged (printed t) ≡ Ok t
 printed_reads t h texts short = reads_back t (printed t) h (value_utf8 t h.value texts) (tokens-printed t h.value) short
 
-object_judged : (ms : json.Members) (t : Tree) (deep : Bool) (tree : Option Tree) → IsRead (json.object ms) → nat_lt MAX_DEPTH (json.depth (json.object ms)) ≡ deep → whole (json.object ms) ≡ tree
+object_judged : (ms : json.Members) (t : Tree) (deep : Bool) (tree : Option Tree) → IsRead (json.object ms) → nat_lt deepest_document (json.depth (json.object ms)) ≡ deep → whole (json.object ms) ≡ tree
     → cond deep (Err (TooDeep (json.depth (json.object ms)))) (or_not_whole tree) ≡ Ok t → IsPlainDocument t
 object_judged ms t true tree h test is e = absurd (cc)
 object_judged ms t false None h test is e = absurd (cc)

@@ -21,7 +21,7 @@ use Rattle.q_doc.specs.Tree.{Tree, null, boolean, number, text, array, object, I
 use Rattle.q_doc.specs.Document.{FitsI64, PrecedesMembers, IsValue, AreValues, AreMembers, IsPlainDocument}
 use Rattle.q_doc.specs.Judged.{judged, judged_found}
 use Rattle.q_doc.specs.Printed.{data_of, items_data, members_data}
-use Rattle.q_doc.specs.declared.doc.TheConstants.{MAX_LENGTH, MAX_DEPTH}
+use Rattle.q_doc.specs.Limits.{longest_document, deepest_document}
 use Rattle.q_doc.proofs.ReadData.{Precedes}
 use Rattle.q_doc.proofs.WholeLemmas.{whole-data_of, depth-data_of}
 
@@ -116,7 +116,7 @@ mutual
 -- ---- the text
 
 -- a text with the tokens of a document holds its JSON value
-read_back : (t : Tree) (bytes : List ℕ) → IsValue t → depth t ≤ MAX_DEPTH → tokens bytes ≡ grammar_tree.json_tokens (outline (data_of t)) → read bytes ≡ Some (data_of t)
+read_back : (t : Tree) (bytes : List ℕ) → IsValue t → depth t ≤ deepest_document → tokens bytes ≡ grammar_tree.json_tokens (outline (data_of t)) → read bytes ≡ Some (data_of t)
 read_back t bytes value shallow same =
     let j = outline (data_of t) in
     let fits : grammar_tree.depth j ≤ 127 = omega (arith, depth-outline (data_of t), depth-data_of t) in
@@ -134,9 +134,9 @@ judged_back (number z) h = absurd (let e = h.object in cc)
 judged_back (text s) h = absurd (let e = h.object in cc)
 judged_back (array ts) h = absurd (let e = h.object in cc)
 judged_back (object ms) h =
-    rw (not_above MAX_DEPTH (json.depth (data_of (object ms))) (omega (arith, depth-data_of (object ms), h.depth)), whole-data_of (object ms) h.value)
+    rw (not_above deepest_document (json.depth (data_of (object ms))) (omega (arith, depth-data_of (object ms), h.depth)), whole-data_of (object ms) h.value)
 
 -- a UTF-8 text with the tokens of a document, and not too long, is read as that document
-pub reads_back : (t : Tree) (bytes : List ℕ) → IsPlainDocument t → IsUtf8 bytes → tokens bytes ≡ grammar_tree.json_tokens (outline (data_of t)) → length bytes ≤ MAX_LENGTH → judged bytes ≡ Ok t
+pub reads_back : (t : Tree) (bytes : List ℕ) → IsPlainDocument t → IsUtf8 bytes → tokens bytes ≡ grammar_tree.json_tokens (outline (data_of t)) → length bytes ≤ longest_document → judged bytes ≡ Ok t
 reads_back t bytes h utf8 same short =
-    rw (not_above MAX_LENGTH (length bytes) short, is_utf8-from_IsUtf8 bytes utf8, read_back t bytes h.value h.depth same) (judged_back t h)
+    rw (not_above longest_document (length bytes) short, is_utf8-from_IsUtf8 bytes utf8, read_back t bytes h.value h.depth same) (judged_back t h)

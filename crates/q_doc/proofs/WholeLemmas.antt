@@ -8,7 +8,7 @@ use Rattle.q_doc.specs.Tree.{Tree, null, boolean, number, text, array, object, I
 use Rattle.q_doc.specs.Document.{FitsI64, PrecedesMembers, IsValue, AreValues, AreMembers, IsPlainDocument}
 use Rattle.q_doc.specs.Found.{whole, whole_items, whole_members}
 use Rattle.q_doc.specs.Printed.{data_of, items_data, members_data}
-use Rattle.q_doc.specs.declared.doc.TheConstants.{MAX_DEPTH}
+use Rattle.q_doc.specs.Limits.{deepest_document}
 use Rattle.q_doc.proofs.ReadData.{of_option_map, of_and_then, NumberFits, Precedes, IsRead, ItemsAreRead, MembersAreRead}
 
 -- ---- from a JSON value to its tree
@@ -84,7 +84,7 @@ object_whole (json.array ds) t h e = absurd (cc)
 object_whole (json.object ms) t h e = let ts = of_option_map object (whole_members ms) t e in ap is_object (sym ts.2)
 
 -- an object that was read, is not too deep and has whole numbers is a document
-pub document_whole : (d : json.Data) (t : Tree) → IsRead d → whole d ≡ Some t → is_some (as_object d) ≡ true → json.depth d ≤ MAX_DEPTH → IsPlainDocument t
+pub document_whole : (d : json.Data) (t : Tree) → IsRead d → whole d ≡ Some t → is_some (as_object d) ≡ true → json.depth d ≤ deepest_document → IsPlainDocument t
 document_whole d t h e is_an_object shallow = record {
   object = object_whole d t is_an_object e;
   depth = omega (arith, depth_whole d t e);

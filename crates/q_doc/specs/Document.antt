@@ -5,7 +5,7 @@ use Rattle.std.specs.declared.cmp.Ordering.TheVariants.{Less}
 use Rattle.std.specs.Cmp.Lexicographic.{slice_cmp}
 use Rattle.std.specs.Str.{IsUtf8}
 use Rattle.q_doc.specs.Tree.{Tree, null, boolean, number, text, array, object, Items, no_items, item, Members, no_members, member, is_object, depth}
-use Rattle.q_doc.specs.declared.doc.TheConstants.{MAX_DEPTH}
+use Rattle.q_doc.specs.Limits.{deepest_document}
 
 -- the number fits 64 bits with a sign
 abbrev pub FitsI64 : ℤ → Type 0
@@ -62,9 +62,5 @@ abbrev mutual
 -- the value is a document
 pub record IsPlainDocument (t : Tree) : Type 0 where
   pub object : is_object t ≡ true
-  pub depth : depth t ≤ MAX_DEPTH
+  pub depth : depth t ≤ deepest_document
   pub value : IsValue t
-
--- what is kept of each document: it is one, and its texts are UTF-8
-abbrev pub IsDocument : Tree → Type 0
-IsDocument t = IsPlainDocument t × HasTexts t

@@ -3,7 +3,7 @@ use Rattle.std.specs.Prelude.{◌≡◌, ◌⊎◌, ℕ, length, List, Option, S
 use Rattle.serde_json.specs.Data as json
 use Rattle.q_doc.specs.Tree.{Tree}
 use Rattle.q_doc.specs.Found.{found, whole}
-use Rattle.q_doc.specs.declared.doc.TheConstants.{MAX_LENGTH, MAX_DEPTH}
+use Rattle.q_doc.specs.Limits.{longest_document, deepest_document}
 use Rattle.q_doc.specs.declared.refusal.DocRefusal.{DocRefusal}
 use Rattle.q_doc.specs.declared.refusal.DocRefusal.TheVariants.{TooLong, NotJson, NotObject, TooDeep, NotWhole, Memory}
 
@@ -15,7 +15,7 @@ or_not_whole (Some t) = Ok t
 -- an object, unless it nests too deep
 abbrev pub judged_object : json.Members → Result Tree DocRefusal
 judged_object ms =
-    if nat_lt MAX_DEPTH (json.depth (json.object ms))
+    if nat_lt deepest_document (json.depth (json.object ms))
     then Err (TooDeep (json.depth (json.object ms)))
     else or_not_whole (whole (json.object ms))
 
@@ -36,7 +36,7 @@ judged_found (Some d) = judged_data d
 -- the answer to a text, but for want of memory
 abbrev pub judged : List ℕ → Result Tree DocRefusal
 judged bytes =
-    if nat_lt MAX_LENGTH (length bytes)
+    if nat_lt longest_document (length bytes)
     then Err (TooLong (length bytes))
     else judged_found (found bytes)
 

@@ -3,7 +3,7 @@ pub mod DocRefusal
 pub mod Document
 pub mod Found
 pub mod Judged
-pub mod NodeText
+pub mod Limits
 pub mod Order
 pub mod OrderLaws
 pub mod Path
@@ -12,5 +12,6 @@ pub mod Printed
 pub mod Reading
 pub mod Shape
 pub mod ShapeFalls
+pub mod Stored
 pub mod TextOrder
 pub mod Tree

@@ -1,5 +1,5 @@
 -- The text that a value is printed as: the JSON of `serde_json`, with no blanks.
-use Rattle.std.specs.Prelude.{ℕ, List}
+use Rattle.std.specs.Prelude.{ℕ, List, Bool, ◌||◌, ◌==◌}
 use Rattle.json.specs.Token.{Token}
 use Rattle.json.specs.Tree.{json_tokens}
 use Rattle.json.specs.Tree as grammar
@@ -46,3 +46,9 @@ items_tokens ts = grammar.items_tokens (items_outline (items_data ts))
 -- of each member, and the closing bracket
 abbrev pub members_tokens : Members → List Token
 members_tokens ms = grammar.members_tokens (members_outline (members_data ms))
+
+-- ---- for private clauses: what needs an escape
+
+-- whether a byte is escaped by a backslash and one letter or sign
+abbrev pub has_letter : ℕ → Bool
+has_letter x = x == 34 || x == 92 || x == 8 || x == 12 || x == 10 || x == 13 || x == 9

@@ -1,13 +1,16 @@
 //! A document: an object within the limits, whose keys are in order.
 ghost use Rattle.std.specs.Prelude.{◌≡◌, ◌⊎◌, ◌≤◌, length, IfOk};
-ghost use Rattle.q_doc.specs.Document.{IsPlainDocument, HasTexts, IsDocument};
+ghost use Rattle.q_doc.specs.Document.{IsPlainDocument, HasTexts};
 ghost use Rattle.q_doc.specs.Found.{found};
 ghost use Rattle.q_doc.specs.Judged.{judged, judged_found};
+ghost use Rattle.q_doc.specs.Limits.{longest_document};
 ghost use Rattle.q_doc.specs.Printed.{printed};
+ghost use Rattle.q_doc.specs.Stored.{IsStored};
 
 use crate::convert::{depth_of, node_of, value_of};
 use crate::node::Node;
 use crate::print::write_node;
+use crate::print_length::length_of;
 use crate::reading::{Halt, ReadRoom, object_in};
 use crate::refusal::{DocRefusal, Memory};
 use crate::text::Text;
@@ -40,7 +43,7 @@ impl Model for Doc {
     ghost use Rattle.std.specs.Arc.{arc_value};
     ghost use Rattle.q_doc.specs.Tree.{Tree};
     ghost use Rattle.q_doc.specs.Code.{tree_code};
-    ghost use Rattle.q_doc.specs.Document.{IsDocument};
+    ghost use Rattle.q_doc.specs.Stored.{IsStored};
 
     ghost Value = { Tree };
 
@@ -48,21 +51,23 @@ impl Model for Doc {
 
     ghost view = { λ a. (arc_value a.root).node };
 
-    ghost invariant = { λ a. IsDocument (arc_value a.root).node };
+    ghost invariant = { λ a. IsStored (arc_value a.root).node (arc_value a.root).length };
 }
 
 impl Doc {
     /// Reads a document. Of equal keys in one object the last value stays, and the keys are put in
     /// order.
     pub fn read(alloc: Global, text: &[u8]) -> Result<Doc, DocRefusal>
-        ensures { (result ≡ Err DocRefusal.Memory) ⊎ (result ≡ judged text.now) }
+        ensures judged { (result ≡ Err DocRefusal.Memory) ⊎ (result ≡ judged text.now) }
+        ensures no_longer { IfOk result (λ t. length (printed t) ≤ length text.now) }
     {
         Doc::read_with(alloc, text, &mut ReadRoom::new(alloc))
     }
 
     /// Reads a document as `read` does, in a room that is lent to one read after another.
     pub fn read_with(alloc: Global, text: &[u8], room: &mut ReadRoom) -> Result<Doc, DocRefusal>
-        ensures { (result ≡ Err DocRefusal.Memory) ⊎ (result ≡ judged text.now) }
+        ensures judged { (result ≡ Err DocRefusal.Memory) ⊎ (result ≡ judged text.now) }
+        ensures no_longer { IfOk result (λ t. length (printed t) ≤ length text.now) }
     {
         if text.len() > MAX_LENGTH {
             return Err(DocRefusal::TooLong { length: text.len() });
@@ -77,6 +82,7 @@ impl Doc {
     /// Reads a document the long way, by its JSON value, which tells each cause of refusal.
     #[cold]
     fn read_any(alloc: Global, text: &[u8]) -> Result<Doc, DocRefusal>
+        requires { length text.now ≤ MAX_LENGTH }
         ensures { (result ≡ Err DocRefusal.Memory) ⊎ (result ≡ judged_found (found text.now)) }
     {
         let value = match value_of(alloc, text) {
@@ -98,7 +104,7 @@ impl Doc {
 
     /// The document with this value, which was read from a text of this length.
     fn of(alloc: Global, node: Node, length: usize) -> Result<Doc, DocRefusal>
-        requires { IsDocument node }
+        requires { IsStored node length }
         ensures { (result ≡ Err DocRefusal.Memory) ⊎ (result ≡ Ok node) }
     {
         match Arc::new(alloc, Root { node, length }) {
@@ -110,7 +116,7 @@ impl Doc {
     /// The document as compact JSON, with the keys of each object in the order of their bytes.
     pub fn print(&self, alloc: Global) -> Result<Text, Memory>
         ensures text { IfOk result (λ s. s ≡ printed self.now) }
-        ensures reads_back { IfOk result (λ s. length s ≤ MAX_LENGTH → judged s ≡ Ok self.now) }
+        ensures reads_back { IfOk result (λ s. judged s ≡ Ok self.now) }
     {
         let root = &*self.root;
         let mut out = Writer::new(Vec::with_capacity(alloc, root.length)?);
@@ -120,11 +126,19 @@ impl Doc {
         Ok(Text::of(bytes))
     }
 
+    /// The length of the printed document, in bytes. It takes no memory, and as long as printing.
+    pub fn printed_len(&self) -> usize
+        ensures { result ≡ length (printed self.now) }
+    {
+        length_of(&self.root.node)
+    }
+
     /// The document's value, which is an object.
     pub fn root(&self) -> &Node
         ensures same { result.now ≡ self.now }
         ensures document { IsPlainDocument self.now }
         ensures texts { HasTexts self.now }
+        ensures short { length (printed self.now) ≤ longest_document }
     {
         &self.root.node
     }

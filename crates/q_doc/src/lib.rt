@@ -11,6 +11,7 @@ mod node_text;
 mod order;
 mod path;
 mod print;
+mod print_length;
 mod reading;
 mod refusal;
 #[cfg(test)]

@@ -5,6 +5,22 @@ use Rattle.q_base.specs.Positions.{positions_of}
 use Rattle.query_normal.specs.declared.key.KeyShape.{KeyShape}
 use Rattle.query_normal.specs.Keys.{key_text}
 
+-- the least exponent of a page's size: a page has 2 ^ exponent bits
+abbrev pub least_log2_bits : ℕ
+least_log2_bits = 10
+
+-- the greatest
+abbrev pub most_log2_bits : ℕ
+most_log2_bits = 22
+
+-- the fewest hashes of a page
+abbrev pub fewest_hashes : ℕ
+fewest_hashes = 1
+
+-- the most
+abbrev pub most_hashes : ℕ
+most_hashes = 16
+
 -- the front up to which commits were matched, the number of commits, the clock, and 2 ^ log2_bits bits
 pub record Page : Type 0 where
   pub log2_bits : ℕ

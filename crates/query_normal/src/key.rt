@@ -41,8 +41,8 @@ impl Model for Shared {
     ghost invariant = { λ s. record { text : s.text.items ≡ key_text s.shape; valid : IsKey s.shape } };
 }
 
-/// A key, which keeps its text. Contracts see its shape: keys are compared by value, and hashed by
-/// their text. A copy shares what the key keeps, so that it takes no memory.
+/// A key, which keeps its text. Contracts see its shape: keys are compared by their shapes, and hashed
+/// by their texts. A copy shares what the key keeps, so that it takes no memory.
 #[derive(Debug, Drop)]
 pub struct Key {
     shared: Arc<Shared>,
@@ -178,7 +178,7 @@ impl PartialEq for Key {
     ghost laws = { partial_equiv_from_equiv same_key_equiv };
 
     fn eq(&self, other: &Key) -> bool {
-        self.text() == other.text()
+        self.shape() == other.shape()
     }
 }
 

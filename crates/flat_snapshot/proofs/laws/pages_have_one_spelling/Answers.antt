@@ -1,5 +1,4 @@
-use Rattle.std.proofs.Common.{◌≡◌, List, ℕ, Ok, sym, subst, ap, ◌∙◌}
-use Rattle.query_normal.specs.Pages.{Page}
+use Rattle.std.proofs.Common.{sym, subst, ap, ◌∙◌}
 use Rattle.flat_snapshot.specs.PageText.{IsPage, page_text}
 use Rattle.flat_snapshot.specs.Reading.{read_page}
 use Rattle.flat_snapshot.proofs.ReadLemmas.{taken-from_read}

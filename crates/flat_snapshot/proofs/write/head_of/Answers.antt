@@ -1,5 +1,4 @@
-use Rattle.std.proofs.Common.{◌≡◌, ◌∷◌, [], ◌++◌, List, ℕ, ap, ap₂, ◌∙◌, get_or, sym, refl}
-use Rattle.std.specs.Int.{w64, to_be_bytes}
+use Rattle.std.proofs.Common.{refl}
 use Rattle.flat_snapshot.specs.PageText.{head_text}
 use Rattle.flat_snapshot.proofs.write.head_of.Goals as goal
 

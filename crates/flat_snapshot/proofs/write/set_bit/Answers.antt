@@ -1,4 +1,4 @@
-use Rattle.std.proofs.Common.{◌≡◌, ◌++◌, ◌+◌, ◌/◌, ◌%◌, ◌^◌, ◌<◌, List, ℕ, set, get_or, bit_or, sym, ap, ◌∙◌, arith}
+use Rattle.std.proofs.Common.{◌+◌, ◌/◌, ◌%◌, ◌^◌, List, ℕ, set, get_or, bit_or, sym, ap, ◌∙◌, arith}
 use Rattle.flat_snapshot.specs.PageText.{head_text}
 use Rattle.query_normal.proofs.BitLemmas.{shifted_one}
 use Rattle.flat_snapshot.proofs.WriteLemmas.{length-head_text, set_in_page, eights}

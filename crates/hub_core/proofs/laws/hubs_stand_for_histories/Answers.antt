@@ -1,9 +1,9 @@
--- the state of a longer history is that after its last entry
-use Rattle.std.proofs.Common.{◌≡◌, ◌++◌, ◌∷◌, [], sym, ap, ◌∙◌, subst}
+-- the state of a longer history is that after its further entries
+use Rattle.std.proofs.Common.{◌≡◌, ◌++◌, sym, ap, ◌∙◌, subst}
 use Rattle.hub_model.specs.Legal.{IsLegal}
 use Rattle.hub_model.specs.Setting.{Setting}
 use Rattle.hub_model.specs.State.{State}
-use Rattle.hub_model.specs.Step.{after, state_of}
+use Rattle.hub_model.specs.Step.{after_all, state_of}
 use Rattle.hub_core.specs.Standing.{IsAt}
 use Rattle.hub_core.proofs.laws.hubs_stand_for_histories.Goals as goal
 
@@ -14,11 +14,11 @@ returns-clause-begins c = λ h at. record {
 }
 
 pub returns-clause-goes_on : goal.returns-clause-goes_on
-returns-clause-goes_on c = λ h new history e stands may setting step.
-    let longer = history ++ e ∷ [] in
-    let more : after h.setting (state_of h.setting history) e ≡ state_of new.setting longer =
-    sym (c.one_entry_more.ensures.state h.setting history e) ∙ ap (λ (g : Setting). state_of g longer) (sym setting) in
+returns-clause-goes_on c = λ h new history more represents may setting step.
+    let longer = history ++ more in
+    let there : after_all h.setting (state_of h.setting history) more ≡ state_of new.setting longer =
+    sym (c.more_entries.ensures.state h.setting history more) ∙ ap (λ (g : Setting). state_of g longer) (sym setting) in
     record {
-      state = subst (λ (s : State). IsAt new s) more (step (state_of h.setting history) stands.state);
-      legal = subst (λ (g : Setting). IsLegal g longer) (sym setting) ((c.one_entry_more.ensures.legal h.setting history e).1 (stands.legal, may));
+      state = subst (λ (s : State). IsAt new s) there (step (state_of h.setting history) represents.state);
+      legal = subst (λ (g : Setting). IsLegal g longer) (sym setting) ((c.more_entries.ensures.legal h.setting history more).1 (represents.legal, may));
     }

@@ -2,8 +2,7 @@
 use Rattle.std.proofs.Common.{List, ◌≡◌, ◌∙◌, ap, max, if◌then◌else◌, rules}
 use Rattle.query_normal.specs.Keys.{same_key}
 use Rattle.issued_expiries.specs.Copies.{Copy}
-use Rattle.hub_core.specs.Handed.{Handed, until_below}
-use Rattle.hub_core.specs.Standing.{until_in}
+use Rattle.hub_core.specs.Handed.{Handed, until_below, until_in}
 use Rattle.hub_core.proofs.MatchLemmas.{marked-take}
 use Rattle.hub_core.proofs.marks.mark_all.Goals as goal
 

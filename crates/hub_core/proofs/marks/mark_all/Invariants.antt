@@ -1,8 +1,7 @@
 -- the keys of the marks so far are marked, and the others still can be
 use Rattle.std.proofs.Common.{◌≡◌, max, take}
 use Rattle.query_normal.specs.declared.key.KeyShape.{KeyShape}
-use Rattle.hub_core.specs.Standing.{until_in}
-use Rattle.hub_core.specs.Handed.{CanMark}
+use Rattle.hub_core.specs.Handed.{CanMark, until_in}
 use Rattle.hub_core.specs.Marks.{marked_until}
 use Rattle.hub_core.proofs.marks.mark_all.Given as goal
 

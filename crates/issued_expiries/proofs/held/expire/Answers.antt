@@ -1,42 +1,37 @@
-use Rattle.std.proofs.Common.{ℕ, List, sym, subst, arith}
-use Rattle.std.specs.declared.cmp.Reverse.{Reverse}
-use Rattle.std.specs.BinaryHeap.{heap_items}
-use Rattle.issued_expiries.specs.Due.{IsCovered}
-use Rattle.issued_expiries.proofs.HeldLemmas.{covered_popped, due_popped, ages_then, unexpired_all}
+use Rattle.std.proofs.Common.{sym, ◌∙◌, subst, arith}
+use Rattle.expiring_map.specs.Map.{Expiring}
+use Rattle.issued_expiries.specs.KeyCopies.{Kept}
+use Rattle.issued_expiries.specs.Entries.{copies_in, AreUnexpired}
+use Rattle.issued_expiries.proofs.HeldLemmas.{ages_then, ages_expired, tied_rest, distinct_shown, fewer, unexpired_all}
 use Rattle.issued_expiries.proofs.held.expire.Goals as goal
 
--- the place that came out is the one that may not be covered
-pub settle-requires-clause-covered : goal.settle-requires-clause-covered
-settle-requires-clause-covered c =
-    let popped = c.in-Some.ensures.popped in
-    covered_popped _ _ _ popped.0 _ popped.2 c.loop-place.invariant.covered
+pub add_idle-requires : goal.add_idle-requires
+add_idle-requires c =
+    let one = fewer c.args.moment c.in-Some.key _ _ _ c.in-Some.ensures.some in
+    omega (arith, one, c.loop-key.invariant.room)
 
-pub loop-place-smaller : goal.loop-place-smaller
-loop-place-smaller c =
-    let popped = c.in-Some.ensures.popped in
-    let one = due_popped c.args.moment popped.0 _ _ _ popped.1 popped.2 in
-    omega (arith, one, c.settle.ensures.fewer)
+pub loop-key-smaller : goal.loop-key-smaller
+loop-key-smaller c =
+    let one = fewer c.args.moment c.in-Some.key _ _ _ c.in-Some.ensures.some in
+    omega (arith, one)
 
-pub loop-place-preserved : goal.loop-place-preserved
-loop-place-preserved c = record {
-  ages = λ key. ages_then c.args.moment _ _ _ _ _ _ (c.loop-place.invariant.ages key) (c.settle.ensures.ages key);
-  distinct = c.settle.ensures.distinct;
-  ordered = c.settle.ensures.ordered;
-  covered = c.settle.ensures.covered;
-  room = omega (arith, c.settle.ensures.queue_len, c.in-Some.ensures.fewer, c.loop-place.invariant.room);
-  capacity = omega (arith, c.settle.ensures.capacity, c.pop_due.ensures.capacity, c.loop-place.invariant.capacity);
-  spare_kept = omega (arith, c.settle.ensures.spare, c.loop-place.invariant.spare_kept);
-  len = omega (arith, c.settle.ensures.len, c.loop-place.invariant.len);
-  idle_spare = omega (arith, c.settle.ensures.idle_spare, c.loop-place.invariant.idle_spare);
-}
+pub loop-key-preserved : goal.loop-key-preserved
+loop-key-preserved c =
+    let one = fewer c.args.moment c.in-Some.key _ _ _ c.in-Some.ensures.some in
+    record {
+      ages = λ asked.
+          ages_then c.args.moment _ _ _ _ _ _ (c.loop-key.invariant.ages asked)
+          (ages_expired c.args.moment c.in-Some.key _ _ _ _ _ c.loop-key.invariant.tied c.loop-key.invariant.distinct c.in-Some.ensures.some c.add_idle.ensures.keys asked);
+      tied = tied_rest c.args.moment c.in-Some.key _ _ _ c.in-Some.ensures.some c.loop-key.invariant.tied;
+      distinct = distinct_shown _ c.next_expired.ensures.once;
+      reserved = c.next_expired.ensures.reserved ∙ c.loop-key.invariant.reserved;
+      room = omega (arith, one, c.loop-key.invariant.room, c.add_idle.ensures.spare);
+      len = omega (arith, one, c.loop-key.invariant.len);
+      idle_spare = omega (arith, one, c.loop-key.invariant.idle_spare, c.add_idle.ensures.spare);
+    }
 
--- the queue is as it was
-pub returns-clause-covered : goal.returns-clause-covered
-returns-clause-covered c = subst (λ (xs : List (Reverse (ℕ × ℕ))). IsCovered c.loop-place.held.entries xs) (sym c.in_default.ensures.same) c.loop-place.invariant.covered
-
--- no place is due any more
+-- no key is left that leaves by then
 pub returns-clause-unexpired : goal.returns-clause-unexpired
 returns-clause-unexpired c =
-    unexpired_all c.args.moment c.loop-place.held.entries (heap_items c.pop_due.new.queue)
-    (subst (λ (xs : List (Reverse (ℕ × ℕ))). IsCovered c.loop-place.held.entries xs) (sym c.in_default.ensures.same) c.loop-place.invariant.covered)
-    c.in_default.ensures.later
+    subst (λ (m : Expiring Kept). AreUnexpired c.args.moment (copies_in m.entries)) (sym c.in_default.ensures.same)
+    (unexpired_all c.args.moment c.loop-key.held.entries c.loop-key.invariant.tied c.in_default.ensures.none)

@@ -13,17 +13,17 @@ returns-in_err-reserve-clause-reserved c = λ h.
     cc)
 
 -- what was added is the change, behind the journal as it was
-whole : (c : goal.After-add_reserved) → (c.add_reserved.new.self ≡ with_commit c.args.self.now c.args.change.now) × (c.add_reserved.result ≡ length c.args.self.now.journal + 1)
+whole : (c : goal.After-add_reserved) → (c.add_reserved.new.self ≡ with_commit c.args.self.now c.args.change.now c.add_reserved.new.self.names) × (c.add_reserved.result ≡ length c.args.self.now.journal + 1)
 whole c =
     elim c.if-not-is_reserved.branch [
       | then-not-is_reserved+in_ok-reserve w ↦
           let mid = w.self-is ∙ w.in_ok-reserve.ensures.after in (
-            c.add_reserved.ensures.after c.args.change.now (ap (λ (b : Contents). b.reserved) mid) ∙ ap (λ (b : Contents). with_commit b c.args.change.now) mid,
+            c.add_reserved.ensures.after c.args.change.now (ap (λ (b : Contents). b.reserved) mid) ∙ ap (λ (b : Contents). with_commit b c.args.change.now c.add_reserved.new.self.names) mid,
             c.add_reserved.ensures.commit ∙ ap (λ (b : Contents). length b.journal + 1) mid,
           )
       | else-not-is_reserved w ↦
           let there = reserved_is c.args.self.now c.args.change.now (sym c.is_reserved.ensures ∙ w.if-not-is_reserved.false) in (
-            c.add_reserved.ensures.after c.args.change.now (ap (λ (b : Contents). b.reserved) w.self-is ∙ there) ∙ ap (λ (b : Contents). with_commit b c.args.change.now) w.self-is,
+            c.add_reserved.ensures.after c.args.change.now (ap (λ (b : Contents). b.reserved) w.self-is ∙ there) ∙ ap (λ (b : Contents). with_commit b c.args.change.now c.add_reserved.new.self.names) w.self-is,
             c.add_reserved.ensures.commit ∙ ap (λ (b : Contents). length b.journal + 1) w.self-is,
           )
     ]

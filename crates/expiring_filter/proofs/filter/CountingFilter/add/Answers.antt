@@ -1,53 +1,33 @@
-use Rattle.std.proofs.Common.{◌≡◌, true, false, inl, inr, ◌<◌, ◌⊎◌, ℕ, List, All, IsTrue, length, sym, subst, ap, ◌∙◌, arith}
-use Rattle.query_normal.specs.declared.key.KeyShape.{KeyShape}
+use Rattle.std.proofs.Common.{◌≡◌, false, true, inl, inr, ◌<◌, ◌⊎◌, IsTrue, length, sym, ap, ◌∙◌, subst}
+use Rattle.expiring_map.specs.Entries.{seconds_of, extended_at}
+use Rattle.expiring_map.specs.Map.{Expiring}
 use Rattle.expiring_filter.specs.Filter.{Filter, is_held, is_reserved}
-use Rattle.expiring_filter.specs.Held.{is_among, put_until}
-use Rattle.expiring_filter.proofs.FilterLemmas.{taken_is, unexpired_put}
-use Rattle.expiring_filter.proofs.PutLemmas.{sound_delayed}
+use Rattle.expiring_filter.specs.Held.{put_until}
+use Rattle.expiring_filter.proofs.FilterLemmas.{Entries, found_among, none_found, few_without, place_found, seconds_extended, counted_extended}
 use Rattle.expiring_filter.proofs.filter.CountingFilter.add.Goals as goal
 
--- the copy that was kept is the key
+-- a key that is not held is reserved
+pub put-requires-clause-reserved : goal.put-requires-clause-reserved
+put-requires-clause-reserved c =
+    elim (subst (λ (f : Filter). IsTrue (is_reserved f c.args.key.now) ⊎ IsTrue (is_held f c.args.key.now)) (sym c.self.view_is) c.requires.reserved) [
+      | inl reserved ↦ reserved
+      | inr held ↦ absurd (let wrong : false ≡ true = c.in-None.ensures.found ∙ found_among c.self.inside.keys.entries c.args.key.now ∙ held in cc)
+    ]
+
 pub put-requires-clause-few : goal.put-requires-clause-few
 put-requires-clause-few c =
-    subst (λ (k : KeyShape). IsTrue (is_among c.self.inside.held.entries k) ⊎ (length c.self.inside.held.entries < 1000000)) (sym (taken_is c.args.key.now _ _ c.in-Some.ensures.key))
-    (subst (λ (f : Filter). IsTrue (is_among f.held c.args.key.now) ⊎ (length f.held < 1000000)) (sym c.self.view_is) c.requires.few)
+    few_without c.self.inside.keys.entries c.args.key.now
+    (subst (λ (f : Filter). (is_held f c.args.key.now ≡ true) ⊎ (length f.held < 1000000)) (sym c.self.view_is) c.requires.few) (none_found _ c.in-None.ensures.found)
 
--- the key leaves later than the clock
+-- a held key keeps the later second
+extended_is : (c : goal.After-release) → c.release.new.self.entries ≡ extended_at c.self.inside.keys.entries c.in-Some.place c.args.until
+extended_is c = c.release.ensures.entries ∙ ap (λ (m : Expiring (Unit {0})). m.entries) c.extend.ensures
+
 pub invariant_of-self : goal.invariant_of-self
-invariant_of-self c =
-    let late = subst (λ (f : Filter). f.clock < c.args.until) (sym c.self.view_is) c.requires.later in
-    record {
-      sound = record {
-        counted = c.put.ensures.counted;
-        ordered = c.put.ensures.ordered;
-        covered = c.put.ensures.covered;
-        unexpired =
-            subst (λ (xs : List (KeyShape × ℕ)). All (λ (e : KeyShape × ℕ). c.self.inside.clock < e.1) xs) (sym c.put.ensures.held)
-            (unexpired_put c.self.inside.clock c.self.inside.held.entries c.in-Some.copy c.args.until late c.self.invariant.sound.unexpired);
-      };
-      map_room = omega (arith, c.in-Some.ensures.len, c.self.invariant.map_room, c.put.ensures.spare);
-      queue_room = omega (arith, c.in-Some.ensures.len, c.self.invariant.queue_room, c.put.ensures.room, c.put.ensures.capacity);
-    }
+invariant_of-self c = record { counted = counted_extended _ _ _ _ c.in-Some.place c.args.until _ _ (extended_is c) c.self.invariant.counted }
 
 pub returns-in-Some-clause-held : goal.returns-in-Some-clause-held
 returns-in-Some-clause-held c =
-    c.put.ensures.held
-    ∙ ap (λ (k : KeyShape). put_until c.self.inside.held.entries k c.args.until) (taken_is c.args.key.now _ _ c.in-Some.ensures.key)
+    ap (λ (es : Entries). seconds_of es) (extended_is c)
+    ∙ seconds_extended c.self.inside.keys.entries c.args.key.now c.in-Some.place c.args.until (place_found c.args.key.now _ c.in-Some.place c.in-Some.ensures.place) c.in-Some.ensures.within
     ∙ ap (λ (f : Filter). put_until f.held c.args.key.now c.args.until) c.self.view_is
-
--- a key that was not reserved is held
-held_is : (c : goal.After-delay) → IsTrue (is_among c.self.inside.held.entries c.args.key.now)
-held_is c =
-    elim (subst (λ (f : Filter). IsTrue (is_reserved f c.args.key.now) ⊎ IsTrue (is_held f c.args.key.now)) (sym c.self.view_is) c.requires.reserved) [
-      | inl reserved ↦ absurd (let wrong : false ≡ true = c.in-None.ensures.found ∙ reserved in cc)
-      | inr held ↦ held
-    ]
-
-pub invariant_of-self-in-None : goal.invariant_of-self-in-None
-invariant_of-self-in-None c =
-    let late = subst (λ (f : Filter). f.clock < c.args.until) (sym c.self.view_is) c.requires.later in
-    record {
-      sound = sound_delayed _ _ c.self.inside.clock c.self.inside.held.entries _ _ _ _ c.args.key.now c.args.until (held_is c) late c.delay.ensures.held c.self.invariant.sound;
-      map_room = omega (arith, c.in-None.ensures.len, c.self.invariant.map_room, c.delay.ensures.spare);
-      queue_room = omega (arith, c.in-None.ensures.len, c.self.invariant.queue_room, c.delay.ensures.len);
-    }

@@ -6,5 +6,5 @@ use Rattle.expiring_filter.proofs.filter.CountingFilter.holds.Goals as goal
 -- a key is held where the map finds it
 pub returns : goal.returns
 returns c =
-    subst (λ (filter : Filter). c.contains_key.result ≡ is_held filter c.args.key.now) c.self.view_is
-    (c.contains_key.ensures ∙ found_among _ c.args.key.now)
+    subst (λ (filter : Filter). c.contains.result ≡ is_held filter c.args.key.now) c.self.view_is
+    (c.contains.ensures ∙ found_among _ c.args.key.now)

@@ -1,5 +1,6 @@
-use Rattle.std.proofs.Common.{◌/◌, replicate, ap, ◌∙◌, arith}
-use Rattle.expiring_filter.proofs.FilterLemmas.{sound_first, size_shifted, eights}
+use Rattle.std.proofs.Common.{◌/◌, replicate, ap, ◌∙◌}
+use Rattle.expiring_map.specs.Map.{Expiring}
+use Rattle.expiring_filter.proofs.FilterLemmas.{counted_first, size_shifted, eights}
 use Rattle.expiring_filter.proofs.filter.CountingFilter.new.Goals as goal
 
 -- nothing is held at first
@@ -9,9 +10,7 @@ invariant_of-result c =
     let counts = c.in_ok-counts.ensures.items_if_clones_equal (λ y e. e) ∙ ap (λ n. replicate n 0) shifted in
     let bits = c.in_ok-bits.ensures.items_if_clones_equal (λ y e. e) ∙ ap (λ n. replicate (n / 8) 0) shifted in
     record {
-      sound =
-          sound_first _ _ _ _ _ _ c.requires.most c.requires.few c.new.ensures.empty c.new-3.ensures.items c.new-3.ensures.heap_order counts bits
+      counted =
+          counted_first _ _ _ _ _ c.requires.most c.requires.few (ap (λ (m : Expiring (Unit {0})). m.entries) c.new.ensures) counts bits
           (eights c.args.log2_bits c.requires.least);
-      map_room = omega (arith, c.new-2.ensures.len);
-      queue_room = omega (arith, c.new-2.ensures.len, c.new-3.ensures.len, c.new.ensures.len);
     }

@@ -1,32 +1,28 @@
-use Rattle.std.proofs.Common.{subst, arith}
+use Rattle.std.proofs.Common.{ap, subst}
+use Rattle.expiring_map.specs.Entries.{seconds_of}
+use Rattle.expiring_map.specs.Map.{Expiring}
 use Rattle.expiring_filter.specs.Filter.{Filter, Removes}
-use Rattle.expiring_filter.proofs.FilterLemmas.{placed_entry, removed, removed_none, none_found, unexpired_rest}
+use Rattle.expiring_filter.proofs.FilterLemmas.{parted, enough, counted_without, removed, removed_none}
 use Rattle.expiring_filter.proofs.filter.CountingFilter.remove.Goals as goal
 
--- what is left is unexpired
+-- the counts of the key are among the counts
+pub uncount-requires-clause-enough : goal.uncount-requires-clause-enough
+uncount-requires-clause-enough c = λ j low. enough _ _ _ _ c.args.key.now _ _ _ j (parted _ _ _ _ c.in-Some.ensures.some) c.self.invariant.counted low
+
 pub invariant_of-self : goal.invariant_of-self
-invariant_of-self c =
-    let entry = placed_entry c.args.key.now c.self.inside.held.entries c.in-Some.place c.in-Some.ensures.index c.in-Some.ensures.within in
-    record {
-      sound = record {
-        counted = c.drop_at.ensures.counted;
-        ordered = c.drop_at.ensures.ordered;
-        covered = c.drop_at.ensures.covered;
-        unexpired = unexpired_rest c.self.inside.clock _ _ entry.0 (c.drop_at.ensures.held entry.0 entry.1) c.self.invariant.sound.unexpired;
-      };
-      map_room = omega (arith, c.self.invariant.map_room, c.drop_at.ensures.spare);
-      queue_room = omega (arith, c.self.invariant.queue_room, c.drop_at.ensures.queue_len, c.drop_at.ensures.len, c.drop_at.ensures.capacity);
-    }
+invariant_of-self c = record {
+  counted =
+      counted_without _ _ _ _ _ _ c.args.key.now _ _ _ _ _ (c.uncount.ensures.log2_bits, c.uncount.ensures.hashes) (parted _ _ _ _ c.in-Some.ensures.some) c.self.invariant.counted
+      c.uncount.ensures.len c.uncount.ensures.counted c.uncount.ensures.flat;
+}
 
 -- the key went
 pub returns-in-Some-clause-held : goal.returns-in-Some-clause-held
 returns-in-Some-clause-held c =
-    let entry = placed_entry c.args.key.now c.self.inside.held.entries c.in-Some.place c.in-Some.ensures.index c.in-Some.ensures.within in
-    subst (λ (f : Filter). Removes c.args.key.now f.held c.drop_at.new.held.entries) c.self.view_is
-    (removed c.args.key.now _ _ entry.0 (c.drop_at.ensures.held entry.0 entry.1) entry.2 (c.drop_at.ensures.absent entry.0 entry.1))
+    subst (λ (f : Filter). Removes c.args.key.now f.held (seconds_of c.remove.new.self.entries)) c.self.view_is (removed c.args.key.now _ _ _ c.in-Some.ensures.some)
 
 -- there was no such key
 pub returns-in-None-clause-held : goal.returns-in-None-clause-held
 returns-in-None-clause-held c =
-    subst (λ (f : Filter). Removes c.args.key.now f.held f.held) c.self.view_is
-    (removed_none c.args.key.now c.self.inside.held.entries (none_found _ c.in-None.ensures.found))
+    subst (λ (f : Filter). Removes c.args.key.now f.held (seconds_of c.remove.new.self.entries)) c.self.view_is
+    (removed_none c.args.key.now _ _ (ap (λ (m : Expiring (Unit {0})). m.entries) c.in-None.ensures.same) c.in-None.ensures.none)

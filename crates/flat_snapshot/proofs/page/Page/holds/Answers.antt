@@ -1,9 +1,8 @@
-use Rattle.std.proofs.Common.{◌≡◌, ◌/◌, ◌<◌, List, ℕ, Bool, length, All, refl, sym, subst, ap, ap₂, ◌∙◌, arith}
+use Rattle.std.proofs.Common.{◌≡◌, ◌/◌, ◌<◌, List, ℕ, length, All, refl, sym, subst, ap, ap₂, ◌∙◌}
 use Rattle.std.specs.List.{list_all}
 use Rattle.q_base.specs.Positions.{positions_of}
 use Rattle.query_normal.specs.Bits.{is_bit_set}
 use Rattle.query_normal.specs.Pages.{Page, page_holds, is_set}
-use Rattle.query_normal.proofs.BitLemmas.{length-flat_bits}
 use Rattle.flat_snapshot.specs.PageText.{page_with}
 use Rattle.flat_snapshot.proofs.ReadLemmas.{places_within, all_bits_set}
 use Rattle.flat_snapshot.proofs.page.Page.holds.Goals as goal

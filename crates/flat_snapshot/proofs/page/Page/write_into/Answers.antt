@@ -1,7 +1,7 @@
-use Rattle.std.proofs.Common.{◌≡◌, ◌+◌, ◌≤◌, ℕ, length, sym, subst, ap, ◌∙◌, arith}
+use Rattle.std.proofs.Common.{◌+◌, length, sym, ap, ◌∙◌, arith}
 use Rattle.query_normal.specs.Pages.{Page}
 use Rattle.query_normal.proofs.BitLemmas.{length-flat_bits}
-use Rattle.flat_snapshot.specs.PageText.{page_text, page_with}
+use Rattle.flat_snapshot.specs.PageText.{page_text}
 use Rattle.flat_snapshot.proofs.WriteLemmas.{length-page_text}
 use Rattle.flat_snapshot.proofs.page.Page.write_into.Goals as goal
 

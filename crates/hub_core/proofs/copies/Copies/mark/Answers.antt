@@ -3,25 +3,24 @@ use Rattle.std.proofs.Common.{◌≡◌, ◌⊎◌, ℕ, max, IsTrue, Option, un
 use Rattle.std.specs.List.{list_any}
 use Rattle.query_normal.specs.Keys.{same_key}
 use Rattle.expiring_filter.specs.Filter.{Filter}
-use Rattle.hub_core.specs.Standing.{until_in}
-use Rattle.hub_core.specs.Handed.{Handed, CanMark, until_below}
+use Rattle.hub_core.specs.Handed.{Handed, CanMark, until_below, until_in}
 use Rattle.hub_core.proofs.HandedLemmas.{below-last}
 use Rattle.hub_core.proofs.MarkLemmas.{until-put}
 use Rattle.hub_core.proofs.SoundLemmas.{mark-few, sound-marked, still-room, copy-active}
 use Rattle.hub_core.proofs.copies.Copies.mark.Goals as goal
 
 pub add-requires-clause-reserved : goal.add-requires-clause-reserved
-add-requires-clause-reserved c = subst (λ (h : Handed). CanMark h c.args.key.now) (sym c.self.view_is) c.requires (copy-active _ _ c.self.inside.issued c.self.inside.outdated c.args.key.now c.args.below c.in-Some.until c.self.invariant c.in-Some.ensures)
+add-requires-clause-reserved c = subst (λ (h : Handed). CanMark h c.args.key.now) (sym c.self.view_is) c.requires (copy-active _ c.self.inside.issued c.self.inside.outdated c.args.key.now c.args.below c.in-Some.until c.self.invariant c.in-Some.ensures)
 
 pub add-requires-clause-few : goal.add-requires-clause-few
-add-requires-clause-few c = mark-few _ _ c.self.inside.issued c.self.inside.outdated c.args.key.now c.self.invariant (copy-active _ _ c.self.inside.issued c.self.inside.outdated c.args.key.now c.args.below c.in-Some.until c.self.invariant c.in-Some.ensures)
+add-requires-clause-few c = mark-few _ c.self.inside.issued c.self.inside.outdated c.args.key.now c.self.invariant (copy-active _ c.self.inside.issued c.self.inside.outdated c.args.key.now c.args.below c.in-Some.until c.self.invariant c.in-Some.ensures)
 
 pub invariant_of-self : goal.invariant_of-self
 invariant_of-self c =
-    sound-marked _ _ c.self.inside.issued c.self.inside.outdated c.add.new.self c.args.key.now c.in-Some.until c.self.invariant
+    sound-marked _ c.self.inside.issued c.self.inside.outdated c.add.new.self c.args.key.now c.in-Some.until c.self.invariant
     (c.self.invariant.late c.args.key.now _ c.in-Some.until (sym c.in-Some.ensures))
     (below-last c.self.inside.issued.held c.args.key.now c.args.below c.in-Some.until (sym c.in-Some.ensures))
-    (ap (λ (f : Filter). f.clock) c.add.ensures.rest) (ap (λ (f : Filter). f.log2_bits) c.add.ensures.rest) (ap (λ (f : Filter). f.hashes) c.add.ensures.rest) c.add.ensures.held
+    (ap (λ (f : Filter). f.log2_bits) c.add.ensures.rest) (ap (λ (f : Filter). f.hashes) c.add.ensures.rest) c.add.ensures.held
 
 pub returns-in-Some-clause-outdated : goal.returns-in-Some-clause-outdated
 returns-in-Some-clause-outdated c = λ other.

@@ -3,7 +3,7 @@ use Rattle.std.proofs.Common.{◌≡◌, ◌+◌, ◌*◌, ◌/◌, ◌^◌, Som
 use Rattle.query_normal.specs.Pages.{Page}
 use Rattle.flat_snapshot.proofs.ByteLemmas.{all_small}
 use Rattle.flat_snapshot.specs.PageText.{page_with}
-use Rattle.hub_core.specs.Room.{Fetched, IsKept, page_in}
+use Rattle.hub_core.specs.Room.{RoomView, IsKept, page_in}
 use Rattle.hub_core.proofs.RoomLemmas.{filled, kept-written}
 use Rattle.hub_core.proofs.room.PageRoom.write.Goals as goal
 
@@ -13,7 +13,7 @@ kept : (c : goal.After-self-2-1) →
     × (page_in c.self.inside.log2_bits c.self.inside.hashes (take c.self.inside.bytes.len (c.write_page.new.room ++ drop (length c.write_page.new.room) c.self.inside.bytes.items)) c.args.numbers
     ≡ page_with c.self.inside.log2_bits c.self.inside.hashes c.args.numbers.front c.args.numbers.commits c.args.numbers.moment c.args.bits.now)
 kept c =
-    let size : 8 * length c.args.bits.now ≡ 2 ^ c.self.inside.log2_bits = c.requires ∙ ap (λ (r : Fetched). 2 ^ r.log2_bits) (sym c.self.view_is) in
+    let size : 8 * length c.args.bits.now ≡ 2 ^ c.self.inside.log2_bits = c.requires ∙ ap (λ (r : RoomView). 2 ^ r.log2_bits) (sym c.self.view_is) in
     let room : length c.self.inside.bytes.items ≡ 30 + 2 ^ c.self.inside.log2_bits / 8 = c.self.invariant.sized in
     let whole =
     filled c.deref_mut.result.now c.self.inside.bytes.items c.write_page.new.room _ c.self.inside.bytes.len c.write_page.result c.deref_mut.ensures.value c.deref_mut.ensures.len c.write_page.auto.room
@@ -26,4 +26,4 @@ invariant_of-self c = (kept c).0
 pub returns : goal.returns
 returns c =
     ap (λ (p : Page). record { log2_bits = c.self.inside.log2_bits; hashes = c.self.inside.hashes; page = Some p }) (kept c).1
-    ∙ ap (λ (r : Fetched). record { log2_bits = r.log2_bits; hashes = r.hashes; page = Some (page_with r.log2_bits r.hashes c.args.numbers.front c.args.numbers.commits c.args.numbers.moment c.args.bits.now) }) c.self.view_is
+    ∙ ap (λ (r : RoomView). record { log2_bits = r.log2_bits; hashes = r.hashes; page = Some (page_with r.log2_bits r.hashes c.args.numbers.front c.args.numbers.commits c.args.numbers.moment c.args.bits.now) }) c.self.view_is

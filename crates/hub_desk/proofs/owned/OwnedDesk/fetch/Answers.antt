@@ -6,7 +6,7 @@ use Rattle.hub_desk.proofs.owned.OwnedDesk.fetch.Goals as goal
 
 pub invariant_of-self : goal.invariant_of-self
 invariant_of-self c =
-    stands-more _ _ _ _ _ c.self.invariant tt c.fetch.ensures.setting (c.fetch.ensures.after _ c.self.invariant.state) c.note.ensures
+    stands-more _ _ _ _ _ c.self.invariant (tt, tt) c.fetch.ensures.setting (c.fetch.ensures.after _ c.self.invariant.state) c.note.ensures
 
 pub returns-clause-made : goal.returns-clause-made
 returns-clause-made c =

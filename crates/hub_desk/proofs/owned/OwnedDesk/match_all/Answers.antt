@@ -6,12 +6,12 @@ use Rattle.hub_desk.proofs.owned.OwnedDesk.match_all.Goals as goal
 
 pub invariant_of-self-then-front-to : goal.invariant_of-self-then-front-to
 invariant_of-self-then-front-to c =
-    stands-more _ _ _ _ _ c.self.invariant (may_match _ _ _ _ c.self.invariant c.front.ensures.same c.commits-to.ensures c.if-front-to.true) c.match_to.ensures.setting
+    stands-more _ _ _ _ _ c.self.invariant (may_match _ _ _ _ c.self.invariant c.front.ensures.same c.commits-to.ensures c.if-front-to.true, tt) c.match_to.ensures.setting
     (c.in_ok-matched.ensures.after _ c.self.invariant.state) c.note.ensures
 
 pub invariant_of-self-else-front-to : goal.invariant_of-self-else-front-to
 invariant_of-self-else-front-to c =
-    stands-more _ _ _ _ _ c.self.invariant tt c.tick-stats.ensures.setting (c.tick-stats.ensures.after _ c.self.invariant.state) c.note-else-front-to.ensures
+    stands-more _ _ _ _ _ c.self.invariant (tt, tt) c.tick-stats.ensures.setting (c.tick-stats.ensures.after _ c.self.invariant.state) c.note-else-front-to.ensures
 
 pub returns-in_ok-matched-clause-made : goal.returns-in_ok-matched-clause-made
 returns-in_ok-matched-clause-made c =

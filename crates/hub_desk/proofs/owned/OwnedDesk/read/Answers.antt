@@ -6,7 +6,7 @@ use Rattle.hub_desk.proofs.owned.OwnedDesk.read.Goals as goal
 
 pub invariant_of-self-2 : goal.invariant_of-self-2
 invariant_of-self-2 c =
-    stands-more _ _ _ _ _ c.self.invariant (may_read _ _ _ c.self.invariant (c.front_is_within.ensures _ _ c.self.invariant.legal) c.in_ok-answer.ensures.last) c.read.ensures.setting
+    stands-more _ _ _ _ _ c.self.invariant (may_read _ _ _ c.self.invariant (c.front_is_within.ensures _ _ c.self.invariant.legal) c.in_ok-answer.ensures.last, tt) c.read.ensures.setting
     (c.in_ok-answer.ensures.after _ c.self.invariant.state) c.note.ensures
 
 pub returns-clause-made : goal.returns-clause-made

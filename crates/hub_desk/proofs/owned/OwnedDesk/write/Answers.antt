@@ -6,7 +6,7 @@ use Rattle.hub_desk.proofs.owned.OwnedDesk.write.Goals as goal
 
 pub invariant_of-self-2 : goal.invariant_of-self-2
 invariant_of-self-2 c =
-    stands-more _ _ _ _ _ c.self.invariant tt c.write.ensures.setting (c.in_ok-written.ensures.after _ c.self.invariant.state) c.note.ensures
+    stands-more _ _ _ _ _ c.self.invariant (tt, tt) c.write.ensures.setting (c.in_ok-written.ensures.after _ c.self.invariant.state) c.note.ensures
 
 pub returns-clause-made : goal.returns-clause-made
 returns-clause-made c =

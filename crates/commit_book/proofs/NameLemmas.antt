@@ -1,0 +1,286 @@
+-- The names of an index, and what an addition makes of them.
+use Rattle.std.proofs.Common.{◌≡◌, ℕ, ◌-◌, ◌<◌, ◌≤◌, Bool, true, false, ◌&&◌, ◌||◌, ◌⊎◌, List, [], ◌∷◌, ◌++◌, map, Option, Some, None, IsSome, is_some, unwrap_or, option_map, cond, refl, sym, ap, ap₂, ◌∙◌, subst, inl, inr, arith, vec_len, vec_capacity}
+use Rattle.std.specs.Global.{Vec}
+use Rattle.std.specs.List.{list_any}
+use Rattle.std.specs.Map.{keys_of, lookup, set_value}
+use Rattle.std.specs.Option.{option_map_or}
+use Rattle.std.specs.Str.{bytes_eq}
+use Rattle.std.proofs.lemmas.Bool.{cases_Bool}
+use Rattle.std.proofs.lemmas.List.Folds.{list_any-append}
+use Rattle.std.proofs.lemmas.Map.Made.{is_some-lookup, lookup-map_values}
+use Rattle.std.proofs.lemmas.Slice.Eq.{bytes_eq-Decides}
+use Rattle.indexmap.specs.IndexMap.{IndexMap, get_by, spare, IsUnchanged, UpdatesBy, WritesThrough}
+use Rattle.commit_book.specs.declared.change.Change.{Change}
+use Rattle.commit_book.specs.declared.index.Place.{Place}
+use Rattle.commit_book.specs.declared.index.Place.TheVariants.{Known, InCollection, InNewCollection}
+use Rattle.commit_book.specs.Index.{commits_under, commits_in, room_under, names_of, IsPlaceUnder, IsPlaceIn, KeepsRoom, KeepsRoomUnder}
+use Rattle.commit_book.specs.Journal.{is_of}
+use Rattle.commit_book.specs.Names.{Names, has_collection, has_record, is_in, AreNamesOf, AddsName}
+
+-- a book without a commit has no name
+pub no_names : AreNamesOf [] []
+no_names = record { collections = λ collection. refl; records = λ collection id. refl }
+
+-- the names with those of a further change
+pub names_more : (journal : List Change) (change : Change) (old new : Names) → AreNamesOf journal old → AddsName change.collection change.id old new → AreNamesOf (journal ++ change ∷ []) new
+names_more journal change old new were adds = record {
+  collections = λ other.
+      adds.collections other
+      ∙ ap (λ (b : Bool). b || bytes_eq change.collection other) (were.collections other)
+      ∙ last (list_any (is_in other) journal) (bytes_eq change.collection other)
+      ∙ sym (list_any-append (is_in other) journal (change ∷ []));
+  records = λ other own.
+      adds.records other own
+      ∙ ap (λ (b : Bool). b || (bytes_eq change.id own && bytes_eq change.collection other)) (were.records other own)
+      ∙ last (list_any (is_of other own) journal) (bytes_eq change.id own && bytes_eq change.collection other)
+      ∙ sym (list_any-append (is_of other own) journal (change ∷ []));
+}
+  where
+    last : (a b : Bool) → (a || b) ≡ (a || (b || false))
+    last true b = refl
+    last false true = refl
+    last false false = refl
+
+-- the test of equal texts in either order
+pub eq-turned : (a b : List ℕ) → bytes_eq a b ≡ bytes_eq b a
+eq-turned a b =
+    elim (cases_Bool (bytes_eq a b)) [
+      | inl e ↦ e ∙ sym ((bytes_eq-Decides b a).1 (sym ((bytes_eq-Decides a b).0 e)))
+      | inr e ↦ elim (cases_Bool (bytes_eq b a)) [
+        | inl f ↦ absurd (let t : bytes_eq a b ≡ true = (bytes_eq-Decides a b).1 (sym ((bytes_eq-Decides b a).0 f)) in cc)
+        | inr f ↦ e ∙ sym f
+      ]
+    ]
+
+-- an id behind others
+pub named-last : (ids : List (List ℕ)) (id own : List ℕ) → list_any (bytes_eq own) (ids ++ id ∷ []) ≡ (list_any (bytes_eq own) ids || bytes_eq id own)
+named-last ids id own = list_any-append (bytes_eq own) ids (id ∷ []) ∙ ap (λ (b : Bool). list_any (bytes_eq own) ids || b) (one (bytes_eq own id) ∙ eq-turned own id)
+  where
+    one : (b : Bool) → (b || false) ≡ b
+    one true = refl
+    one false = refl
+
+-- ---- the maps
+
+abbrev Under : Type 0 → Type 0
+Under S = IndexMap (List ℕ) (Vec ℕ) S
+
+abbrev Maps : Type 0 → Type 0 → Type 0
+Maps S T = IndexMap (List ℕ) (Under S) T
+
+abbrev ids_at : {S : Type 0} → Option (Under S) → List (List ℕ)
+ids_at {S} found = unwrap_or (option_map (λ (records : Under S). keys_of records.entries) found) []
+
+-- nothing, where nothing is there
+pub is-none : (o : Option (Vec ℕ)) → is_some o ≡ false → o ≡ None
+is-none None h = refl
+is-none (Some v) h = absurd (cc)
+
+-- an id with room has its name
+pub still-named : {S : Type 0} (records : Under S) (id own : List ℕ) → 0 < room_under records id → list_any (bytes_eq own) (keys_of records.entries) ≡ (list_any (bytes_eq own) (keys_of records.entries) || bytes_eq id own)
+still-named {S} records id own room =
+    elim (cases_Bool (bytes_eq id own)) [
+      | inl hit ↦ (
+          let same : id ≡ own = (bytes_eq-Decides id own).0 hit in
+          let there = sym (is_some-lookup (bytes_eq id) records.entries) ∙ is-there (get_by (bytes_eq id) records) room in
+          let named : list_any (bytes_eq own) (keys_of records.entries) ≡ true = ap (λ (x : List ℕ). list_any (bytes_eq x) (keys_of records.entries)) (sym same) ∙ there in
+          rw named refl)
+      | inr miss ↦ rw miss (either (list_any (bytes_eq own) (keys_of records.entries)))
+    ]
+  where
+    is-there : (o : Option (Vec ℕ)) → 0 < option_map_or (λ (v : Vec ℕ). vec_capacity v - vec_len v) o 0 → is_some o ≡ true
+    is-there None h = absurd (omega arith)
+    is-there (Some v) h = refl
+
+    either : (b : Bool) → b ≡ (b || false)
+    either true = refl
+    either false = refl
+
+-- the names after one collection's records are written
+abbrev entry_names : {S : Type 0} → List ℕ × Under S → List ℕ × List (List ℕ)
+entry_names e = (e.0, keys_of e.1.entries)
+
+names-set : {S : Type 0} (test : List ℕ → Bool) (es : List (List ℕ × Under S)) (was now : Under S) → lookup test es ≡ Some was → keys_of now.entries ≡ keys_of was.entries →
+    map (entry_names {S = S}) (set_value test es now) ≡ map (entry_names {S = S}) es
+names-set {S} test [] was now found same = absurd (cc)
+names-set {S} test (e ∷ es) was now found same =
+    elim (cases_Bool (test e.0)) [
+      | inl hit ↦ (
+          let is : Some e.1 ≡ Some was = rw hit at found in
+          let own : e.1 ≡ was = cc in
+          rw hit (ap (λ (ids : List (List ℕ)). (e.0, ids) ∷ map (entry_names {S = S}) es) (same ∙ ap (λ (rs : Under S). keys_of rs.entries) (sym own))))
+      | inr miss ↦ (
+          let rest : lookup test es ≡ Some was = rw miss at found in
+          rw miss (ap (λ (xs : Names). (e.0, keys_of e.1.entries) ∷ xs) (names-set test es was now rest same)))
+    ]
+
+module _ {S T : Type 0} where
+  -- the names under a collection are the ids of its records
+  named : (maps : Maps S T) (collection : List ℕ) → lookup (bytes_eq collection) (names_of maps) ≡ option_map (λ (records : Under S). keys_of records.entries) (get_by (bytes_eq collection) maps)
+  named maps collection = lookup-map_values (λ (records : Under S). keys_of records.entries) (bytes_eq collection) maps.entries
+
+  pub collection-absent : (maps : Maps S T) (collection : List ℕ) → get_by (bytes_eq collection) maps ≡ None → has_collection (names_of maps) collection ≡ false
+  collection-absent maps collection none =
+      ap is_some (named maps collection) ∙ ap (λ (o : Option (Under S)). is_some (option_map (λ (records : Under S). keys_of records.entries) o)) none
+
+  pub absent-collection : (maps : Maps S T) (collection : List ℕ) → has_collection (names_of maps) collection ≡ false → get_by (bytes_eq collection) maps ≡ None
+  absent-collection maps collection none = by (get_by (bytes_eq collection) maps) (sym (ap is_some (named maps collection)) ∙ none)
+    where
+      by : (o : Option (Under S)) → is_some (option_map (λ (records : Under S). keys_of records.entries) o) ≡ false → o ≡ None
+      by None h = refl
+      by (Some records) h = absurd (cc)
+
+  -- whether an id is among the records of a collection that is there
+  pub record-named : (maps : Maps S T) (collection id : List ℕ) (records : Under S) → get_by (bytes_eq collection) maps ≡ Some records → has_record (names_of maps) collection id ≡ is_some (get_by (bytes_eq id) records)
+  record-named maps collection id records found =
+      ap (λ (o : Option (List (List ℕ))). list_any (bytes_eq id) (unwrap_or o [])) (named maps collection ∙ ap (option_map (λ (records : Under S). keys_of records.entries)) found)
+      ∙ sym (is_some-lookup (bytes_eq id) records.entries)
+
+  pub not-there : (maps : Maps S T) (collection id : List ℕ) (records : Under S) → get_by (bytes_eq collection) maps ≡ Some records → has_record (names_of maps) collection id ≡ false → get_by (bytes_eq id) records ≡ None
+  not-there maps collection id records found absent = is-none (get_by (bytes_eq id) records) (sym (record-named maps collection id records found) ∙ absent)
+
+  -- the commits of the records that stand there
+  pub commits-at : (maps : Maps S T) (collection id : List ℕ) (records : Under S) → get_by (bytes_eq collection) maps ≡ Some records → commits_in maps collection id ≡ commits_under records id
+  commits-at maps collection id records found = ap (λ (o : Option (Under S)). option_map_or (λ (rs : Under S). commits_under rs id) o []) found
+
+  pub commits-none : (maps : Maps S T) (collection id : List ℕ) → has_collection (names_of maps) collection ≡ false → commits_in maps collection id ≡ []
+  commits-none maps collection id absent = ap (λ (o : Option (Under S)). option_map_or (λ (rs : Under S). commits_under rs id) o []) (absent-collection maps collection absent)
+
+  -- the records of one collection are put in place of those that it had
+  adds-name : (old new : Maps S T) (collection id : List ℕ) (records : Under S) →
+      ((q : List ℕ) → get_by (bytes_eq q) new ≡ cond (bytes_eq collection q) (Some records) (get_by (bytes_eq q) old)) →
+      ((own : List ℕ) → list_any (bytes_eq own) (keys_of records.entries) ≡ (list_any (bytes_eq own) (ids_at (get_by (bytes_eq collection) old)) || bytes_eq id own)) →
+      AddsName collection id (names_of old) (names_of new)
+  adds-name old new collection id records put ids = record {
+    collections = λ q.
+        ap is_some (named new q)
+        ∙ ap (λ (o : Option (Under S)). is_some (option_map (λ (rs : Under S). keys_of rs.entries) o)) (put q)
+        ∙ there (bytes_eq collection q) (get_by (bytes_eq q) old)
+        ∙ ap (λ (o : Option (List (List ℕ))). is_some o || bytes_eq collection q) (sym (named old q));
+    records = λ q own.
+        ap (λ (o : Option (List (List ℕ))). list_any (bytes_eq own) (unwrap_or o [])) (named new q)
+        ∙ ap (λ (o : Option (Under S)). list_any (bytes_eq own) (ids_at o)) (put q)
+        ∙ by q own
+        ∙ ap (λ (o : Option (List (List ℕ))). list_any (bytes_eq own) (unwrap_or o []) || (bytes_eq id own && bytes_eq collection q)) (sym (named old q));
+  }
+    where
+      there : (b : Bool) (o : Option (Under S)) → is_some (option_map (λ (rs : Under S). keys_of rs.entries) (cond b (Some records) o)) ≡ (is_some (option_map (λ (rs : Under S). keys_of rs.entries) o) || b)
+      there true None = refl
+      there true (Some rs) = refl
+      there false None = refl
+      there false (Some rs) = refl
+
+      whole : (b : Bool) → (b && true) ≡ b
+      whole true = refl
+      whole false = refl
+
+      nothing : (a b : Bool) → a ≡ (a || (b && false))
+      nothing true b = refl
+      nothing false true = refl
+      nothing false false = refl
+
+      by : (q own : List ℕ) → list_any (bytes_eq own) (ids_at (cond (bytes_eq collection q) (Some records) (get_by (bytes_eq q) old))) ≡ (list_any (bytes_eq own) (ids_at (get_by (bytes_eq q) old)) || (bytes_eq id own && bytes_eq collection q))
+      by q own =
+          elim (cases_Bool (bytes_eq collection q)) [
+            | inl hit ↦ (
+                let same : collection ≡ q = (bytes_eq-Decides collection q).0 hit in
+                rw hit
+                (ids own
+                ∙ ap₂ (λ (c : List ℕ) (b : Bool). list_any (bytes_eq own) (ids_at (get_by (bytes_eq c) old)) || b) same (sym (whole (bytes_eq id own)))))
+            | inr miss ↦ rw miss (nothing (list_any (bytes_eq own) (ids_at (get_by (bytes_eq q) old))) (bytes_eq id own))
+          ]
+
+  -- an id that is there already, or is put behind the others
+  pub adds-written : (old new : Maps S T) (collection id : List ℕ) (was now : Under S) → get_by (bytes_eq collection) old ≡ Some was → WritesThrough bytes_eq (bytes_eq collection) old now new →
+      ((own : List ℕ) → list_any (bytes_eq own) (keys_of now.entries) ≡ (list_any (bytes_eq own) (keys_of was.entries) || bytes_eq id own)) → AddsName collection id (names_of old) (names_of new)
+  adds-written old new collection id was now found writes ids =
+      adds-name old new collection id now ((writes.3 (subst IsSome (sym found) refl)).0)
+      (λ own. ids own ∙ ap (λ (o : Option (Under S)). list_any (bytes_eq own) (ids_at o) || bytes_eq id own) (sym found))
+
+  pub adds-put : (old new : Maps S T) (collection id : List ℕ) (now : Under S) → has_collection (names_of old) collection ≡ false → UpdatesBy bytes_eq (bytes_eq collection) old new (Some now) →
+      keys_of now.entries ≡ id ∷ [] → AddsName collection id (names_of old) (names_of new)
+  adds-put old new collection id now absent puts ids =
+      adds-name old new collection id now puts.0
+      (λ own. ap (list_any (bytes_eq own)) ids ∙ one (bytes_eq own id) ∙ eq-turned own id ∙ ap (λ (o : Option (Under S)). list_any (bytes_eq own) (ids_at o) || bytes_eq id own) (sym (absent-collection old collection absent)))
+    where
+      one : (b : Bool) → (b || false) ≡ b
+      one true = refl
+      one false = refl
+
+  -- ---- what stays
+
+  pub keeps-unchanged : (old new : Maps S T) → IsUnchanged old new → spare old ≤ spare new → KeepsRoom old new
+  keeps-unchanged old new same room = record {
+    commits = λ collection id. ap (λ (es : List (List ℕ × Under S)). option_map_or (λ (records : Under S). commits_under records id) (lookup (bytes_eq collection) es) []) same;
+    names = ap (map (entry_names {S = S})) same;
+    room = λ collection id. (
+        let e = ap (λ (es : List (List ℕ × Under S)). option_map_or (λ (records : Under S). room_under records id) (lookup (bytes_eq collection) es) 0) same in
+        omega (arith, e));
+    records = λ collection. (
+        let e = ap (λ (es : List (List ℕ × Under S)). option_map_or (λ (records : Under S). spare records) (lookup (bytes_eq collection) es) 0) same in
+        omega (arith, e));
+    spare = room;
+  }
+
+  -- the records that were written
+  pub written-at : (old new : Maps S T) (collection : List ℕ) (was now : Under S) → get_by (bytes_eq collection) old ≡ Some was → WritesThrough bytes_eq (bytes_eq collection) old now new → get_by (bytes_eq collection) new ≡ Some now
+  written-at old new collection was now found writes = (writes.3 (subst IsSome (sym found) refl)).1
+
+  pub keeps-written : (old new : Maps S T) (collection : List ℕ) (was now : Under S) → get_by (bytes_eq collection) old ≡ Some was → WritesThrough bytes_eq (bytes_eq collection) old now new → KeepsRoomUnder was now → KeepsRoom old new
+  keeps-written old new collection was now found writes keeps = record {
+    commits = λ q id. (
+        by q (λ (o p : Option (Under S)). option_map_or (λ (rs : Under S). commits_under rs id) p [] ≡ option_map_or (λ (rs : Under S). commits_under rs id) o []) refl (keeps.commits id));
+    names = ap (map (entry_names {S = S})) writes.0 ∙ names-set (bytes_eq collection) old.entries was now found keeps.ids;
+    room = λ q id. (
+        by q (λ (o p : Option (Under S)). option_map_or (λ (rs : Under S). room_under rs id) o 0 ≤ option_map_or (λ (rs : Under S). room_under rs id) p 0) (omega arith) (keeps.room id));
+    records = λ q. (
+        by q (λ (o p : Option (Under S)). option_map_or (λ (rs : Under S). spare rs) o 0 ≤ option_map_or (λ (rs : Under S). spare rs) p 0) (omega arith) keeps.spare);
+    spare = (let e = writes.6 in omega (arith, e));
+  }
+    where
+      by : (q : List ℕ) (P : Option (Under S) → Option (Under S) → Type 0) → P (get_by (bytes_eq q) old) (get_by (bytes_eq q) old) → P (Some was) (Some now) → P (get_by (bytes_eq q) old) (get_by (bytes_eq q) new)
+      by q P same changed =
+          let put = (writes.3 (subst IsSome (sym found) refl)).0 q in
+          elim (cases_Bool (bytes_eq collection q)) [
+            | inl hit ↦ (
+                let is : get_by (bytes_eq q) new ≡ Some now = put ∙ ap (λ (b : Bool). cond b (Some now) (get_by (bytes_eq q) old)) hit in
+                let own : collection ≡ q = (bytes_eq-Decides collection q).0 hit in
+                let there : get_by (bytes_eq q) old ≡ Some was = ap (λ (c : List ℕ). get_by (bytes_eq c) old) (sym own) ∙ found in
+                subst (λ (o : Option (Under S)). P o (get_by (bytes_eq q) new)) (sym there) (subst (P (Some was)) (sym is) changed))
+            | inr miss ↦ (
+                let is : get_by (bytes_eq q) new ≡ get_by (bytes_eq q) old = put ∙ ap (λ (b : Bool). cond b (Some now) (get_by (bytes_eq q) old)) miss in
+                subst (P (get_by (bytes_eq q) old)) (sym is) same)
+          ]
+
+  -- what has its room keeps it
+  pub place-kept : (old new : Maps S T) (collection id : List ℕ) (place : Place) → KeepsRoom old new → IsPlaceIn old collection id place → IsPlaceIn new collection id place
+  place-kept old new collection id Known keeps there = (let more = keeps.room collection id in omega (arith, more, there))
+  place-kept old new collection id (InCollection added) keeps there = (
+    there.0,
+    (let more = keeps.records collection in let some = there.1 in omega (arith, more, some)),
+    ap (λ (names : Names). has_record names collection id) keeps.names ∙ there.2,
+  )
+  place-kept old new collection id (InNewCollection name among added) keeps there = (
+    there.0,
+    there.1,
+    there.2,
+    there.3,
+    (let more = keeps.spare in let some = there.4 in omega (arith, more, some)),
+    ap (λ (names : Names). has_collection names collection) keeps.names ∙ there.5,
+  )
+
+  -- the place of an id in its collection is its place in the index
+  pub place-written : (old new : Maps S T) (collection id : List ℕ) (was now : Under S) (place : Place) → get_by (bytes_eq collection) old ≡ Some was → WritesThrough bytes_eq (bytes_eq collection) old now new → IsPlaceUnder now id place → IsPlaceIn new collection id place
+  place-written old new collection id was now place found writes = by place
+    where
+      is : get_by (bytes_eq collection) new ≡ Some now
+      is = written-at old new collection was now found writes
+
+      by : (place : Place) → IsPlaceUnder now id place → IsPlaceIn new collection id place
+      by Known there = subst (λ (o : Option (Under S)). 0 < option_map_or (λ (rs : Under S). room_under rs id) o 0) (sym is) there
+      by (InCollection added) there = (
+        there.0,
+        subst (λ (o : Option (Under S)). 0 < option_map_or (λ (rs : Under S). spare rs) o 0) (sym is) there.1,
+        record-named new collection id now is ∙ ap is_some there.2,
+      )
+      by (InNewCollection name among added) there = absurd there

@@ -1,0 +1,5 @@
+pub mod Due
+pub mod Entries
+pub mod Lends
+pub mod Map
+pub use Rattle.query_normal.specs.Keys

@@ -1,0 +1,117 @@
+//! The keys of which a copy may be issued without memory. There is seldom more than one.
+ghost use Rattle.std.specs.Prelude.{◌≡◌, ◌+◌, ◌<◌, ◌≤◌, ◌^◌, not, ◌&&◌, ◌||◌, [], length, IsTrue, OnOk, OnErr};
+ghost use Rattle.std.specs.List.{list_any};
+ghost use Rattle.query_normal.specs.declared.key.KeyShape.{KeyShape as AKey};
+ghost use Rattle.query_normal.specs.Keys.{same_key};
+
+use crate::key_sets::{holds, leave_out, take_all, take_key};
+use indexmap::IndexSet;
+use q_base::Memory;
+use query_normal::Key;
+use std::alloc::Global;
+use std::marker::Model;
+
+/// Keys, of which the first takes no memory of its own and is found by a comparison.
+#[derive(Drop)]
+pub struct Reserved {
+    first: Option<Key>,
+    /// Those that came while there was a first one.
+    others: IndexSet<Key>,
+}
+
+impl Model for Reserved {
+    ghost use Rattle.std.specs.Prelude.{List, ◌++◌, option_to_list};
+    ghost use Rattle.query_normal.specs.declared.key.KeyShape.{KeyShape};
+
+    ghost Value = { List KeyShape };
+
+    ghost view = { λ r. option_to_list r.first ++ r.others.keys };
+}
+
+impl Reserved {
+    /// No key.
+    pub fn new(alloc: Global) -> Reserved
+        ensures { result ≡ [] }
+    {
+        Reserved {
+            first: None,
+            others: IndexSet::new(alloc),
+        }
+    }
+
+    /// How many keys there are.
+    pub fn len(&self) -> usize
+        ensures len { result ≡ length self.now }
+        ensures small { result ≤ 2 ^ 63 }
+    {
+        match self.first {
+            Some(_) => 1 + self.others.len(),
+            None => self.others.len(),
+        }
+    }
+
+    /// Whether a key is among them.
+    pub fn contains(&self, key: &Key) -> bool
+        ensures { result ≡ list_any (same_key key.now) self.now }
+    {
+        match &self.first {
+            Some(first) => key == first || holds(&self.others, key),
+            None => holds(&self.others, key),
+        }
+    }
+
+    /// Puts a key in.
+    pub fn add(&mut self, key: Key) -> Result<(), Memory>
+        ensures ok { OnOk result ((other : AKey) → list_any (same_key other) self.new ≡ (same_key other key || list_any (same_key other) self.old)) }
+        ensures len { length self.new ≤ length self.old + 1 }
+        ensures err { OnErr result (self.new ≡ self.old) }
+    {
+        if self.first.is_none() {
+            self.first = Some(key);
+            return Ok(());
+        }
+        match self.others.insert(key) {
+            Ok(_) => Ok(()),
+            Err(_) => Err(Memory),
+        }
+    }
+
+    /// Takes a key out that is among them.
+    pub fn take(&mut self, key: &Key) -> Key
+        requires { IsTrue (list_any (same_key key.now) self.old) }
+        ensures key { result ≡ key.now }
+        ensures left { (other : AKey) → list_any (same_key other) self.new ≡ (not (same_key key.now other) && list_any (same_key other) self.old) }
+        ensures len { length self.new < length self.old }
+    {
+        match self.first.take() {
+            Some(first) => {
+                if key == &first {
+                    leave_out(&mut self.others, key);
+                    return first;
+                }
+                self.first = Some(first);
+            }
+            None => {}
+        }
+        take_key(&mut self.others, key)
+    }
+
+    /// Leaves a key out, if it is among them.
+    pub fn leave_out(&mut self, key: &Key)
+        ensures left { (other : AKey) → list_any (same_key other) self.new ≡ (not (same_key key.now other) && list_any (same_key other) self.old) }
+        ensures len { length self.new ≤ length self.old }
+        ensures used { IsTrue (list_any (same_key key.now) self.old) → length self.new < length self.old }
+    {
+        if self.contains(key) {
+            drop(self.take(key));
+        }
+    }
+
+    /// Takes all out, and keeps the room of the others.
+    pub fn clear(&mut self)
+        ensures { self.new ≡ [] }
+    {
+        self.first = None;
+        take_all(&mut self.others);
+    }
+}

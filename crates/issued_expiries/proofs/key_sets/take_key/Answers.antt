@@ -1,6 +1,0 @@
-use Rattle.issued_expiries.proofs.IssueLemmas.{taken_is}
-use Rattle.issued_expiries.proofs.key_sets.take_key.Goals as goal
-
--- what the set gave is the key
-pub returns-clause-key : goal.returns-clause-key
-returns-clause-key c = taken_is c.args.key.now _ _ c.in-Some.ensures.key

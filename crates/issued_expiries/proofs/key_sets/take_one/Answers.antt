@@ -1,6 +1,0 @@
-use Rattle.issued_expiries.proofs.IssueLemmas.{popped_is}
-use Rattle.issued_expiries.proofs.key_sets.take_one.Goals as goal
-
--- the last of them came out
-pub returns-clause-some : goal.returns-clause-some
-returns-clause-some c = popped_is c.pop.result _ _ c.pop.ensures.keys

@@ -1,0 +1,9 @@
+//! A text that stands in place where it is short, and on the heap where it is long.
+#![tactic(auto)]
+
+mod text;
+
+pub use text::ShortText;
+
+#[cfg(test)]
+mod tests;
