@@ -8,6 +8,7 @@ mod FramingLemmas
 mod HeadLines
 mod StatusLemmas
 mod PathLemmas
+mod PieceLemmas
 mod PlainLemmas
 mod QueryLemmas
 mod ReadLemmas

@@ -4,7 +4,7 @@ use Rattle.std.specs.Fmt.{digits}
 use Rattle.http_front.specs.declared.refused.Allow.TheVariants.{Record, Match as MatchAll, Other}
 use Rattle.http_front.specs.declared.refused.DocumentReason.TheVariants.{NotWhole}
 use Rattle.http_front.specs.declared.refused.FilterReason.TheVariants.{TooManyPaths}
-use Rattle.http_front.specs.declared.refused.FramingRefusal.TheVariants.{BodyTooLarge}
+use Rattle.http_message.specs.declared.refusal.FramingRefusal.TheVariants.{BodyTooLarge}
 use Rattle.http_front.specs.declared.refused.QueryField.TheVariants.{Order}
 use Rattle.http_front.specs.declared.refused.Refused.TheVariants.{Framing, NoRoute, BadMethod, BadFilter, BadDocument}
 use Rattle.hub_model.specs.declared.entry.Found.TheVariants.{Missing, At}

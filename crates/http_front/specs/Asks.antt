@@ -18,7 +18,7 @@ use Rattle.http_message.specs.Fields.{values}
 use Rattle.http_message.specs.Message.{Message}
 use Rattle.http_front.specs.declared.refused.Allow.{Allow}
 use Rattle.http_front.specs.declared.refused.DocumentReason.TheVariants.{NotJson, NotObject, TooDeep, NotWhole}
-use Rattle.http_front.specs.declared.refused.FramingRefusal.TheVariants.{BodyTooLarge}
+use Rattle.http_message.specs.declared.refusal.FramingRefusal.TheVariants.{BodyTooLarge}
 use Rattle.http_front.specs.declared.refused.Refused.{Refused}
 use Rattle.http_front.specs.declared.refused.Refused.TheVariants.{Framing, BadHost, BadTarget, NoRoute, BadMethod, NoLength, BadEncoding, BadTag, NotBuilt, BadDocument}
 use Rattle.http_front.specs.Answered.{and_then, unless}

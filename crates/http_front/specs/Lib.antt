@@ -3,10 +3,10 @@ pub mod Answered
 pub mod Asks
 pub mod Date
 pub mod Early
-pub mod Given
 pub mod Lines
 pub mod Numbers
 pub mod Paths
+pub mod Pieces
 pub mod Query
 pub mod ReadBack
 pub mod Reply

@@ -8,7 +8,7 @@ use Rattle.hub_model.specs.declared.entry.Outcome.TheVariants.{Whole, Absent}
 use Rattle.hub_model.specs.declared.entry.Stats.{Stats}
 use Rattle.hub_model.specs.declared.entry.Written.{Written}
 use Rattle.hub_model.specs.declared.entry.Written.TheVariants.{Done, Precondition, Full}
-use Rattle.http_front.specs.declared.refused.FramingRefusal.TheVariants.{BadHead, HeadTooLarge, BadLength, BadCoding, BodyTooLarge}
+use Rattle.http_message.specs.declared.refusal.FramingRefusal.TheVariants.{BadHead, HeadTooLarge, BadLength, BadCoding, BodyTooLarge}
 use Rattle.http_front.specs.Date.{IsDateOf}
 use Rattle.http_front.specs.Reply.{Reply, head_text, head_fields, reply_text}
 use Rattle.http_front.specs.declared.head.Head.{Head}

@@ -16,12 +16,12 @@ use crate::cut::{cut_at, cut_in_two};
 use crate::fields::{has_condition, has_host, has_length, is_bare, is_plain};
 use crate::names::{are_names, name_in};
 use crate::query::{FieldValue, fields_in};
-use crate::refused::{DocumentReason, FramingRefusal, Refused};
+use crate::refused::{DocumentReason, Refused};
 use crate::routes::{Method, QUERIES, RECORDS, Route, Routes};
 use crate::shape::Shape;
 use crate::tags::{Comparison, TagRefusal, tags_in};
 use crate::target::{local_part, or_root};
-use http_message::Request;
+use http_message::{FramingRefusal, Request};
 use hub_model::{Change, Commits, Condition, Tags};
 use q_base::{Memory, Name};
 use q_doc::{Doc, DocRefusal, ReadRoom};
@@ -56,7 +56,11 @@ pub enum Ask {
 
 /// What a request asks, or the first reason why it is refused. A body is read in the room that is
 /// lent. A record whose names have no escape takes no look at the table of routes.
-#[tactic(auto, unfolding(crate::specs::Asks::ask_of, crate::specs::Early::is_early, crate::specs::Target::path_of))]
+#[tactic(auto, unfolding(
+    crate::specs::Asks::ask_of,
+    crate::specs::Early::is_early,
+    crate::specs::Target::path_of
+))]
 pub fn ask_of(
     alloc: Global,
     request: &Request<'_>,

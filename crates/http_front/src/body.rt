@@ -1,13 +1,14 @@
 //! The bodies of replies.
-ghost use Rattle.std.specs.Prelude.{◌≡◌, ◌+◌, ◌≤◌, ◌++◌, length, decimal, codes, OnOk, OnErr};
-ghost use Rattle.q_outside.specs.Told.{Gives, GivesPart, Counts};
+ghost use Rattle.std.specs.Prelude.{◌≡◌, ◌+◌, ◌≤◌, ◌++◌, length, decimal, codes};
+ghost use Rattle.q_outside.specs.Told.{Gave};
 ghost use Rattle.http_front.specs.ReplyText.{found_text, written_body, outcome_body, stats_body, filter_body, refusal, body_of, given_body};
 ghost use Rattle.http_front.specs.declared.refused.Refused.TheVariants.{Framing, BadDocument};
 
 use crate::put::{put, put_number};
-use crate::refused::{DocumentReason, FilterRefusal, FramingRefusal, Refused};
+use crate::refused::{DocumentReason, FilterRefusal, Refused};
 use crate::shape::Shape;
 use crate::told::Told;
+use http_message::FramingRefusal;
 use hub_model::{Found, Outcome, Stats, Written};
 use q_outside::{Failed, Sink, give_all};
 
@@ -28,9 +29,7 @@ pub fn write_body<K: Sink>(
     page: &[u8],
     sink: &mut K,
 ) -> Result<(), Failed>
-    ensures ok { OnOk result (Gives (K.held sink.old) (K.held sink.new) (given_body shape (body_of told.now page.now))) }
-    ensures part { OnErr result (GivesPart (K.held sink.old) (K.held sink.new) (given_body shape (body_of told.now page.now))) }
-    ensures count { Counts (K.faults sink.old) (K.faults sink.new) result }
+    ensures { Gave (K.at sink.old) (K.at sink.new) (given_body shape (body_of told.now page.now)) result }
 {
     let mut numbers = [0; NUMBERS_ROOM];
     let body = body_of(told, page, &mut numbers);

@@ -1,6 +1,7 @@
 //! Giving the text of a reply to a sink.
-ghost use Rattle.q_outside.specs.Told.{Counts};
-ghost use Rattle.http_front.specs.Given.{GivesReply};
+ghost use Rattle.std.specs.Prelude.{ℕ, List};
+ghost use Rattle.q_outside.specs.Told.{Gave};
+ghost use Rattle.http_front.specs.ReplyText.{IsReplyText};
 
 use crate::body::{NUMBERS_ROOM, body_of, given};
 use crate::head::Head;
@@ -19,8 +20,7 @@ pub fn give_reply<K: Sink>(
     page: &[u8],
     close: bool,
 ) -> Result<(), Failed>
-    ensures reply { GivesReply (K.held sink.old) (K.held sink.new) shape told.now page.now close result }
-    ensures count { Counts (K.faults sink.old) (K.faults sink.new) result }
+    ensures reply { (text : List ℕ) × IsReplyText shape told.now page.now close text × Gave (K.at sink.old) (K.at sink.new) text result }
 {
     let mut numbers = [0; NUMBERS_ROOM];
     let body = body_of(told, page, &mut numbers);

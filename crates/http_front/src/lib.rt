@@ -13,6 +13,7 @@ mod head;
 mod laws;
 mod names;
 mod number;
+mod pieces;
 mod put;
 mod query;
 mod refused;
@@ -35,8 +36,9 @@ pub use laws::{
     replies_read_back,
 };
 pub use query::{FieldValue, fields_in};
+pub use pieces::{Body, Bytes, Parts, give_pieces};
 pub use refused::{
-    Allow, DocumentReason, FilterReason, FilterRefusal, FramingRefusal, QueryField, Refused,
+    Allow, DocumentReason, FilterReason, FilterRefusal, QueryField, Refused,
 };
 pub use reply::{REPLY_ROOM, ReplyRoom, reply_text};
 pub use routes::{ALL_ROUTES, Route, Routes, Served};

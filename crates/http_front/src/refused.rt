@@ -2,15 +2,7 @@
 ghost use Rattle.std.specs.Prelude.{◌≡◌, ◌≤◌, length};
 ghost use Rattle.http_front.specs.ReplyText.{allowed, field_name, reason_word};
 
-/// Why the bytes of an item cannot be framed.
-#[derive(Clone, Copy, Debug, PartialEq, Eq)]
-pub enum FramingRefusal {
-    BadHead,
-    HeadTooLarge,
-    BadLength,
-    BadCoding,
-    BodyTooLarge,
-}
+use http_message::FramingRefusal;
 
 /// The methods of a route, as a reply with the status 405 tells them (RFC 9110, section 10.2.1).
 #[derive(Clone, Copy, Debug, PartialEq, Eq)]

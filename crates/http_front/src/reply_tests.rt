@@ -1,8 +1,6 @@
 //! Replies, to the byte.
-use crate::{
-    Allow, DocumentReason, FramingRefusal, Refused, ReplyRoom, Shape, Told, give_reply, reply_text,
-    write_body,
-};
+use crate::{Allow, DocumentReason, Refused, ReplyRoom, Shape, Told, give_reply, reply_text, write_body};
+use http_message::FramingRefusal;
 use hub_model::{Answer, Found, Matched, Outcome, Stats, Written};
 use q_base::{Commit, Moment, SharedText};
 use q_outside::EndlessSink;

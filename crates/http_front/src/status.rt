@@ -5,7 +5,8 @@ ghost use Rattle.http_front.specs.ReplyText.{refusal, write_status};
 ghost use Rattle.http_front.specs.declared.refused.Refused.TheVariants.{Framing};
 
 use crate::put::{put, put_number};
-use crate::refused::{FramingRefusal, Refused};
+use crate::refused::Refused;
+use http_message::FramingRefusal;
 use http::StatusCode;
 use hub_model::Found;
 
@@ -13,7 +14,11 @@ use hub_model::Found;
 pub(crate) const STATUS_ROOM: usize = 63;
 
 /// Writes the line of a status at the front of a room.
-#[tactic(auto, using(crate::proofs::StatusLemmas::line_200, crate::proofs::StatusLemmas::line_201, crate::proofs::StatusLemmas::line_404))]
+#[tactic(auto, using(
+    crate::proofs::StatusLemmas::line_200,
+    crate::proofs::StatusLemmas::line_201,
+    crate::proofs::StatusLemmas::line_404
+))]
 #[inline(always)]
 pub(crate) fn put_status(room: &mut [u8], status: StatusCode) -> usize
     requires { STATUS_ROOM ≤ length room.old }
