@@ -4,6 +4,7 @@ use Rattle.std.proofs.lemmas.Bool.{cases_Bool, cases_lt, true≢false, lt-ltb}
 use Rattle.std.proofs.lemmas.List.{get_or-drop, get_or-take, length-drop}
 use Rattle.std.proofs.lemmas.List.Folds.{list_all_at}
 use Rattle.http_message.specs.Text.{empty_line, blank_length, begins_bare_return, head_length, window, behind_lead, front_of, BareReturn, Text, TooLarge, Unfinished, is_line_end, is_blank}
+use Rattle.http_message.specs.Limits.{head_limit}
 use Rattle.http_message.proofs.FrontLemmas.{reading, bare, complete, incomplete, head_bounds, window_is, window_fits, front_return, front_large, front_open}
 
 -- behind the empty lines there is none
@@ -50,12 +51,12 @@ visible_behind bytes n other at =
     let bounds = head_bounds (behind_lead bytes) n at in
     let below : lead < length w = omega (arith, bounds.0, bounds.1, length-drop lead w) in
     let fits = window_fits bytes in
-    let small : lead < 16384 = omega (arith, below, fits.0) in
+    let small : lead < head_limit = omega (arith, below, fits.0) in
     let visible : is_line_end (get_or (drop lead w) 0 0) ≡ false =
     first_visible (drop lead w) (none_behind w) other (omega (arith, bounds.0, bounds.1)) in
     let same : get_or (drop lead w) 0 0 ≡ get_or bytes lead 0 =
     get_or-drop lead w 0 0 ∙ ap (λ xs. get_or xs (lead + 0) 0) (window_is bytes)
-    ∙ get_or-take 16384 bytes (lead + 0) 0 (omega (arith, small))
+    ∙ get_or-take head_limit bytes (lead + 0) 0 (omega (arith, small))
     ∙ (let e : lead + 0 ≡ lead = omega arith in ap (λ i. get_or bytes i 0) e) in
     list_all_at is_line_end bytes lead 0 (omega (arith, below, fits.1)) (ap is_line_end (sym same) ∙ visible)
 
@@ -66,7 +67,7 @@ text_not_blank bytes text front =
       | bare is ↦ let clash : BareReturn ≡ Text text = sym (front_return bytes is) ∙ front in absurd (cc)
       | complete n other at ↦ visible_behind bytes n other at
       | incomplete other none ↦
-          elim (cases_lt (length bytes) 16384) [
+          elim (cases_lt (length bytes) head_limit) [
             | inl room ↦ let clash : Unfinished ≡ Text text = sym (front_open bytes other none room) ∙ front in absurd (cc)
             | inr full ↦ let clash : TooLarge ≡ Text text = sym (front_large bytes other none full) ∙ front in absurd (cc)
           ]

@@ -1,116 +1,81 @@
--- Bytes that are used one after the other.
-use Rattle.std.proofs.Common.{◌≡◌, ℕ, ◌+◌, ◌-◌, ◌<◌, ◌≤◌, List, [], ◌∷◌, ◌++◌, length, take, drop, Option, sym, ◌∙◌, ap, subst, arith, min}
+-- A room that is filled with what is held and then from a source.
+use Rattle.std.proofs.Common.{◌≡◌, ◌⊎◌, ℕ, ◌+◌, ◌-◌, ◌<◌, ◌≤◌, List, [], ◌∷◌, ◌++◌, length, take, drop, sym, ◌∙◌, ap, subst, refl, inl, inr, arith, min}
+use Rattle.std.specs.Prelude.{Result, Ok, Err}
 use Rattle.std.proofs.Math.Seq.{take-append-add}
-use Rattle.std.proofs.lemmas.List.{append_assoc, append-nil, take-append-drop, take-append-le, take_all, take_at, drop_all, length-append, length-take-le, length-drop}
-use Rattle.q_outside.specs.Told.{Takes}
-use Rattle.q_outside.proofs.Chain.{Takes-nothing, Takes-append}
-use Rattle.http_message.specs.Body.{TakesFewer, FallsShort, IsFull, IsExact}
-use Rattle.http_message.specs.Input.{Grows, Consumes}
-use Rattle.http_message.specs.declared.input.Reached.{Reached}
-use Rattle.http_message.specs.declared.input.Reached.TheVariants.{Whole, Ended, Failed}
+use Rattle.std.proofs.lemmas.List.{append-nil, take-append-drop, take-append-le, take_all, take_at, drop_all, length-append, length-take-le, length-drop}
+use Rattle.q_outside.specs.Told.{End, TookBytes}
+use Rattle.q_outside.proofs.Chain.{took_both}
+use Rattle.http_message.specs.Input.{IsIdle, IsFull, Reads}
+use Rattle.http_message.specs.declared.stopped.Stopped.{Stopped}
 
--- so many bytes of a room were taken, and the count of faults has not fallen
-pub record IsFilling (left left' : Option (List ℕ)) (room : List ℕ) (at faults faults' : ℕ) : Type 0 where
-  pub taken : Takes left left' (take at room)
+-- so many bytes of a room were taken, and none where it has none
+pub record IsFilling (first middle : End) (room : List ℕ) (at total : ℕ) : Type 0 where
+  pub took : TookBytes first middle (take at room)
   pub within : at ≤ length room
-  pub count : faults ≤ faults'
-
--- nothing was used
-pub consumes_none : (left : Option (List ℕ)) (held : List ℕ) → Consumes left left held held []
-consumes_none left held =
-    record { got = []; taken = Takes-nothing left; splits = append-nil held }
-
--- bytes that came are held
-pub consumes_grown : (left left' : Option (List ℕ)) (held held' : List ℕ) → Grows left left' held held'
-    → Consumes left left' held held' []
-consumes_grown left left' held held' grows =
-    record { got = grows.got; taken = grows.taken; splits = sym grows.adds }
-
--- bytes that are held are used
-pub consumes_held : (left : Option (List ℕ)) (held : List ℕ) (size : ℕ)
-    → Consumes left left held (drop size held) (take size held)
-consumes_held left held size = record {
-  got = [];
-  taken = Takes-nothing left;
-  splits = append-nil held ∙ sym (take-append-drop size held);
-}
-
--- some bytes are used, and then others
-pub consumes_twice : (first second third : Option (List ℕ)) (xs ys zs used more : List ℕ)
-    → Consumes first second xs ys used → Consumes second third ys zs more
-    → Consumes first third xs zs (used ++ more)
-consumes_twice first second third xs ys zs used more a b = record {
-  got = a.got ++ b.got;
-  taken = Takes-append first second third a.got b.got a.taken b.taken;
-  splits = sym (append_assoc xs a.got b.got) ∙ ap (λ bytes. bytes ++ b.got) a.splits
-      ∙ append_assoc used ys b.got ∙ ap (λ bytes. used ++ bytes) b.splits ∙ sym (append_assoc used more zs);
-}
+  pub idle : total ≡ 0 → middle ≡ first
 
 -- more bytes of the room were taken, behind those before
-pub filling_more : (left mid left' : Option (List ℕ)) (room piece rest : List ℕ) (at count first second third : ℕ)
-    → IsFilling left mid room at first second → Takes mid left' (take count piece) → count ≤ length piece
-    → second ≤ third → IsFilling left left' (take at room ++ (piece ++ rest)) (at + count) first third
-filling_more left mid left' room piece rest at count first second third before came fits rises =
+pub filling_more : (first middle last : End) (room piece rest : List ℕ) (at count total : ℕ)
+    → IsFilling first middle room at total → 0 < total → TookBytes middle last (take count piece) → count ≤ length piece
+    → IsFilling first last (take at room ++ (piece ++ rest)) (at + count) total
+filling_more first middle last room piece rest at count total before some came fits =
     let size : length (take at room) ≡ at = length-take-le at room before.within in
     let is : take (at + count) (take at room ++ (piece ++ rest)) ≡ take at room ++ take count piece =
     ap (λ n. take (n + count) (take at room ++ (piece ++ rest))) (sym size)
     ∙ take-append-add (take at room) (piece ++ rest) count
     ∙ ap (λ xs. take at room ++ xs) (take-append-le count piece rest fits) in
-    let P : List ℕ → Type 0 = λ xs. Takes left left' xs in
+    let P : List ℕ → Type 0 = λ xs. TookBytes first last xs in
     record {
-      taken = subst P (sym is) (Takes-append left mid left' (take at room) (take count piece) before.taken came);
+      took = subst P (sym is) (took_both first middle last (take at room) (take count piece) before.took came);
       within = omega (arith, size, fits, length-append (take at room) (piece ++ rest), length-append piece rest);
-      count = omega (arith, before.count, rises);
+      idle = λ none. absurd (omega (arith, none, some));
     }
 
--- what was held, and fewer bytes from the source than there was room for behind it
-pub short_by : (left left' : Option (List ℕ)) (held room rest : List ℕ) (size : ℕ)
-    → size ≤ length held → (0 < length rest → length held ≤ size) → room ≡ take size held ++ rest
-    → TakesFewer left left' (length rest) → FallsShort left left' held (drop size held) (length room)
-short_by left left' held room rest size within all is fewer =
-    let same : size ≡ length held = omega (arith, within, all (omega (arith, fewer.fewer))) in
-    let none : drop size held ≡ [] = drop_all size held (omega (arith, same)) in
+-- A room has at its front what was held, as much as there was, and behind it what the source is asked for.
+pub record Asks (held room rest : List ℕ) (size : ℕ) : Type 0 where
+  pub within : size ≤ length held
+  pub all : 0 < length rest → length held ≤ size
+  pub is : room ≡ take size held ++ rest
+
+-- where something is asked for, all that was held is in the room, and is short of it
+pub asks_some : (held room rest : List ℕ) (size : ℕ) → Asks held room rest size → 0 < length rest
+    → (size ≡ length held) × (length held + length rest ≡ length room)
+asks_some held room rest size asks some =
+    let same : size ≡ length held = omega (arith, asks.within, asks.all some) in
+    let long : length room ≡ length (take size held) + length rest = ap length asks.is ∙ length-append (take size held) rest in
+    (same, omega (arith, same, long, length-take-le size held asks.within))
+
+-- the room was filled
+pub exact_full : (source source' : End) (held room rest : List ℕ) (size : ℕ) → Asks held room rest size
+    → TookBytes source source' rest → (length rest ≡ 0 → source' ≡ source)
+    → (IsIdle source source' rest ⊎ (length held < length room)) × (held ++ rest ≡ room ++ drop size held)
+exact_full source source' held room [] size asks took idle = (
+  inl (record { same = idle (omega arith); none = refl }),
+  append-nil held ∙ sym (take-append-drop size held)
+      ∙ ap (λ xs. xs ++ drop size held) (sym (asks.is ∙ append-nil (take size held))),
+)
+exact_full source source' held room (x ∷ xs) size asks took idle =
+    let some = asks_some held room (x ∷ xs) size asks (omega arith) in (
+      inr (omega (arith, some.1)),
+      ap (λ ys. ys ++ x ∷ xs) (sym (take_all size held (omega (arith, some.0)))) ∙ sym asks.is
+          ∙ sym (append-nil room) ∙ ap (λ ys. room ++ ys) (sym (drop_all size held (omega (arith, some.0)))),
+    )
+
+-- or not: by the answer
+pub exact_by : {T : Type 0} (source source' : End) (held room rest : List ℕ) (size : ℕ) (result : Result T Stopped)
+    → Asks held room rest size → IsFull source source' rest result → (length rest ≡ 0 → source' ≡ source)
+    → Reads source source' held (drop size held) (λ bytes. length bytes < length room) (λ (_ : T) used. used ≡ room) result
+exact_by source source' held room rest size (Ok filled) asks full idle =
+    let came = exact_full source source' held room rest size asks full idle in
+    record { got = rest; took = full; waits = came.0; came = record { used = room; splits = came.1; says = refl } }
+exact_by source source' held room rest size (Err stopped) asks full idle =
+    let some = asks_some held room rest size asks (omega (arith, full.fewer)) in
     record {
-      used = held ++ fewer.got;
-      consumes = record {
-        got = fewer.got;
-        taken = fewer.taken;
-        splits = sym (append-nil (held ++ fewer.got)) ∙ ap (λ ys. (held ++ fewer.got) ++ ys) (sym none);
-      };
-      none = none;
-      fewer = omega (
-        arith,
-        fewer.fewer,
-        length-append held fewer.got,
-        ap length is,
-        length-append (take size held) rest,
-        length-take-le size held within,
-        same,
-      );
+      got = full.got;
+      took = full.took;
+      waits = inr (omega (arith, some.1, full.fewer));
+      came = (omega (arith, some.1, full.fewer, length-append held full.got), full.is);
     }
-
--- a room that was filled at its front with what was held, and behind it from the source
-pub exact_by : (left left' : Option (List ℕ)) (ended failed : Type 0) (held room rest : List ℕ) (size : ℕ) (reached : Reached)
-    → size ≤ length held → (0 < length rest → length held ≤ size) → room ≡ take size held ++ rest
-    → IsFull left left' ended failed rest reached
-    → IsExact left left' ended failed held (drop size held) room reached
-exact_by left left' ended failed held room [] size Whole within all is full = record {
-  got = [];
-  taken = full;
-  splits = append-nil held ∙ sym (take-append-drop size held)
-      ∙ ap (λ xs. xs ++ drop size held) (sym (is ∙ append-nil (take size held)));
-}
-exact_by left left' ended failed held room (x ∷ xs) size Whole within all is full =
-    let same : size ≡ length held = omega (arith, within, all (omega arith)) in record {
-      got = x ∷ xs;
-      taken = full;
-      splits = ap (λ ys. ys ++ x ∷ xs) (sym (take_all size held (omega (arith, same)))) ∙ sym is
-          ∙ sym (append-nil room) ∙ ap (λ ys. room ++ ys) (sym (drop_all size held (omega (arith, same))));
-    }
-exact_by left left' ended failed held room rest size Ended within all is full =
-    (full.0, short_by left left' held room rest size within all is full.1)
-exact_by left left' ended failed held room rest size Failed within all is full =
-    (full.0, short_by left left' held room rest size within all is full.1)
 
 -- a room of which the front was written, and then all that is behind it
 pub room_is : (front behind rest : List ℕ) (size : ℕ) → length front ≡ size
@@ -123,20 +88,25 @@ room_is front behind rest size is =
     ap (λ xs. xs ++ (rest ++ drop (length (front ++ behind) - size) (drop size (front ++ behind)))) (take_at front behind size is)
     ∙ ap (λ xs. front ++ (rest ++ xs)) none ∙ ap (λ xs. front ++ xs) (append-nil rest)
 
-pub exact_is : (left left' : Option (List ℕ)) (ended failed : Type 0) (held held' old front rest : List ℕ) (size : ℕ)
-    (reached : Reached) → size ≡ min (length held) (length old) → front ≡ take size held → held' ≡ drop size held
-    → length rest ≡ length old - size → IsFull left left' ended failed rest reached
-    → IsExact left left' ended failed held held'
-    (take size (front ++ drop size old)
+pub exact_is : {T : Type 0} (source source' : End) (held held' old front rest : List ℕ) (size : ℕ) (result : Result T Stopped)
+    → size ≡ min (length held) (length old) → front ≡ take size held → held' ≡ drop size held
+    → length rest ≡ length old - size → IsFull source source' rest result → (length rest ≡ 0 → source' ≡ source)
+    → Reads source source' held held'
+    (λ bytes. length bytes < length (take size (front ++ drop size old)
+    ++ (rest ++ drop (length (front ++ drop size old) - size) (drop size (front ++ drop size old)))))
+    (λ (_ : T) used. used ≡ take size (front ++ drop size old)
     ++ (rest ++ drop (length (front ++ drop size old) - size) (drop size (front ++ drop size old))))
-    reached
-exact_is left left' ended failed held held' old front rest size reached least copied skipped behind full =
+    result
+exact_is {T} source source' held held' old front rest size result least copied skipped behind full idle =
     let within : size ≤ length held = omega (arith, least) in
     let wide : length front ≡ size = ap length copied ∙ length-take-le size held within in
-    let room = room_is front (drop size old) rest size wide ∙ ap (λ xs. xs ++ rest) copied in
-    let P : List ℕ → Type 0 = λ xs. IsExact left left' ended failed held xs
-    (take size (front ++ drop size old)
-    ++ (rest ++ drop (length (front ++ drop size old) - size) (drop size (front ++ drop size old))))
-    reached in
-    subst P (sym skipped)
-    (exact_by left left' ended failed held _ rest size reached within (λ some. omega (arith, least, behind)) room full)
+    let asks : Asks held (take size (front ++ drop size old)
+    ++ (rest ++ drop (length (front ++ drop size old) - size) (drop size (front ++ drop size old)))) rest size = record {
+      within = within;
+      all = λ some. omega (arith, least, behind, some);
+      is = room_is front (drop size old) rest size wide ∙ ap (λ xs. xs ++ rest) copied;
+    } in
+    let room = take size (front ++ drop size old)
+    ++ (rest ++ drop (length (front ++ drop size old) - size) (drop size (front ++ drop size old))) in
+    let P : List ℕ → Type 0 = λ xs. Reads source source' held xs (λ bytes. length bytes < length room) (λ (_ : T) used. used ≡ room) result in
+    subst P (sym skipped) (exact_by source source' held room rest size result asks full idle)

@@ -5,10 +5,11 @@ use Rattle.std.proofs.lemmas.List.{append_assoc, append-nil, length-append, take
 use Rattle.httparse.proofs.ChunkLemmas.{chunk_line_unique}
 use Rattle.httparse.specs.Ascii.{crlf_bytes}
 use Rattle.httparse.specs.Grammar.{chunk_size}
-use Rattle.http_message.specs.Coding.{Whole, Overlong, Short, Decodes, chunk, last, bad_line, long_line, large, bad_end, bad_trailers, long_trailers, short_line, short_chunk, short_trailers, Outcome, Decoded, Broken, Unfinished, behind, line_at, trailers_at, room_behind, overlong_at, fits, coding_limit, IsSizeLine, IsNoLine, AreTrailers, AreNoTrailers}
+use Rattle.http_message.specs.Coding.{Whole, Overlong, Short, Decodes, chunk, last, bad_line, long_line, large, bad_end, bad_trailers, long_trailers, short_line, short_chunk, short_trailers, Outcome, Decoded, Broken, Unfinished, behind, line_at, trailers_at, room_behind, overlong_at, fits, IsSizeLine, IsNoLine, AreTrailers, AreNoTrailers}
 use Rattle.http_message.specs.declared.line.Sought.TheVariants.{Line, Trailers}
-use Rattle.http_message.specs.declared.refused.Refused.TheVariants.{BadLength, BodyTooLarge}
+use Rattle.http_message.specs.declared.refusal.FramingRefusal.TheVariants.{BadLength, BodyTooLarge}
 use Rattle.http_message.proofs.ChunkLemmas.{line_is, trailers_is, fits_parts}
+use Rattle.http_message.specs.Limits.{coding_limit}
 use Rattle.http_message.proofs.LineLemmas.{whole_here, overlong_here}
 
 -- two fronts of the same length, of the same bytes, are one

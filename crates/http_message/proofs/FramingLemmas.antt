@@ -10,7 +10,8 @@ use Rattle.std.specs.Prelude.{Ok, Err}
 use Rattle.std.specs.Str.Parse.{digits_value}
 use Rattle.http_message.specs.Framing.{framing_by_length, is_length}
 use Rattle.http_message.specs.declared.framing.Framing.TheVariants.{Sized}
-use Rattle.http_message.specs.declared.refused.Refused.TheVariants.{BadLength, BodyTooLarge}
+use Rattle.http_message.specs.Limits.{body_limit}
+use Rattle.http_message.specs.declared.refusal.FramingRefusal.TheVariants.{BadLength, BodyTooLarge}
 
 -- each of some digits is one
 pub digit_at : (digits : List ℕ) (i : ℕ) → list_all is_ascii_digit digits ≡ true → i < length digits
@@ -40,14 +41,14 @@ pub stated_none : (text : List ℕ) → is_length text ≡ false → framing_by_
 stated_none text other = rw other refl
 
 pub stated_above : (text : List ℕ) (number : ℕ) → is_length text ≡ true
-    → number ≡ min (digits_value 10 text) 65537 → 65536 < number → framing_by_length text ≡ Err BodyTooLarge
+    → number ≡ min (digits_value 10 text) 65537 → body_limit < number → framing_by_length text ≡ Err BodyTooLarge
 stated_above text number digits is above =
-    let not_fits : nat_le (digits_value 10 text) 65536 ≡ false = lt-leb (digits_value 10 text) 65536 (omega arith) in
+    let not_fits : nat_le (digits_value 10 text) body_limit ≡ false = lt-leb (digits_value 10 text) body_limit (omega arith) in
     rw (digits, not_fits) refl
 
 pub stated_within : (text : List ℕ) (number : ℕ) → is_length text ≡ true
-    → number ≡ min (digits_value 10 text) 65537 → number ≤ 65536 → framing_by_length text ≡ Ok (Sized number)
+    → number ≡ min (digits_value 10 text) 65537 → number ≤ body_limit → framing_by_length text ≡ Ok (Sized number)
 stated_within text number digits is within =
-    let fits : nat_le (digits_value 10 text) 65536 ≡ true = le-leb (digits_value 10 text) 65536 (omega arith) in
+    let fits : nat_le (digits_value 10 text) body_limit ≡ true = le-leb (digits_value 10 text) body_limit (omega arith) in
     let value : digits_value 10 text ≡ number = omega arith in
     rw (digits, fits, value) refl

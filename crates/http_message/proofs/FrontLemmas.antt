@@ -3,6 +3,7 @@ use Rattle.std.proofs.Common.{◌≡◌, ℕ, zero, suc, ◌+◌, ◌-◌, ◌<�
 use Rattle.std.proofs.Math.Seq.{take-append-add}
 use Rattle.std.proofs.lemmas.List.{append_assoc, take-append-drop, take-take, take_at, drop-append-le, drop-take, length-take, length-take-le, length-drop, length-append}
 use Rattle.std.proofs.lemmas.Bool.{cases_Bool, cases_lt, lt-ltb, ltb-true, le-leb, lt-leb, true≢false, and_parts}
+use Rattle.http_message.specs.Limits.{head_limit}
 use Rattle.http_message.specs.Text.{empty_line, blank_length, head_length, begins_bare_return, window, lead_length, front_of, behind_lead, Front, BareReturn, Text, TooLarge, Unfinished}
 
 -- two bytes decide whether an empty line stands at the front
@@ -139,14 +140,14 @@ head_cut (x ∷ bytes) n more is =
     ]
 
 -- the window, its length, and that of bytes that were cut
-pub window_is : (bytes : List ℕ) → window bytes ≡ take 16384 bytes
+pub window_is : (bytes : List ℕ) → window bytes ≡ take head_limit bytes
 unfolding window
 window_is bytes = refl
 
-pub window_fits : (bytes : List ℕ) → (length (window bytes) ≤ 16384) × (length (window bytes) ≤ length bytes)
+pub window_fits : (bytes : List ℕ) → (length (window bytes) ≤ head_limit) × (length (window bytes) ≤ length bytes)
 window_fits bytes =
-    let size : length (window bytes) ≡ length (take 16384 bytes) = ap length (window_is bytes) in
-    (omega (arith, size, length-take 16384 bytes), omega (arith, size, length-take 16384 bytes))
+    let size : length (window bytes) ≡ length (take head_limit bytes) = ap length (window_is bytes) in
+    (omega (arith, size, length-take head_limit bytes), omega (arith, size, length-take head_limit bytes))
 
 pub take_past : (n : ℕ) (xs ys : List ℕ) → length xs ≤ n → take n (xs ++ ys) ≡ xs ++ take (n - length xs) ys
 take_past n xs ys past =
@@ -154,15 +155,15 @@ take_past n xs ys past =
     ap (λ m. take m (xs ++ ys)) e ∙ take-append-add xs ys (n - length xs)
 
 pub window_cut : (bytes : List ℕ) (d : ℕ) (more : List ℕ) → d ≤ length (window bytes)
-    → window (take d bytes ++ more) ≡ take d (window bytes) ++ take (16384 - d) more
+    → window (take d bytes ++ more) ≡ take d (window bytes) ++ take (head_limit - d) more
 window_cut bytes d more fits =
     let bounds = window_fits bytes in
     let size : length (take d bytes) ≡ d = length-take-le d bytes (omega (arith, bounds.1)) in
     let same : take d bytes ≡ take d (window bytes) =
-    sym (take-take d 16384 bytes (omega (arith, bounds.0))) ∙ ap (take d) (sym (window_is bytes)) in
-    window_is (take d bytes ++ more) ∙ take_past 16384 (take d bytes) more (omega (arith, size, bounds.0))
-    ∙ ap (λ n. take d bytes ++ take (16384 - n) more) size
-    ∙ ap (λ xs. xs ++ take (16384 - d) more) same
+    sym (take-take d head_limit bytes (omega (arith, bounds.0))) ∙ ap (take d) (sym (window_is bytes)) in
+    window_is (take d bytes ++ more) ∙ take_past head_limit (take d bytes) more (omega (arith, size, bounds.0))
+    ∙ ap (λ n. take d bytes ++ take (head_limit - n) more) size
+    ∙ ap (λ xs. xs ++ take (head_limit - d) more) same
 
 -- what stands at the front, by what stands behind the empty lines
 pub lead_is : (bytes : List ℕ) → lead_length bytes ≡ blank_length (window bytes)
@@ -179,17 +180,17 @@ unfolding front_of
 front_text bytes n other at = rw (other, at) refl
 
 pub front_large : (bytes : List ℕ) → begins_bare_return (behind_lead bytes) ≡ false
-    → head_length (behind_lead bytes) ≡ None → 16384 ≤ length bytes → front_of bytes ≡ TooLarge
+    → head_length (behind_lead bytes) ≡ None → head_limit ≤ length bytes → front_of bytes ≡ TooLarge
 unfolding front_of
 front_large bytes other none full =
-    let yes_full : nat_le 16384 (length bytes) ≡ true = le-leb 16384 (length bytes) full in
+    let yes_full : nat_le head_limit (length bytes) ≡ true = le-leb head_limit (length bytes) full in
     rw (other, none, yes_full) refl
 
 pub front_open : (bytes : List ℕ) → begins_bare_return (behind_lead bytes) ≡ false
-    → head_length (behind_lead bytes) ≡ None → length bytes < 16384 → front_of bytes ≡ Unfinished
+    → head_length (behind_lead bytes) ≡ None → length bytes < head_limit → front_of bytes ≡ Unfinished
 unfolding front_of
 front_open bytes other none room =
-    let not_full : nat_le 16384 (length bytes) ≡ false = lt-leb 16384 (length bytes) room in
+    let not_full : nat_le head_limit (length bytes) ≡ false = lt-leb head_limit (length bytes) room in
     rw (other, none, not_full) refl
 
 -- the first bytes, so many, decide what stands at the front
@@ -205,16 +206,16 @@ blank_same bytes n more two fits =
     let b = blank_length w in
     let whole : b + n ≤ length w = omega (arith, length-drop b w, two) in
     ap blank_length (window_cut bytes (b + n) more whole)
-    ∙ blank_cut w b (b + n) (take (16384 - (b + n)) more) refl (omega arith) (omega arith)
+    ∙ blank_cut w b (b + n) (take (head_limit - (b + n)) more) refl (omega arith) (omega arith)
 
 pub behind_cut : (bytes : List ℕ) (n : ℕ) (more : List ℕ) → 2 ≤ n → n ≤ length (behind_lead bytes)
     → behind_lead (take (blank_length (window bytes) + n) bytes ++ more)
-    ≡ take n (behind_lead bytes) ++ take (16384 - (blank_length (window bytes) + n)) more
+    ≡ take n (behind_lead bytes) ++ take (head_limit - (blank_length (window bytes) + n)) more
 behind_cut bytes n more two fits =
     let w = window bytes in
     let b = blank_length w in
     let cut = take (b + n) bytes ++ more in
-    let rest = take (16384 - (b + n)) more in
+    let rest = take (head_limit - (b + n)) more in
     let whole : b + n ≤ length w = omega (arith, length-drop b w, two) in
     let size : length (take (b + n) w) ≡ b + n = length-take-le (b + n) w whole in
     ap (λ m. drop m (window cut)) (blank_same bytes n more two fits)
@@ -232,7 +233,7 @@ settles_text bytes n other at =
     let behind = behind_lead bytes in
     let bounds = head_bounds behind n at in
     let cut : List ℕ → List ℕ = λ more. take (b + n) bytes ++ more in
-    let rest : List ℕ → List ℕ = λ more. take (16384 - (b + n)) more in
+    let rest : List ℕ → List ℕ = λ more. take (head_limit - (b + n)) more in
     record {
       all = λ more.
           let is : behind_lead (cut more) ≡ take n behind ++ rest more = behind_cut bytes n more bounds.0 bounds.1 in
@@ -258,24 +259,24 @@ settles_return bytes bare =
       all = λ more.
           let is = behind_cut bytes 2 more two fits in
           front_return (take (b + 2) bytes ++ more)
-          (ap begins_bare_return is ∙ return_front behind 2 (take (16384 - (b + 2)) more) two fits ∙ bare);
+          (ap begins_bare_return is ∙ return_front behind 2 (take (head_limit - (b + 2)) more) two fits ∙ bare);
       leads = λ more. blank_same bytes 2 more two fits;
     }
 
 -- a full window decides
 pub settles_large : (bytes : List ℕ) → begins_bare_return (behind_lead bytes) ≡ false
-    → head_length (behind_lead bytes) ≡ None → 16384 ≤ length bytes → Settles bytes 16384 TooLarge
+    → head_length (behind_lead bytes) ≡ None → head_limit ≤ length bytes → Settles bytes head_limit TooLarge
 unfolding lead_length
 settles_large bytes other none full =
-    let same : (more : List ℕ) → window (take 16384 bytes ++ more) ≡ window bytes = λ more.
-    window_is (take 16384 bytes ++ more)
-    ∙ take_at (take 16384 bytes) more 16384 (length-take-le 16384 bytes full) ∙ sym (window_is bytes) in
-    let behind : (more : List ℕ) → behind_lead (take 16384 bytes ++ more) ≡ behind_lead bytes = λ more.
+    let same : (more : List ℕ) → window (take head_limit bytes ++ more) ≡ window bytes = λ more.
+    window_is (take head_limit bytes ++ more)
+    ∙ take_at (take head_limit bytes) more head_limit (length-take-le head_limit bytes full) ∙ sym (window_is bytes) in
+    let behind : (more : List ℕ) → behind_lead (take head_limit bytes ++ more) ≡ behind_lead bytes = λ more.
     ap (λ xs. drop (blank_length xs) xs) (same more) in
     record {
-      all = λ more. front_large (take 16384 bytes ++ more) (ap begins_bare_return (behind more) ∙ other)
+      all = λ more. front_large (take head_limit bytes ++ more) (ap begins_bare_return (behind more) ∙ other)
           (ap head_length (behind more) ∙ none)
-          (omega (arith, length-append (take 16384 bytes) more, length-take-le 16384 bytes full));
+          (omega (arith, length-append (take head_limit bytes) more, length-take-le head_limit bytes full));
       leads = λ more. ap blank_length (same more);
     }
 
@@ -319,11 +320,11 @@ reading bytes =
     ]
 
 -- a part of the window is that part of all the bytes
-pub part_of_window : (bytes : List ℕ) (b n : ℕ) → b + n ≤ 16384
+pub part_of_window : (bytes : List ℕ) (b n : ℕ) → b + n ≤ head_limit
     → take n (drop b (window bytes)) ≡ take n (drop b bytes)
 part_of_window bytes b n fits =
     ap (λ xs. take n (drop b xs)) (window_is bytes)
-    ∙ sym (drop-take b n (take 16384 bytes)) ∙ ap (drop b) (take-take (b + n) 16384 bytes fits)
+    ∙ sym (drop-take b n (take head_limit bytes)) ∙ ap (drop b) (take-take (b + n) head_limit bytes fits)
     ∙ drop-take b n bytes
 
 -- a front that is known is decided by the first bytes
@@ -332,7 +333,7 @@ pub record SettlesText (bytes text : List ℕ) : Type 0 where
   pub is : text ≡ take (length text) (drop (lead_length bytes) bytes)
   pub some : 2 ≤ length text
   pub within : lead_length bytes + length text ≤ length bytes
-  pub limit : lead_length bytes + length text ≤ 16384
+  pub limit : lead_length bytes + length text ≤ head_limit
 
 pub text_settles : (bytes : List ℕ) (n : ℕ) → begins_bare_return (behind_lead bytes) ≡ false
     → head_length (behind_lead bytes) ≡ Some n → SettlesText bytes (take n (behind_lead bytes))
@@ -345,7 +346,7 @@ text_settles bytes n other at =
     let size : length (take n behind) ≡ n = length-take-le n behind bounds.1 in
     let fits = window_fits bytes in
     let whole : b + n ≤ length w = omega (arith, bounds.0, bounds.1, length-drop b w) in
-    let limit : b + n ≤ 16384 = omega (arith, whole, fits.0) in
+    let limit : b + n ≤ head_limit = omega (arith, whole, fits.0) in
     record {
       settles = rw size (settles_text bytes n other at);
       is = part_of_window bytes b n limit ∙ ap (λ m. take m (drop b bytes)) (sym size);
@@ -364,7 +365,7 @@ settled_text bytes text front =
           let e : take n (behind_lead bytes) ≡ text = cc in
           subst P e (text_settles bytes n other at)
       | incomplete other none ↦
-          elim (cases_lt (length bytes) 16384) [
+          elim (cases_lt (length bytes) head_limit) [
             | inl room ↦ let clash : Unfinished ≡ Text text = sym (front_open bytes other none room) ∙ front in absurd (cc)
             | inr full ↦ let clash : TooLarge ≡ Text text = sym (front_large bytes other none full) ∙ front in absurd (cc)
           ]
@@ -377,20 +378,20 @@ settled_return bytes front =
       | complete n other at ↦
           let clash : Text (take n (behind_lead bytes)) ≡ BareReturn = sym (front_text bytes n other at) ∙ front in absurd (cc)
       | incomplete other none ↦
-          elim (cases_lt (length bytes) 16384) [
+          elim (cases_lt (length bytes) head_limit) [
             | inl room ↦ let clash : Unfinished ≡ BareReturn = sym (front_open bytes other none room) ∙ front in absurd (cc)
             | inr full ↦ let clash : TooLarge ≡ BareReturn = sym (front_large bytes other none full) ∙ front in absurd (cc)
           ]
     ]
 
-pub settled_large : (bytes : List ℕ) → front_of bytes ≡ TooLarge → Settles bytes 16384 TooLarge
+pub settled_large : (bytes : List ℕ) → front_of bytes ≡ TooLarge → Settles bytes head_limit TooLarge
 settled_large bytes front =
     elim (reading bytes) [
       | bare is ↦ let clash : BareReturn ≡ TooLarge = sym (front_return bytes is) ∙ front in absurd (cc)
       | complete n other at ↦
           let clash : Text (take n (behind_lead bytes)) ≡ TooLarge = sym (front_text bytes n other at) ∙ front in absurd (cc)
       | incomplete other none ↦
-          elim (cases_lt (length bytes) 16384) [
+          elim (cases_lt (length bytes) head_limit) [
             | inl room ↦ let clash : Unfinished ≡ TooLarge = sym (front_open bytes other none room) ∙ front in absurd (cc)
             | inr full ↦ settles_large bytes other none full
           ]

@@ -1,12 +1,15 @@
--- Ranges of a buffer, and bytes that come behind others.
-use Rattle.std.proofs.Common.{◌≡◌, ℕ, ◌+◌, ◌-◌, ◌≤◌, List, [], ◌++◌, length, take, drop, Option, refl, sym, ◌∙◌, ap, arith}
+-- Ranges of a buffer, and what several calls do with the bytes that are held and those of a source.
+use Rattle.std.proofs.Common.{◌≡◌, ◌⊎◌, ℕ, ◌+◌, ◌-◌, ◌≤◌, List, [], ◌++◌, length, take, drop, refl, sym, ◌∙◌, ap, subst, inl, inr, arith}
+use Rattle.std.specs.Prelude.{Result, Ok, Err}
 use Rattle.std.proofs.Math.Seq.{take-add}
-use Rattle.std.proofs.lemmas.List.{append_assoc, append-nil, drop-append-le, drop-drop, length-take}
+use Rattle.std.proofs.lemmas.List.{append_assoc, append-nil, drop-append-le, drop-drop, length-drop, length-take, length-take-le, take-append-drop}
 use Rattle.std.proofs.lemmas.Slice.{between_is}
 use Rattle.std.specs.List.{slice_range}
-use Rattle.q_outside.specs.Told.{Takes}
-use Rattle.q_outside.proofs.Chain.{Takes-nothing, Takes-append}
-use Rattle.http_message.specs.Input.{Grows}
+use Rattle.q_outside.specs.Told.{End, TookBytes}
+use Rattle.q_outside.proofs.Chain.{took_nothing, took_both}
+use Rattle.http_message.specs.Input.{IsStopped, IsIdle, Grows, Adds, AddsNone, Reads}
+use Rattle.http_message.specs.declared.stopped.Stopped.{Stopped}
+use Rattle.http_message.specs.declared.stopped.Stopped.TheVariants.{InputEnd, Truncated, ReadFault, WriteFault}
 
 -- the first bytes of a range are dropped
 pub range_skip : (bytes : List ℕ) (i j k : ℕ) → slice_range bytes (i + k) j ≡ drop k (slice_range bytes i j)
@@ -30,33 +33,233 @@ pub range_same : (before after : List ℕ) (i j : ℕ) → take j after ≡ take
     → slice_range after i j ≡ slice_range before i j
 range_same before after i j kept = between_is after i j ∙ ap (drop i) kept ∙ sym (between_is before i j)
 
--- a range of no byte
-pub range_none : (bytes : List ℕ) (j n : ℕ) → n ≡ 0 → slice_range bytes j (j + n) ≡ []
-range_none bytes j n none = let e : j + n - j ≡ 0 = omega arith in rw e refl
+-- a range within the bytes has as many as it says
+pub range_size : (bytes : List ℕ) (i n : ℕ) → i + n ≤ length bytes → length (slice_range bytes i (i + n)) ≡ n
+range_size bytes i n within =
+    omega (
+      arith,
+      ap length (between_is bytes i (i + n)),
+      length-drop i (take (i + n) bytes),
+      length-take-le (i + n) bytes within,
+    )
 
--- the bytes stay as they were, and none came
-pub grows_to : (left left' : Option (List ℕ)) (before after : List ℕ) → after ≡ before → Takes left left' []
-    → Grows left left' before after
-grows_to left left' before after same taken =
-    record { got = []; taken = taken; adds = same ∙ sym (append-nil before) }
+-- why a later call stopped is why both did
+pub stopped_later : (first middle last : End) (stopped : Stopped) → first.faults ≤ middle.faults
+    → IsStopped middle last stopped → IsStopped first last stopped
+stopped_later first middle last InputEnd count is = is
+stopped_later first middle last Truncated count is = is
+stopped_later first middle last ReadFault count is = omega (arith, count, is)
+stopped_later first middle last WriteFault count is = is
 
--- no byte came
-pub grows_none : (left left' : Option (List ℕ)) (bytes : List ℕ) → Takes left left' [] → Grows left left' bytes bytes
-grows_none left left' bytes taken = record { got = []; taken = taken; adds = sym (append-nil bytes) }
-
-pub grows_same : (left : Option (List ℕ)) (bytes : List ℕ) → Grows left left bytes bytes
-grows_same left bytes = grows_none left left bytes (Takes-nothing left)
-
--- first some bytes came, then others
-pub grows_twice : (first second third : Option (List ℕ)) (xs ys zs : List ℕ)
-    → Grows first second xs ys → Grows second third ys zs → Grows first third xs zs
-grows_twice first second third xs ys zs a b = record {
-  got = a.got ++ b.got;
-  taken = Takes-append first second third a.got b.got a.taken b.taken;
-  adds = b.adds ∙ ap (λ bytes. bytes ++ b.got) a.adds ∙ append_assoc xs a.got b.got;
+-- a source from which nothing was taken, and then nothing again
+pub idle_both : (first middle last : End) (xs ys : List ℕ) → IsIdle first middle xs → IsIdle middle last ys
+    → IsIdle first last (xs ++ ys)
+idle_both first middle last xs ys a b = record {
+  same = b.same ∙ a.same;
+  none = ap (λ zs. zs ++ ys) a.none ∙ b.none;
 }
 
--- bytes were taken, and the count of faults has not fallen
-pub record IsGrowing (left left' : Option (List ℕ)) (before after : List ℕ) (faults faults' : ℕ) : Type 0 where
-  pub grows : Grows left left' before after
-  pub count : faults ≤ faults'
+module _ (short : List ℕ → Type 0) where
+  -- no byte came yet
+  pub grows_none : (source : End) (held : List ℕ) → Grows source source short held held
+  grows_none source held = record {
+    got = [];
+    took = took_nothing source;
+    adds = sym (append-nil held);
+    waits = inl (record { same = refl; none = refl });
+  }
+
+  -- one call more, of bytes that are short
+  waits_on : (first middle : End) (xs ys : List ℕ) (g : Grows first middle short xs ys) → short ys → short xs
+  waits_on first middle xs ys g cut =
+      elim g.waits [
+        | inl idle ↦ subst short (g.adds ∙ ap (λ zs. xs ++ zs) idle.none ∙ append-nil xs) cut
+        | inr cut ↦ cut
+      ]
+
+  pub grows_more : (first middle last : End) (xs ys zs : List ℕ) → Grows first middle short xs ys → short ys
+      → Adds middle last ys zs → Grows first last short xs zs
+  grows_more first middle last xs ys zs a cut b = record {
+    got = a.got ++ b.got;
+    took = took_both first middle last a.got b.got a.took b.took;
+    adds = b.adds ∙ ap (λ bytes. bytes ++ b.got) a.adds ∙ append_assoc xs a.got b.got;
+    waits = inr (waits_on first middle xs ys a cut);
+  }
+
+  -- and one that brought none
+  pub grows_stop : (first middle last : End) (xs ys zs : List ℕ) (stopped : Stopped) → Grows first middle short xs ys → short ys
+      → AddsNone middle last ys zs stopped → Grows first last short xs zs
+  grows_stop first middle last xs ys zs stopped a cut b = record {
+    got = a.got ++ [];
+    took = took_both first middle last a.got [] a.took b.took;
+    adds = b.same ∙ a.adds ∙ ap (λ bytes. xs ++ bytes) (sym (append-nil a.got));
+    waits = inr (waits_on first middle xs ys a cut);
+  }
+
+  -- why it brought none
+  pub stop_is : (first middle last : End) (xs ys zs : List ℕ) (stopped : Stopped) → Grows first middle short xs ys
+      → AddsNone middle last ys zs stopped → short ys → short zs × IsStopped first last stopped
+  stop_is first middle last xs ys zs stopped a b cut =
+      (subst short (sym b.same) cut, stopped_later first middle last stopped a.took.count b.is)
+
+-- what a call did may be said otherwise
+pub reads_as : {T U : Type 0} (source last : End) (held rest : List ℕ) (short others : List ℕ → Type 0)
+    (is : T → List ℕ → Type 0) (later : U → List ℕ → Type 0) (reply : T) (answer : U)
+    → ((bytes : List ℕ) → short bytes → others bytes) → ((bytes : List ℕ) → is reply bytes → later answer bytes)
+    → Reads source last held rest short is (Ok reply) → Reads source last held rest others later (Ok answer)
+reads_as source last held rest short others is later reply answer cut fine r = record {
+  got = r.got;
+  took = r.took;
+  waits = elim r.waits [ inl idle ↦ inl idle | inr few ↦ inr (cut held few) ];
+  came = record { used = r.came.used; splits = r.came.splits; says = fine r.came.used r.came.says };
+}
+
+-- and why it stopped
+pub reads_stop : {T U : Type 0} (source last : End) (held rest rest' : List ℕ) (short others : List ℕ → Type 0)
+    (is : T → List ℕ → Type 0) (later : U → List ℕ → Type 0) (stopped : Stopped)
+    → ((bytes : List ℕ) → short bytes → others bytes) → Reads source last held rest short is (Err stopped)
+    → Reads source last held rest' others later (Err stopped)
+reads_stop source last held rest rest' short others is later stopped cut r = record {
+  got = r.got;
+  took = r.took;
+  waits = elim r.waits [ inl idle ↦ inl idle | inr few ↦ inr (cut held few) ];
+  came = (cut (held ++ r.got) r.came.0, r.came.1);
+}
+
+-- A call that used bytes, and a second one that is made behind them.
+pub record Behind
+    (source middle last : End) (held rest got used : List ℕ) (short behind others : List ℕ → Type 0) : Type 0 where
+  pub took : TookBytes source middle got
+  pub waits : IsIdle source middle got ⊎ short held
+  pub splits : held ++ got ≡ used ++ rest
+  pub cut : (bytes : List ℕ) → short bytes → others bytes
+  pub cut_behind : (bytes : List ℕ) → behind bytes → others (used ++ bytes)
+
+module _ (source middle last : End) (held rest got used : List ℕ) (short behind others : List ℕ → Type 0)
+    (first : Behind source middle last held rest got used short behind others) where
+  -- all the bytes
+  behind_all : (more : List ℕ) → used ++ (rest ++ more) ≡ held ++ (got ++ more)
+  behind_all more =
+      sym (append_assoc used rest more) ∙ ap (λ bytes. bytes ++ more) (sym first.splits) ∙ append_assoc held got more
+
+  -- both took nothing, or the bytes that are held are short
+  behind_waits : (more : List ℕ) → IsIdle middle last more ⊎ behind rest → IsIdle source last (got ++ more) ⊎ others held
+  behind_waits more second =
+      elim first.waits [
+        | inr few ↦ inr (first.cut held few)
+        | inl idle ↦
+            elim second [
+              | inl still ↦ inl (idle_both source middle last got more idle still)
+              | inr few ↦
+                  inr (subst others (sym first.splits ∙ ap (λ bytes. held ++ bytes) idle.none ∙ append-nil held)
+                  (first.cut_behind rest few))
+            ]
+      ]
+
+  -- what the second answered is what both answer
+  pub behind_ok : {T U : Type 0} (held' : List ℕ) (after : T → List ℕ → Type 0) (later : U → List ℕ → Type 0) (reply : T) (answer : U)
+      → ((bytes : List ℕ) → after reply bytes → later answer (used ++ bytes))
+      → Reads middle last rest held' behind after (Ok reply) → Reads source last held held' others later (Ok answer)
+  behind_ok held' after later reply answer fine second = record {
+    got = got ++ second.got;
+    took = took_both source middle last got second.got first.took second.took;
+    waits = behind_waits second.got second.waits;
+    came = record {
+      used = used ++ second.came.used;
+      splits = sym (behind_all second.got) ∙ ap (λ bytes. used ++ bytes) second.came.splits
+          ∙ sym (append_assoc used second.came.used held');
+      says = fine second.came.used second.came.says;
+    };
+  }
+
+  -- and why it stopped is why both did
+  pub behind_stop : {T U : Type 0} (held' rest' : List ℕ) (after : T → List ℕ → Type 0) (later : U → List ℕ → Type 0) (stopped : Stopped)
+      → Reads middle last rest held' behind after (Err stopped) → Reads source last held rest' others later (Err stopped)
+  behind_stop held' rest' after later stopped second = record {
+    got = got ++ second.got;
+    took = took_both source middle last got second.got first.took second.took;
+    waits = behind_waits second.got second.waits;
+    came = (
+      subst others (behind_all second.got) (first.cut_behind (rest ++ second.got) second.came.0),
+      stopped_later source middle last stopped first.took.count second.came.1,
+    );
+  }
+
+  -- by the answer
+  pub reads_behind : {T : Type 0} (held' : List ℕ) (after later : T → List ℕ → Type 0) (result : Result T Stopped)
+      → ((reply : T) (bytes : List ℕ) → after reply bytes → later reply (used ++ bytes))
+      → Reads middle last rest held' behind after result → Reads source last held held' others later result
+  reads_behind held' after later (Ok reply) fine second = behind_ok held' after later reply reply (fine reply) second
+  reads_behind held' after later (Err stopped) fine second = behind_stop held' held' after later stopped second
+
+-- a call that used bytes, as the first of two
+pub behind_read : {T : Type 0} (source middle last : End) (held rest : List ℕ) (short : List ℕ → Type 0) (is : T → List ℕ → Type 0)
+    (behind others : List ℕ → Type 0) (answer : T) (first : Reads source middle held rest short is (Ok answer))
+    → ((bytes : List ℕ) → short bytes → others bytes)
+    → ((bytes : List ℕ) → behind bytes → others (first.came.used ++ bytes))
+    → Behind source middle last held rest first.got first.came.used short behind others
+behind_read source middle last held rest short is behind others answer first cut cut_behind =
+    record { took = first.took; waits = first.waits; splits = first.came.splits; cut = cut; cut_behind = cut_behind }
+
+-- bytes that came, and are held
+pub behind_grown : (source middle last : End) (held rest : List ℕ) (short behind others : List ℕ → Type 0)
+    (grows : Grows source middle short held rest)
+    → ((bytes : List ℕ) → short bytes → others bytes) → ((bytes : List ℕ) → behind bytes → others bytes)
+    → Behind source middle last held rest grows.got [] short behind others
+behind_grown source middle last held rest short behind others grows cut cut_behind =
+    record { took = grows.took; waits = grows.waits; splits = sym grows.adds; cut = cut; cut_behind = cut_behind }
+
+-- the first of the bytes that are held
+pub behind_held : (source last : End) (held rest : List ℕ) (size : ℕ) (behind others : List ℕ → Type 0) → rest ≡ drop size held
+    → ((bytes : List ℕ) → behind bytes → others (take size held ++ bytes))
+    → Behind source source last held rest [] (take size held) (λ _. ⊥) behind others
+behind_held source last held rest size behind others skipped cut_behind = record {
+  took = took_nothing source;
+  waits = inl (record { same = refl; none = refl });
+  splits = append-nil held ∙ sym (take-append-drop size held) ∙ ap (λ bytes. take size held ++ bytes) (sym skipped);
+  cut = λ bytes none. absurd none;
+  cut_behind = cut_behind;
+}
+
+-- bytes that came, of which the first are used
+pub reads_grown : {T : Type 0} (source last : End) (held grown rest : List ℕ) (size : ℕ) (short others : List ℕ → Type 0)
+    (is : T → List ℕ → Type 0) (answer : T) → Grows source last short held grown → rest ≡ drop size grown
+    → ((bytes : List ℕ) → short bytes → others bytes) → is answer (take size grown)
+    → Reads source last held rest others is (Ok answer)
+reads_grown source last held grown rest size short others is answer grows skipped cut fine = record {
+  got = grows.got;
+  took = grows.took;
+  waits = elim grows.waits [ inl idle ↦ inl idle | inr few ↦ inr (cut held few) ];
+  came = record {
+    used = take size grown;
+    splits = sym grows.adds ∙ sym (take-append-drop size grown) ∙ ap (λ bytes. take size grown ++ bytes) (sym skipped);
+    says = fine;
+  };
+}
+
+-- the first of the bytes that are held are used
+pub reads_held : {T : Type 0} (source : End) (held rest : List ℕ) (size : ℕ) (others : List ℕ → Type 0)
+    (is : T → List ℕ → Type 0) (answer : T) → rest ≡ drop size held → is answer (take size held)
+    → Reads source source held rest others is (Ok answer)
+reads_held source held rest size others is answer skipped fine = record {
+  got = [];
+  took = took_nothing source;
+  waits = inl (record { same = refl; none = refl });
+  came = record {
+    used = take size held;
+    splits = append-nil held ∙ sym (take-append-drop size held) ∙ ap (λ bytes. take size held ++ bytes) (sym skipped);
+    says = fine;
+  };
+}
+
+-- no more bytes came
+pub reads_short : {T : Type 0} (source last : End) (held grown rest : List ℕ) (short others : List ℕ → Type 0)
+    (is : T → List ℕ → Type 0) (stopped : Stopped) → Grows source last short held grown
+    → ((bytes : List ℕ) → short bytes → others bytes) → short grown × IsStopped source last stopped
+    → Reads source last held rest others is (Err stopped)
+reads_short source last held grown rest short others is stopped grows cut why = record {
+  got = grows.got;
+  took = grows.took;
+  waits = elim grows.waits [ inl idle ↦ inl idle | inr few ↦ inr (cut held few) ];
+  came = (subst others grows.adds (cut grown why.0), why.1);
+}

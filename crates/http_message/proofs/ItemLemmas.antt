@@ -1,6 +1,6 @@
 -- From the bytes at the front of a stream to the item that they are.
-use Rattle.std.proofs.Common.{◌≡◌, ℕ, ◌+◌, ◌-◌, ◌<◌, ◌≤◌, List, [], ◌∷◌, ◌++◌, length, map, take, drop, Bool, true, false, nat_lt, nat_le, nat_eq, refl, sym, ◌∙◌, ap, subst, arith, lit≤, inl, inr}
-use Rattle.std.specs.Prelude.{Option, Result, Ok, codes}
+use Rattle.std.proofs.Common.{◌≡◌, ◌⊎◌, ℕ, ◌+◌, ◌-◌, ◌<◌, ◌≤◌, List, [], ◌∷◌, ◌++◌, length, map, take, drop, Bool, true, false, nat_lt, nat_le, nat_eq, refl, sym, ◌∙◌, ap, subst, arith, lit≤, inl, inr}
+use Rattle.std.specs.Prelude.{Result, Ok, Err, codes}
 use Rattle.std.specs.Str.Parse.{digits_value}
 use Rattle.std.specs.Str.{str_eq_ignore_ascii_case}
 use Rattle.std.proofs.lemmas.Bool.{cases_Bool, leb-true, lt-ltb}
@@ -8,22 +8,27 @@ use Rattle.std.proofs.lemmas.List.{append-nil, drop-take, drop-append-le, take-a
 use Rattle.httparse.specs.Grammar.{RequestHead}
 use Rattle.httparse.specs.Spans.{name_and_value}
 use Rattle.httparse.specs.declared.spans.HeaderSpan.{HeaderSpan}
-use Rattle.httparse.specs.declared.spans.RequestSpans.{RequestSpans}
 use Rattle.http_message.specs.Fields.{values}
-use Rattle.http_message.specs.Found.{IsReturnAt, IsTextAt, IsTooLarge}
+use Rattle.q_outside.specs.Told.{End}
+use Rattle.http_message.specs.Found.{IsReturnAt, IsTextAt, IsTooLarge, IsUnread}
 use Rattle.http_message.specs.Framing.{framing_of, framing_by, framing_by_length, framing_by_codings, is_length, calls}
 use Rattle.http_message.specs.Head.{IsNoHead}
-use Rattle.http_message.specs.Headed.{HasRoom, BeginsFramed, BeginsBad, IsHeaded, Heads}
-use Rattle.http_message.specs.Input.{Grows}
+use Rattle.http_message.specs.Headed.{HasRoom, BeginsFramed, BeginsBad, IsHeadOf, IsHalted, Heads}
+use Rattle.http_message.specs.Input.{IsStopped, IsIdle, Grows}
 use Rattle.http_message.specs.Item.{Item, request, unframed, continues, IsFramed, sized, chunked, broken, IsItemOf, no_head, bad_head, IsItemBy, IsItem}
 use Rattle.http_message.specs.Judged.{IsRefusedHead, IsFramedHead}
-use Rattle.http_message.specs.Text.{Front, BareReturn, Text, TooLarge, front_of, lead_length}
+use Rattle.http_message.specs.Stopped.{before_head}
+use Rattle.http_message.specs.Text.{Front, BareReturn, Text, TooLarge, Unfinished, front_of, lead_length, is_blank}
 use Rattle.http_message.specs.declared.framing.Framing.{Framing}
 use Rattle.http_message.specs.declared.framing.Framing.TheVariants.{Sized, Chunked}
 use Rattle.http_message.specs.declared.headed.Headed.{Headed}
 use Rattle.http_message.specs.declared.headed.Headed.TheVariants.{Bad}
-use Rattle.http_message.specs.declared.refused.Refused.{Refused}
-use Rattle.http_message.specs.declared.refused.Refused.TheVariants.{BadHead, HeadTooLarge}
+use Rattle.http_message.specs.declared.refusal.FramingRefusal.{FramingRefusal}
+use Rattle.http_message.specs.declared.refusal.FramingRefusal.TheVariants.{BadHead, HeadTooLarge}
+use Rattle.http_message.specs.declared.judge.Judged.{Judged}
+use Rattle.http_message.specs.declared.stopped.Stopped.{Stopped}
+use Rattle.http_message.specs.declared.stopped.Stopped.TheVariants.{InputEnd, Truncated, ReadFault, WriteFault}
+use Rattle.http_message.specs.Limits.{head_limit, most_fields, body_limit}
 use Rattle.http_message.proofs.FrontLemmas.{settled_text, settled_return, settled_large, settles_take}
 
 -- the length of the text
@@ -80,15 +85,15 @@ item_return held lead at =
     omega (arith, length-take-le (lead + 2) held at.within, cut.1, at.lead_is) in
     record { is = subst P (sym cut.0) (size, refl) }
 
-pub item_large : (held : List ℕ) → IsTooLarge held → IsItem (take 16384 held) (unframed HeadTooLarge false false)
+pub item_large : (held : List ℕ) → IsTooLarge held → IsItem (take head_limit held) (unframed HeadTooLarge false false)
 item_large held at =
-    let cut = settles_take held 16384 16384 TooLarge (lit≤ tt) (settled_large held at.front) in
-    let P : Front → Type 0 = λ front. IsItemBy front (take 16384 held) (unframed HeadTooLarge false false) in
-    record { is = subst P (sym cut.0) (length-take-le 16384 held at.full, refl) }
+    let cut = settles_take held head_limit head_limit TooLarge (lit≤ tt) (settled_large held at.front) in
+    let P : Front → Type 0 = λ front. IsItemBy front (take head_limit held) (unframed HeadTooLarge false false) in
+    record { is = subst P (sym cut.0) (length-take-le head_limit held at.full, refl) }
 
 -- the first bytes are dropped, as an item that has no body
-pub bad_first : (held rest : List ℕ) (refused : Refused) (used : ℕ) → IsItem (take used held) (unframed refused false false)
-    → rest ≡ drop used held → 0 < used → used ≤ 16384 → used ≤ length held → BeginsBad held rest refused used
+pub bad_first : (held rest : List ℕ) (refused : FramingRefusal) (used : ℕ) → IsItem (take used held) (unframed refused false false)
+    → rest ≡ drop used held → 0 < used → used ≤ head_limit → used ≤ length held → BeginsBad held rest refused used
 bad_first held rest refused used is rest_is some limit within = record {
   first = take used held;
   splits = sym (take-append-drop used held) ∙ ap (λ xs. take used held ++ xs) (sym rest_is);
@@ -98,39 +103,38 @@ bad_first held rest refused used is rest_is some limit within = record {
   limit = limit;
 }
 
-pub bad_text : (held rest : List ℕ) (refused : Refused) (lead size : ℕ) → IsTextAt held lead size
+pub bad_text : (held rest : List ℕ) (refused : FramingRefusal) (lead size : ℕ) → IsTextAt held lead size
     → IsItemOf (take size (drop lead held)) [] (unframed refused false false) → rest ≡ drop (lead + size) held
     → BeginsBad held rest refused (lead + size)
 bad_text held rest refused lead size at is rest_is =
     bad_first held rest refused (lead + size) (item_alone held lead size (unframed refused false false) at is) rest_is
     (omega (arith, at.some)) at.limit at.within
 
--- a text that is no head, and a head that is refused
-pub bad_none : (held rest : List ℕ) (lead size : ℕ) → IsTextAt held lead size → IsNoHead (take size (drop lead held))
-    → rest ≡ drop (lead + size) held → BeginsBad held rest BadHead (lead + size)
-bad_none held rest lead size at none rest_is = bad_text held rest BadHead lead size at (no_head none refl refl) rest_is
-
-pub bad_refused : (held rest : List ℕ) (refused : Refused) (lead size : ℕ) → IsTextAt held lead size
-    → IsRefusedHead (take size (drop lead held)) refused → rest ≡ drop (lead + size) held
-    → BeginsBad held rest refused (lead + size)
-bad_refused held rest refused lead size at is rest_is =
+-- a text that is no head, or a head that is refused
+pub bad_head_of : (held rest : List ℕ) (refused : FramingRefusal) (lead size : ℕ) → IsTextAt held lead size
+    → (IsNoHead (take size (drop lead held)) × (refused ≡ BadHead)) ⊎ IsRefusedHead (take size (drop lead held)) refused
+    → rest ≡ drop (lead + size) held → BeginsBad held rest refused (lead + size)
+bad_head_of held rest refused lead size at (inl none) rest_is =
+    let P : FramingRefusal → Type 0 = λ r. BeginsBad held rest r (lead + size) in
+    subst P (sym none.1) (bad_text held rest BadHead lead size at (no_head none.0 refl refl) rest_is)
+bad_head_of held rest refused lead size at (inr is) rest_is =
     bad_text held rest refused lead size at (bad_head is.head refused is.is is.framing_is refl refl) rest_is
 
-pub headed_bad : (ended failed : Type 0) (all rest text : List ℕ) (spans : List HeaderSpan) (headed : Headed)
-    (refused : Refused) (used : ℕ) → headed ≡ Bad refused used → BeginsBad all rest refused used
-    → IsHeaded ended failed all rest text spans headed
-headed_bad ended failed all rest text spans headed refused used is bad =
-    let P : Headed → Type 0 = λ answer. IsHeaded ended failed all rest text spans answer in subst P (sym is) bad
+pub headed_bad : (all rest text : List ℕ) (spans : List HeaderSpan) (headed : Headed)
+    (refused : FramingRefusal) (used : ℕ) → headed ≡ Bad refused used → BeginsBad all rest refused used
+    → IsHeadOf all rest text spans headed
+headed_bad all rest text spans headed refused used is bad =
+    let P : Headed → Type 0 = λ answer. IsHeadOf all rest text spans answer in subst P (sym is) bad
 
 -- how the values of two fields frame a body, and what follows
 pub length_room : (text : List ℕ) (framing : Framing) → framing_by_length text ≡ Ok framing
-    → (size : ℕ) × (framing ≡ Sized size) × (size ≤ 65536)
+    → (size : ℕ) × (framing ≡ Sized size) × (size ≤ body_limit)
 length_room text framing is =
     elim (cases_Bool (is_length text)) [
-      | inl digits ↦ elim (cases_Bool (nat_le (digits_value 10 text) 65536)) [
+      | inl digits ↦ elim (cases_Bool (nat_le (digits_value 10 text) body_limit)) [
         | inl small ↦
-            let e : ◌≡◌ {A = Result Framing Refused} (Ok (Sized (digits_value 10 text))) (Ok framing) = rw (digits, small) at is in
-            (digits_value 10 text, cc, leb-true (digits_value 10 text) 65536 small)
+            let e : ◌≡◌ {A = Result Framing FramingRefusal} (Ok (Sized (digits_value 10 text))) (Ok framing) = rw (digits, small) at is in
+            (digits_value 10 text, cc, leb-true (digits_value 10 text) body_limit small)
         | inr great ↦ let e = rw (digits, great) at is in absurd (cc)
       ]
       | inr other ↦ let e = rw other at is in absurd (cc)
@@ -140,14 +144,14 @@ pub codings_room : (coding : List ℕ) (codings : List (List ℕ)) (framing : Fr
     → framing_by_codings coding codings ≡ Ok framing → framing ≡ Chunked
 codings_room coding [] framing is =
     elim (cases_Bool (str_eq_ignore_ascii_case coding (codes "chunked"))) [
-      | inl same ↦ let e : ◌≡◌ {A = Result Framing Refused} (Ok Chunked) (Ok framing) = rw same at is in cc
+      | inl same ↦ let e : ◌≡◌ {A = Result Framing FramingRefusal} (Ok Chunked) (Ok framing) = rw same at is in cc
       | inr other ↦ let e = rw other at is in absurd (cc)
     ]
 codings_room coding (other ∷ codings) framing is = absurd (cc)
 
 -- a body of a stated length has no coding, and the other has one
 abbrev pub Frames : Framing → List (List ℕ) → Type 0
-Frames (Sized size) codings = (size ≤ 65536) × (nat_lt 0 (length codings) ≡ false)
+Frames (Sized size) codings = (size ≤ body_limit) × (nat_lt 0 (length codings) ≡ false)
 Frames Chunked codings = nat_lt 0 (length codings) ≡ true
 
 pub frames_by : (minor : ℕ) (lengths codings : List (List ℕ)) (framing : Framing)
@@ -176,7 +180,7 @@ pub frames : (head : RequestHead) (framing : Framing) → framing_of head ≡ Ok
 unfolding framing_of
 frames head framing is =
     let fields = map name_and_value head.fields in
-    elim (cases_Bool (nat_lt 64 (length fields))) [
+    elim (cases_Bool (nat_lt most_fields (length fields))) [
       | inl many ↦ let e = rw many at is in absurd (cc)
       | inr few ↦
           frames_by head.minor (values (codes "content-length") fields) (values (codes "transfer-encoding") fields) framing
@@ -212,12 +216,12 @@ text_copied held bytes copied rest lead size at same is =
 
 -- the head that was judged is at the front
 pub framed_first :
-    (held rest room : List ℕ) (spans : List HeaderSpan) (lead size : ℕ) (parts : RequestSpans) (framing : Framing)
-    (called heads : Bool) → IsTextAt held lead size → take size room ≡ take size (drop lead held) → size ≤ length room
-    → rest ≡ drop (lead + size) held → IsFramedHead (take size (drop lead held)) spans parts framing called heads
+    (held rest room : List ℕ) (spans : List HeaderSpan) (lead size : ℕ) (judged : Judged)
+    → IsTextAt held lead size → take size room ≡ take size (drop lead held) → size ≤ length room
+    → rest ≡ drop (lead + size) held → IsFramedHead (take size (drop lead held)) spans judged
     → BeginsFramed held rest room spans
-    (record { used = lead + size; text = size; parts = parts; framing = framing; calls = called; head = heads })
-framed_first held rest room spans lead size parts framing called heads at same fits rest_is is =
+    (record { used = lead + size; text = size; parts = judged.parts; framing = judged.framing; calls = judged.calls; head = judged.head })
+framed_first held rest room spans lead size judged at same fits rest_is is =
     let fronts = text_fronts held lead size at in
     record {
       first = take (lead + size) held;
@@ -229,17 +233,41 @@ framed_first held rest room spans lead size parts framing called heads at same f
       text_within = fits;
       at = rw same is.at;
       framing_is = is.framing_is;
-      room = frames_room framing (values (codes "transfer-encoding") (map name_and_value is.head.fields)) (frames is.head framing is.framing_is);
+      room = frames_room judged.framing (values (codes "transfer-encoding") (map name_and_value is.head.fields)) (frames is.head judged.framing is.framing_is);
       calls_is = is.called_is;
       head_is = is.heads_is;
       front = λ more. fronts.front more ∙ ap Text (sym same);
       behind = λ more. fronts.behind more ∙ ap (λ xs. xs ++ more) (sym same);
     }
 
+-- why no head came, by whether all the bytes are blank
+pub halted_by : (source source' : End) (all : List ℕ) (stopped : Stopped) (blank : Bool) → IsStopped source source' stopped
+    → is_blank all ≡ blank → IsHalted source source' all (before_head stopped blank)
+halted_by source source' all InputEnd blank is same = absurd is
+halted_by source source' all Truncated true is same = (is, same)
+halted_by source source' all Truncated false is same = (is, same)
+halted_by source source' all ReadFault blank is same = is
+halted_by source source' all WriteFault blank is same = absurd is
+
 -- what comes of all bytes that are held comes of those before with those that were taken
-pub heads_grow : (left left' : Option (List ℕ)) (ended failed : Type 0) (before after rest text : List ℕ)
-    (spans : List HeaderSpan) (headed : Headed) → Grows left left' before after
-    → IsHeaded ended failed after rest text spans headed → Heads left left' ended failed before rest text spans headed
-heads_grow left left' ended failed before after rest text spans headed grows is =
-    let P : List ℕ → Type 0 = λ bytes. IsHeaded ended failed bytes rest text spans headed in
-    record { got = grows.got; taken = grows.taken; is = subst P grows.adds is }
+module _ (source source' : End) (before after rest text : List ℕ) (spans : List HeaderSpan)
+    (grows : Grows source source' IsUnread before after) where
+  heads_waits : IsIdle source source' grows.got ⊎ (front_of before ≡ Unfinished)
+  heads_waits = elim grows.waits [ inl idle ↦ inl idle | inr unread ↦ inr unread.front ]
+
+  pub heads_grow : (headed : Headed) → IsHeadOf after rest text spans headed
+      → Heads source source' before rest text spans (Ok headed)
+  heads_grow headed is =
+      let P : List ℕ → Type 0 = λ bytes. IsHeadOf bytes rest text spans headed in
+      record { got = grows.got; took = grows.took; waits = heads_waits; is = subst P grows.adds is }
+
+  pub heads_stop : (stopped : Stopped) (blank : Bool) → IsUnread after × IsStopped source source' stopped
+      → blank ≡ is_blank after → Heads source source' before rest text spans (Err (before_head stopped blank))
+  heads_stop stopped blank why same =
+      let P : List ℕ → Type 0 = λ bytes. (front_of bytes ≡ Unfinished) × IsHalted source source' bytes (before_head stopped blank) in
+      record {
+        got = grows.got;
+        took = grows.took;
+        waits = heads_waits;
+        is = subst P grows.adds (why.0.front, halted_by source source' after stopped blank why.1 (sym same));
+      }

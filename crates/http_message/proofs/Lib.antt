@@ -12,6 +12,7 @@ mod ItemLemmas
 mod LineLemmas
 mod LookLemmas
 mod OptionLemmas
+mod PartLemmas
 mod ScanLemmas
 pub mod SplitLemmas
 mod StandardFacts

@@ -14,9 +14,10 @@ use Rattle.http_message.specs.Split.{Piece, bytes_of, OnlyLastCloses, last_close
 use Rattle.http_message.specs.Text.{Front, BareReturn, Text, TooLarge, Unfinished, front_of, lead_length}
 use Rattle.http_message.specs.declared.framing.Framing.{Framing}
 use Rattle.http_message.specs.declared.framing.Framing.TheVariants.{Sized, Chunked}
-use Rattle.http_message.specs.declared.refused.Refused.{Refused}
-use Rattle.http_message.specs.declared.refused.Refused.TheVariants.{BadHead, HeadTooLarge}
+use Rattle.http_message.specs.declared.refusal.FramingRefusal.{FramingRefusal}
+use Rattle.http_message.specs.declared.refusal.FramingRefusal.TheVariants.{BadHead, HeadTooLarge}
 use Rattle.http_message.proofs.CodingLemmas.{one_outcome, none_in_unfinished}
+use Rattle.http_message.specs.Limits.{head_limit}
 use Rattle.http_message.proofs.FrontLemmas.{settled_text, settled_return, settled_large, settles_grow}
 
 -- the bytes begin with this item, of so many bytes, by what stands at their front
@@ -25,7 +26,7 @@ BeginsBy BareReturn bytes n item = (n ≡ lead_length bytes + 2) × (item ≡ un
 BeginsBy (Text text) bytes n item =
     (coded : List ℕ) × (rest : List ℕ) × (drop (lead_length bytes) bytes ≡ text ++ (coded ++ rest))
     × (n ≡ lead_length bytes + (length text + length coded)) × IsItemOf text coded item
-BeginsBy TooLarge bytes n item = (n ≡ 16384) × (item ≡ unframed HeadTooLarge false false)
+BeginsBy TooLarge bytes n item = (n ≡ head_limit) × (item ≡ unframed HeadTooLarge false false)
 BeginsBy Unfinished bytes n item = ⊥
 
 -- bytes that are an item begin with it, whatever follows
@@ -52,7 +53,7 @@ begins_by (Text text) piece more item at (coded, split, is) =
       ),
     )
 begins_by TooLarge piece more item at is =
-    ((settles_grow piece 16384 TooLarge more (settled_large piece at)).0, is)
+    ((settles_grow piece head_limit TooLarge more (settled_large piece at)).0, is)
 begins_by Unfinished piece more item at is = absurd is
 
 -- one head is the whole text
@@ -60,20 +61,20 @@ pub one_head : (text : List ℕ) (head other : RequestHead) → IsHead text head
 one_head text head other a b = (request_unique text head other [] [] a.reads b.reads).0
 
 -- a head frames its body in one way, or is refused for one reason
-pub no_clash : (framing : Framing) (refused : Refused) (r : Result Framing Refused) → r ≡ Ok framing → r ≡ Err refused → ⊥
-no_clash framing refused r good bad = let e : ◌≡◌ {A = Result Framing Refused} (Ok framing) (Err refused) = sym good ∙ bad in cc
+pub no_clash : (framing : Framing) (refused : FramingRefusal) (r : Result Framing FramingRefusal) → r ≡ Ok framing → r ≡ Err refused → ⊥
+no_clash framing refused r good bad = let e : ◌≡◌ {A = Result Framing FramingRefusal} (Ok framing) (Err refused) = sym good ∙ bad in cc
 
-pub one_refused : (a b : Refused) (r : Result Framing Refused) → r ≡ Err a → r ≡ Err b → a ≡ b
-one_refused a b r first second = let e : ◌≡◌ {A = Result Framing Refused} (Err a) (Err b) = sym first ∙ second in cc
+pub one_refused : (a b : FramingRefusal) (r : Result Framing FramingRefusal) → r ≡ Err a → r ≡ Err b → a ≡ b
+one_refused a b r first second = let e : ◌≡◌ {A = Result Framing FramingRefusal} (Err a) (Err b) = sym first ∙ second in cc
 
-pub one_framing : (a b : Framing) (r : Result Framing Refused) → r ≡ Ok a → r ≡ Ok b → a ≡ b
-one_framing a b r first second = let e : ◌≡◌ {A = Result Framing Refused} (Ok a) (Ok b) = sym first ∙ second in cc
+pub one_framing : (a b : Framing) (r : Result Framing FramingRefusal) → r ≡ Ok a → r ≡ Ok b → a ≡ b
+one_framing a b r first second = let e : ◌≡◌ {A = Result Framing FramingRefusal} (Ok a) (Ok b) = sym first ∙ second in cc
 
 -- an outcome that has come is not pending
 pub decoded_done : (body : List ℕ) → Decoded body ≢ Pending
 decoded_done body e = cc
 
-pub broken_done : (refused : Refused) → Broken refused ≢ Pending
+pub broken_done : (refused : FramingRefusal) → Broken refused ≢ Pending
 broken_done refused e = cc
 
 -- the bytes behind a head that are framed are one item
@@ -100,7 +101,7 @@ one_framed head Chunked coded rest other others item item' (broken bytes refused
     let one = one_outcome 0 0 coded rest other others (Broken refused) (Broken refused') how how' (broken_done refused) (broken_done refused') same in
     let outcomes = one.1 in
     let refusals : refused ≡ refused' = cc in
-    (one.0, ap (λ (r : Refused). unframed r (calls head Chunked) (is_head head)) refusals)
+    (one.0, ap (λ (r : FramingRefusal). unframed r (calls head Chunked) (is_head head)) refusals)
 
 -- what is framed behind one head, of another that is the same
 pub framed_same : (text : List ℕ) (head other : RequestHead) (framing framing' : Framing) (coded : List ℕ) (item : Item)
@@ -127,7 +128,7 @@ one_of_text text coded rest coded' rest' item other same (bad_head head refused 
 one_of_text text coded rest coded' rest' item other same (bad_head head refused at bad nil is) (bad_head head' refused' at' bad' nil' is') =
     let refusals : refused ≡ refused' =
     one_refused refused refused' (framing_of head) bad (ap framing_of (one_head text head head' at at') ∙ bad') in
-    (nil ∙ sym nil', is ∙ ap (λ (r : Refused). unframed r false false) refusals ∙ sym is')
+    (nil ∙ sym nil', is ∙ ap (λ (r : FramingRefusal). unframed r false false) refusals ∙ sym is')
 one_of_text text coded rest coded' rest' item other same (bad_head head refused at bad nil is) (framed head' framing' at' good' how') =
     absurd (no_clash framing' refused (framing_of head') good' (ap framing_of (one_head text head' head at' at) ∙ bad))
 one_of_text text coded rest coded' rest' item other same (framed head framing at good how) (no_head none' nil' is') =

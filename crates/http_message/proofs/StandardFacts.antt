@@ -7,7 +7,8 @@ use Rattle.http_message.specs.Framing.{framing_in, is_length}
 use Rattle.http_message.specs.Message.{Message, asks_to_close, calls_for_continue, expects}
 use Rattle.http_message.specs.Text.{front_of, lead_length, window, Text, BareReturn, Unfinished, is_blank}
 use Rattle.http_message.specs.declared.framing.Framing.TheVariants.{Sized, Chunked}
-use Rattle.http_message.specs.declared.refused.Refused.TheVariants.{HeadTooLarge, BadLength, BadCoding, BodyTooLarge}
+use Rattle.http_message.specs.Limits.{body_limit}
+use Rattle.http_message.specs.declared.refusal.FramingRefusal.TheVariants.{HeadTooLarge, BadLength, BadCoding, BodyTooLarge}
 
 -- RFC 9112, section 2.2: empty lines before the request line are passed over, and LF may end a line
 pub lines : (front_of (codes "\r\n\nGET / HTTP/1.1\n\r\nx") ≡ Text (codes "GET / HTTP/1.1\n\r\n"))
@@ -29,7 +30,7 @@ pub lengths : (framing_in 1 [] ≡ Ok (Sized 0))
     × (framing_in 1 ((codes "Content-Length", codes "0") ∷ []) ≡ Ok (Sized 0))
     × (framing_in 1 ((codes "CONTENT-length", codes "007") ∷ []) ≡ Ok (Sized 7))
     × (framing_in 0 ((codes "Content-Length", codes "7") ∷ []) ≡ Ok (Sized 7))
-    × (framing_in 1 ((codes "Content-Length", codes "65536") ∷ []) ≡ Ok (Sized 65536))
+    × (framing_in 1 ((codes "Content-Length", codes "65536") ∷ []) ≡ Ok (Sized body_limit))
     × (framing_in 1 ((codes "Content-Length", codes "65537") ∷ []) ≡ Err BodyTooLarge)
     × (framing_in 1 ((codes "Content-Length", codes "0000000000000000007") ∷ []) ≡ Ok (Sized 7))
     × (framing_in 1 ((codes "Content-Length", codes "9999999999999999999") ∷ []) ≡ Err BodyTooLarge)

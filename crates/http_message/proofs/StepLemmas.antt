@@ -1,23 +1,21 @@
 -- The parts of a coding one after the other.
-use Rattle.std.proofs.Common.{◌≡◌, ℕ, ◌≤◌, Option, List, [], ◌++◌, length, take, refl, sym, ◌∙◌, ap, subst, arith}
+use Rattle.std.proofs.Common.{◌≡◌, ℕ, List, [], ◌++◌, length, take, refl, sym, ◌∙◌, ap, subst, inl, arith}
+use Rattle.std.specs.Prelude.{Ok}
 use Rattle.std.proofs.lemmas.List.{append_assoc, append-nil, length-append}
-use Rattle.http_message.specs.Coded.{TakesCoding, CutsCoding, IsProgress, TakesChunk}
+use Rattle.q_outside.specs.Told.{End}
+use Rattle.q_outside.proofs.Chain.{took_nothing}
+use Rattle.http_message.specs.Coded.{IsCutShort, ComesOut, IsProgress, IsChunk}
 use Rattle.http_message.specs.Coding.{Decodes, Outcome, Decoded, Broken, Unfinished, behind}
-use Rattle.http_message.specs.Input.{Consumes}
+use Rattle.http_message.specs.Input.{Reads}
 use Rattle.http_message.specs.declared.chunk.Progress.{Progress}
-use Rattle.http_message.specs.declared.refused.Refused.{Refused}
-use Rattle.http_message.proofs.BodyLemmas.{consumes_none, consumes_twice}
+use Rattle.http_message.specs.declared.refusal.FramingRefusal.{FramingRefusal}
 
--- the chunks so far were taken, and what follows comes out behind their content
-pub record IsDecoding
-    (left left' : Option (List ℕ)) (held held' : List ℕ) (at : Progress) (body : List ℕ) (faults faults' : ℕ) : Type 0 where
-  pub used : List ℕ
-  pub consumes : Consumes left left' held held' used
+-- The bytes are the chunks so far, and what follows comes out behind their content.
+pub record DecodesTo (body : List ℕ) (at : Progress) (bytes : List ℕ) : Type 0 where
   pub decodes : (rest : List ℕ) (outcome : Outcome) → Decodes at.coded at.got rest outcome
-      → Decodes 0 0 (used ++ rest) (behind (take at.got body) outcome)
+      → Decodes 0 0 (bytes ++ rest) (behind (take at.got body) outcome)
   pub limits : IsProgress at
-  pub coded_is : at.coded ≡ length used
-  pub count : faults ≤ faults'
+  pub coded_is : at.coded ≡ length bytes
 
 -- behind two contents, one after the other
 pub behind_twice : (first second : List ℕ) (outcome : Outcome)
@@ -32,74 +30,62 @@ behind_none (Broken refused) = refl
 behind_none Unfinished = refl
 
 -- no chunk was taken
-pub decoding_none : (left : Option (List ℕ)) (held body : List ℕ) (at : Progress) (faults : ℕ) → at.coded ≡ 0 → at.got ≡ 0
-    → IsDecoding left left held held at body faults faults
-decoding_none left held body at faults coded got = record {
-  used = [];
-  consumes = consumes_none left held;
-  decodes = λ rest outcome decodes.
-      let first : Decodes 0 at.got rest outcome = subst (λ (n : ℕ). Decodes n at.got rest outcome) coded decodes in
-      let second : Decodes 0 0 rest outcome = subst (λ (n : ℕ). Decodes 0 n rest outcome) got first in
-      let content : take at.got body ≡ [] = ap (λ n. take n body) got in
-      subst (λ (o : Outcome). Decodes 0 0 rest o)
-      (sym (behind_none outcome) ∙ ap (λ xs. behind xs outcome) (sym content)) second;
-  limits = record { coded = omega (arith, coded); got = omega (arith, got) };
-  coded_is = coded;
-  count = omega arith;
+pub decoding_none : (source : End) (held body : List ℕ) (at : Progress) → at.coded ≡ 0 → at.got ≡ 0
+    → Reads source source held held (IsCutShort 0 0) (DecodesTo body) (Ok at)
+decoding_none source held body at coded got = record {
+  got = [];
+  took = took_nothing source;
+  waits = inl (record { same = refl; none = refl });
+  came = record {
+    used = [];
+    splits = append-nil held;
+    says = record {
+      decodes = λ rest outcome decodes.
+          let first : Decodes 0 at.got rest outcome = subst (λ (n : ℕ). Decodes n at.got rest outcome) coded decodes in
+          let second : Decodes 0 0 rest outcome = subst (λ (n : ℕ). Decodes 0 n rest outcome) got first in
+          let content : take at.got body ≡ [] = ap (λ n. take n body) got in
+          subst (λ (o : Outcome). Decodes 0 0 rest o)
+          (sym (behind_none outcome) ∙ ap (λ xs. behind xs outcome) (sym content)) second;
+      limits = record { coded = omega (arith, coded); got = omega (arith, got) };
+      coded_is = coded;
+    };
+  };
 }
 
--- one more was
-pub decoding_more : (left mid left' : Option (List ℕ)) (held grown held' body body' : List ℕ) (at next : Progress)
-    (first second third : ℕ) → IsDecoding left mid held grown at body first second
-    → TakesChunk mid left' grown held' at next body body' → second ≤ third
-    → IsDecoding left left' held held' next body' first third
-decoding_more left mid left' held grown held' body body' at next first second third d t rises = record {
-  used = d.used ++ t.used;
-  consumes = consumes_twice left mid left' held grown held' d.used t.used d.consumes t.consumes;
+-- what follows the chunks so far is cut short, and so is all
+pub decoding_short : (body : List ℕ) (at : Progress) (used : List ℕ) → DecodesTo body at used → (bytes : List ℕ)
+    → IsCutShort at.coded at.got bytes → IsCutShort 0 0 (used ++ bytes)
+decoding_short body at used d bytes cut = d.decodes bytes Unfinished cut
+
+-- one more chunk
+pub decoding_more : (body body' : List ℕ) (at next : Progress) (used : List ℕ) → DecodesTo body at used → (bytes : List ℕ)
+    → IsChunk at next body body' bytes → DecodesTo body' next (used ++ bytes)
+decoding_more body body' at next used d bytes t = record {
   decodes = λ rest outcome decodes.
-      let whole : d.used ++ (t.used ++ rest) ≡ (d.used ++ t.used) ++ rest = sym (append_assoc d.used t.used rest) in
+      let whole : used ++ (bytes ++ rest) ≡ (used ++ bytes) ++ rest = sym (append_assoc used bytes rest) in
       let same : behind (take at.got body) (behind t.content outcome) ≡ behind (take next.got body') outcome =
       sym (behind_twice (take at.got body) t.content outcome) ∙ ap (λ xs. behind xs outcome) (sym t.content_is) in
-      let bytes : Decodes 0 0 ((d.used ++ t.used) ++ rest) (behind (take at.got body) (behind t.content outcome)) =
+      let all : Decodes 0 0 ((used ++ bytes) ++ rest) (behind (take at.got body) (behind t.content outcome)) =
       subst (λ (xs : List ℕ). Decodes 0 0 xs (behind (take at.got body) (behind t.content outcome))) whole
-      (d.decodes (t.used ++ rest) (behind t.content outcome) (t.decodes rest outcome decodes)) in
-      subst (λ (o : Outcome). Decodes 0 0 ((d.used ++ t.used) ++ rest) o) same bytes;
+      (d.decodes (bytes ++ rest) (behind t.content outcome) (t.decodes rest outcome decodes)) in
+      subst (λ (o : Outcome). Decodes 0 0 ((used ++ bytes) ++ rest) o) same all;
   limits = t.limits;
-  coded_is = omega (arith, d.coded_is, t.coded_is, length-append d.used t.used);
-  count = omega (arith, d.count, rises);
+  coded_is = omega (arith, d.coded_is, t.coded_is, length-append used bytes);
 }
 
--- the last part was taken
-pub decoding_ends : (left mid left' : Option (List ℕ)) (held grown held' body : List ℕ) (at : Progress) (first second total : ℕ)
-    → IsDecoding left mid held grown at body first second → TakesCoding mid left' grown held' at.coded at.got total (Decoded [])
-    → TakesCoding left left' held held' 0 0 total (Decoded (take at.got body))
-decoding_ends left mid left' held grown held' body at first second total d t = record {
-  used = d.used ++ t.used;
-  consumes = consumes_twice left mid left' held grown held' d.used t.used d.consumes t.consumes;
-  decodes = subst (λ (xs : List ℕ). Decodes 0 0 (d.used ++ t.used) (Decoded xs)) (append-nil (take at.got body))
-      (d.decodes t.used (Decoded []) t.decodes);
-  total_is = omega (arith, t.total_is, d.coded_is, length-append d.used t.used);
+-- the last part
+pub decoding_ends : (body : List ℕ) (at : Progress) (total : ℕ) (used : List ℕ) → DecodesTo body at used → (bytes : List ℕ)
+    → ComesOut at.coded at.got total (Decoded []) bytes → ComesOut 0 0 total (Decoded (take at.got body)) (used ++ bytes)
+decoding_ends body at total used d bytes t = record {
+  decodes = subst (λ (xs : List ℕ). Decodes 0 0 (used ++ bytes) (Decoded xs)) (append-nil (take at.got body))
+      (d.decodes bytes (Decoded []) t.decodes);
+  total_is = omega (arith, t.total_is, d.coded_is, length-append used bytes);
 }
 
--- it is refused
-pub decoding_breaks : (left mid left' : Option (List ℕ)) (held grown held' body : List ℕ) (at : Progress) (first second total : ℕ)
-    (refused : Refused) → IsDecoding left mid held grown at body first second
-    → TakesCoding mid left' grown held' at.coded at.got total (Broken refused)
-    → TakesCoding left left' held held' 0 0 total (Broken refused)
-decoding_breaks left mid left' held grown held' body at first second total refused d t = record {
-  used = d.used ++ t.used;
-  consumes = consumes_twice left mid left' held grown held' d.used t.used d.consumes t.consumes;
-  decodes = d.decodes t.used (Broken refused) t.decodes;
-  total_is = omega (arith, t.total_is, d.coded_is, length-append d.used t.used);
-}
-
--- or cut short
-pub decoding_cut : (left mid left' : Option (List ℕ)) (held grown held' body : List ℕ) (at : Progress) (first second : ℕ)
-    → IsDecoding left mid held grown at body first second → CutsCoding mid left' grown held' at.coded at.got
-    → CutsCoding left left' held held' 0 0
-decoding_cut left mid left' held grown held' body at first second d t = record {
-  used = d.used ++ t.used;
-  consumes = consumes_twice left mid left' held grown held' d.used t.used d.consumes t.consumes;
-  decodes = subst (λ (xs : List ℕ). Decodes 0 0 xs Unfinished) (sym (append_assoc d.used t.used held'))
-      (d.decodes (t.used ++ held') Unfinished t.decodes);
+-- a part that is refused
+pub decoding_breaks : (body : List ℕ) (at : Progress) (total : ℕ) (refused : FramingRefusal) (used : List ℕ) → DecodesTo body at used
+    → (bytes : List ℕ) → ComesOut at.coded at.got total (Broken refused) bytes → ComesOut 0 0 total (Broken refused) (used ++ bytes)
+decoding_breaks body at total refused used d bytes t = record {
+  decodes = d.decodes bytes (Broken refused) t.decodes;
+  total_is = omega (arith, t.total_is, d.coded_is, length-append used bytes);
 }

@@ -2,22 +2,10 @@
 use Rattle.std.specs.Prelude.{◌≡◌, ◌≢◌, ℕ, ◌+◌, ◌-◌, ◌<◌, ◌≤◌, min, Bool, true, false, nat_le, nat_lt, if◌then◌else◌, ◌==◌, ◌&&◌, List, [], ◌∷◌, ◌++◌, length, take, Option, Some, None, option_map, suc}
 use Rattle.httparse.specs.Ascii.{line_feed, crlf_bytes}
 use Rattle.httparse.specs.Grammar.{ChunkLine, ReadsChunkLine, chunk_size, Field, LineEnd, ReadsSection}
-use Rattle.http_message.specs.Framing.{body_limit}
+use Rattle.http_message.specs.Limits.{line_limit, coding_limit, trailer_room, body_limit}
 use Rattle.http_message.specs.Text.{empty_line, head_length}
-use Rattle.http_message.specs.declared.refused.Refused.{Refused}
-use Rattle.http_message.specs.declared.refused.Refused.TheVariants.{BadLength, BodyTooLarge}
-
--- a chunk's line has at most so many bytes with its end, and so have the trailers with their empty line
-abbrev pub line_limit : ℕ
-line_limit = 4096
-
--- the whole coding has at most so many bytes
-abbrev pub coding_limit : ℕ
-coding_limit = 524288
-
--- there is room for so many fields in the trailers: a field has three bytes at least
-abbrev pub trailer_room : ℕ
-trailer_room = 1366
+use Rattle.http_message.specs.declared.refusal.FramingRefusal.{FramingRefusal}
+use Rattle.http_message.specs.declared.refusal.FramingRefusal.TheVariants.{BadLength, BodyTooLarge}
 
 -- the length up to and with the first LF
 abbrev pub line_length : List ℕ → Option ℕ
@@ -58,7 +46,7 @@ trailers_at coded bytes =
     cut_by (trailers_length (take (room_behind coded) bytes)) (nat_le (room_behind coded) (length bytes)) bytes
 
 -- Why a text that does not end in its room is refused: it is too long by itself, or the coding is.
-abbrev pub overlong_at : ℕ → Refused
+abbrev pub overlong_at : ℕ → FramingRefusal
 overlong_at coded = if nat_le line_limit (coding_limit - coded) then BadLength else BodyTooLarge
 
 -- the whole text is the line of a chunk of this size
@@ -91,7 +79,7 @@ pub data Outcome : Type 0 where
   -- its end has come, and this is the body
   Decoded : (body : List ℕ) → Outcome
   -- it is refused
-  Broken : (refused : Refused) → Outcome
+  Broken : (refused : FramingRefusal) → Outcome
   -- more bytes decide
   Unfinished : Outcome
 

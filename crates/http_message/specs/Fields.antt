@@ -31,3 +31,7 @@ parted_at mark (byte ∷ bytes) =
 unfoldable pub has_option : List ℕ → List ℕ → Bool
 has_option option text =
     list_any (λ piece. str_eq_ignore_ascii_case (trim_ows piece) option) (parted_at 44 text)
+
+-- some field of this name lists the option (RFC 9110, section 5.6.1)
+abbrev pub lists : List ℕ → List ℕ → List Pair → Bool
+lists name option pairs = list_any (has_option option) (values name pairs)

@@ -4,10 +4,7 @@ use Rattle.httparse.specs.Grammar.{RequestHead, ReadsRequest}
 use Rattle.httparse.specs.Spans.{IsRequestWithin, IsRequestAt}
 use Rattle.httparse.specs.declared.spans.HeaderSpan.{HeaderSpan}
 use Rattle.httparse.specs.declared.spans.RequestSpans.{RequestSpans}
-
--- there is room for so many fields: a field has three bytes at least
-abbrev pub field_room : ℕ
-field_room = 5462
+use Rattle.http_message.specs.Limits.{field_room}
 
 -- the whole text is this head, whose fields have room
 pub record IsHead (text : List ℕ) (head : RequestHead) : Type 0 where

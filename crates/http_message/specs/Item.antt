@@ -5,12 +5,13 @@ use Rattle.httparse.specs.Grammar.{RequestHead}
 use Rattle.http_message.specs.Coding.{Decodes, Decoded, Broken, Unfinished}
 use Rattle.http_message.specs.Framing.{framing_of, calls}
 use Rattle.http_message.specs.Head.{IsHead, IsNoHead}
+use Rattle.http_message.specs.Limits.{head_limit}
 use Rattle.http_message.specs.Message.{Message, message_of, is_coded, calls_for_continue, asks_to_close}
-use Rattle.http_message.specs.Text.{Front, BareReturn, Text, TooLarge, Unfinished as Undecided, front_of, lead_length, head_limit}
+use Rattle.http_message.specs.Text.{Front, BareReturn, Text, TooLarge, Unfinished as Undecided, front_of, lead_length}
 use Rattle.http_message.specs.declared.framing.Framing.{Framing}
 use Rattle.http_message.specs.declared.framing.Framing.TheVariants.{Sized, Chunked}
-use Rattle.http_message.specs.declared.refused.Refused.{Refused}
-use Rattle.http_message.specs.declared.refused.Refused.TheVariants.{BadHead, HeadTooLarge}
+use Rattle.http_message.specs.declared.refusal.FramingRefusal.{FramingRefusal}
+use Rattle.http_message.specs.declared.refusal.FramingRefusal.TheVariants.{BadHead, HeadTooLarge}
 
 -- What the bytes of an item are.
 pub data Item : Type 0 where
@@ -18,7 +19,7 @@ pub data Item : Type 0 where
   request : (message : Message) → Item
   -- A request whose end cannot be told. Its head was not refused and called for `100 Continue` where
   -- `called` says so, and was not refused and has the method HEAD where `head` does.
-  unframed : (refused : Refused) (called head : Bool) → Item
+  unframed : (refused : FramingRefusal) (called head : Bool) → Item
 
 -- `100 Continue` begins the item's text
 abbrev pub continues : Item → Bool
@@ -39,7 +40,7 @@ pub data IsFramed (head : RequestHead) : Framing → (coded : List ℕ) → Item
   sized : (size : ℕ) (body : List ℕ) → length body ≡ size → IsFramed head (Sized size) body (request (message_of head body))
   chunked : (coded body : List ℕ) → Decodes 0 0 coded (Decoded body)
       → IsFramed head Chunked coded (request (message_of head body))
-  broken : (coded : List ℕ) (refused : Refused) → Decodes 0 0 coded (Broken refused)
+  broken : (coded : List ℕ) (refused : FramingRefusal) → Decodes 0 0 coded (Broken refused)
       → IsFramed head Chunked coded (unframed refused (calls head Chunked) (is_head head))
 
 -- The text of a head, and the bytes behind it, are this item.
@@ -47,7 +48,7 @@ pub data IsItemOf (text coded : List ℕ) (item : Item) : Type 0 where
   -- no head is just this text
   no_head : IsNoHead text → coded ≡ [] → item ≡ unframed BadHead false false → IsItemOf text coded item
   -- one is, and it is refused
-  bad_head : (head : RequestHead) (refused : Refused) → IsHead text head → framing_of head ≡ Err refused
+  bad_head : (head : RequestHead) (refused : FramingRefusal) → IsHead text head → framing_of head ≡ Err refused
       → coded ≡ [] → item ≡ unframed refused false false → IsItemOf text coded item
   -- one is, and it frames the bytes behind it
   framed : (head : RequestHead) (framing : Framing) → IsHead text head → framing_of head ≡ Ok framing

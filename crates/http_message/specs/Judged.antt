@@ -1,33 +1,29 @@
 -- What the whole text of a head is.
-use Rattle.std.specs.Prelude.{◌≡◌, ℕ, Bool, List, Ok, Err}
+use Rattle.std.specs.Prelude.{◌≡◌, ◌⊎◌, ℕ, List, Result, Ok, Err}
 use Rattle.httparse.specs.Grammar.{RequestHead}
 use Rattle.httparse.specs.declared.spans.HeaderSpan.{HeaderSpan}
-use Rattle.httparse.specs.declared.spans.RequestSpans.{RequestSpans}
 use Rattle.http_message.specs.Framing.{framing_of, calls}
 use Rattle.http_message.specs.Head.{IsHead, IsHeadAt, IsNoHead}
 use Rattle.http_message.specs.Item.{is_head}
-use Rattle.http_message.specs.declared.framing.Framing.{Framing}
 use Rattle.http_message.specs.declared.judge.Judged.{Judged}
-use Rattle.http_message.specs.declared.judge.Judged.TheVariants as judged
-use Rattle.http_message.specs.declared.refused.Refused.{Refused}
+use Rattle.http_message.specs.declared.refusal.FramingRefusal.{FramingRefusal}
+use Rattle.http_message.specs.declared.refusal.FramingRefusal.TheVariants.{BadHead}
 
 -- the text is a head that is refused
-pub record IsRefusedHead (text : List ℕ) (refused : Refused) : Type 0 where
+pub record IsRefusedHead (text : List ℕ) (refused : FramingRefusal) : Type 0 where
   pub head : RequestHead
   pub is : IsHead text head
   pub framing_is : framing_of head ≡ Err refused
 
--- the text is a head that frames a body, and these are its parts
-pub record IsFramedHead
-    (text : List ℕ) (spans : List HeaderSpan) (parts : RequestSpans) (framing : Framing) (called heads : Bool) : Type 0 where
+-- the text is a head that frames a body, and this is it
+pub record IsFramedHead (text : List ℕ) (spans : List HeaderSpan) (judged : Judged) : Type 0 where
   pub head : RequestHead
-  pub at : IsHeadAt text spans parts head
-  pub framing_is : framing_of head ≡ Ok framing
-  pub called_is : called ≡ calls head framing
-  pub heads_is : heads ≡ is_head head
+  pub at : IsHeadAt text spans judged.parts head
+  pub framing_is : framing_of head ≡ Ok judged.framing
+  pub called_is : judged.calls ≡ calls head judged.framing
+  pub heads_is : judged.head ≡ is_head head
 
--- what the text is
-abbrev pub IsJudged : List ℕ → List HeaderSpan → Judged → Type 0
-IsJudged text spans judged.NoHead = IsNoHead text
-IsJudged text spans (judged.Refused refused) = IsRefusedHead text refused
-IsJudged text spans (judged.Framed parts framing called heads) = IsFramedHead text spans parts framing called heads
+-- what the text is; a refusal says that it is no head, or a head that is refused
+abbrev pub IsJudged : List ℕ → List HeaderSpan → Result Judged FramingRefusal → Type 0
+IsJudged text spans (Ok judged) = IsFramedHead text spans judged
+IsJudged text spans (Err refused) = (IsNoHead text × (refused ≡ BadHead)) ⊎ IsRefusedHead text refused

@@ -1,5 +1,4 @@
 pub mod Bodied
-pub mod Body
 pub mod Coded
 pub mod Coding
 pub mod Fields
@@ -11,13 +10,16 @@ pub mod Input
 pub mod Item
 pub mod Judged
 pub mod Laws
+pub mod Limits
 pub mod Line
 pub mod Message
 pub mod Named
+pub mod Next
 pub mod Placed
 pub mod Room
 pub mod Scan
 pub mod Split
+pub mod Stopped
 pub mod Taken
 pub mod Text
 pub use Rattle.httparse.specs.Spans

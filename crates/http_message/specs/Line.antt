@@ -1,15 +1,16 @@
 -- The search for a line of a chunk or for trailers, in the bytes that have come.
-use Rattle.std.specs.Prelude.{◌≡◌, ℕ, ◌+◌, ◌<◌, ◌≤◌, nat_le, List, ◌++◌, length, take, drop, Option, Some, None, option_map}
+use Rattle.std.specs.Prelude.{◌≡◌, ℕ, ◌+◌, ◌<◌, ◌≤◌, nat_le, List, ◌++◌, length, take, drop, Option, Some, None, option_map, Result, Ok, Err}
+use Rattle.q_outside.specs.Told.{End}
 use Rattle.http_message.specs.Coding.{Cut, cut_by, line_length, trailers_length}
+use Rattle.http_message.specs.Input.{IsStopped}
 use Rattle.http_message.specs.Scan.{Passes}
-use Rattle.http_message.specs.declared.line.Sight.{Sight}
-use Rattle.http_message.specs.declared.line.Sight.TheVariants as sight
 use Rattle.http_message.specs.declared.line.Sought.{Sought}
 use Rattle.http_message.specs.declared.line.Sought.TheVariants.{Line, Trailers}
 use Rattle.http_message.specs.declared.line.TextFound.{TextFound}
-use Rattle.http_message.specs.declared.line.TextFound.TheVariants as found
-use Rattle.http_message.specs.declared.scan.End.{End}
+use Rattle.http_message.specs.declared.line.TextFound.TheVariants.{Whole, Overlong}
+use Rattle.http_message.specs.declared.scan.End.{End as TextEnd}
 use Rattle.http_message.specs.declared.scan.End.TheVariants.{At, Behind}
+use Rattle.http_message.specs.declared.stopped.Stopped.{Stopped}
 
 -- the length of what is looked for, where it is whole
 abbrev pub length_of : Sought → List ℕ → Option ℕ
@@ -32,7 +33,7 @@ IsPassed Line bytes size = PassesLine bytes size
 IsPassed Trailers bytes size = Passes bytes size
 
 -- where it ends, or that it does not yet
-abbrev pub IsEndOf : Sought → List ℕ → End → Type 0
+abbrev pub IsEndOf : Sought → List ℕ → TextEnd → Type 0
 IsEndOf sought bytes (At size) = length_of sought bytes ≡ Some size
 IsEndOf sought bytes (Behind passed) = (length_of sought bytes ≡ None) × IsPassed sought bytes passed
 
@@ -50,15 +51,17 @@ pub record IsOpenIn (sought : Sought) (most : ℕ) (bytes : List ℕ) : Type 0 w
   pub none : length_of sought (take most bytes) ≡ None
   pub short : length bytes < most
 
--- what a look at the bytes shows
-abbrev pub IsSight : Sought → ℕ → List ℕ → Sight → Type 0
-IsSight sought most bytes (sight.Whole size) = EndsIn sought most bytes size
-IsSight sought most bytes sight.Overlong = Overruns sought most bytes
-IsSight sought most bytes (sight.Short passed) = IsOpenIn sought most bytes × IsPassed sought (take most bytes) passed
+-- what was found
+abbrev pub IsText : Sought → ℕ → List ℕ → TextFound → Type 0
+IsText sought most bytes (Whole size) = EndsIn sought most bytes size
+IsText sought most bytes Overlong = Overruns sought most bytes
+
+-- what a look at the bytes shows: what was found, or that more bytes decide, and what was passed
+abbrev pub IsSight : Sought → ℕ → List ℕ → Result TextFound ℕ → Type 0
+IsSight sought most bytes (Ok found) = IsText sought most bytes found
+IsSight sought most bytes (Err passed) = IsOpenIn sought most bytes × IsPassed sought (take most bytes) passed
 
 -- what was found, or why no more bytes came
-abbrev pub IsTextFound : (ended failed : Type 0) → Sought → ℕ → List ℕ → TextFound → Type 0
-IsTextFound ended failed sought most held (found.Whole size) = EndsIn sought most held size
-IsTextFound ended failed sought most held found.Overlong = Overruns sought most held
-IsTextFound ended failed sought most held found.Ended = ended × IsOpenIn sought most held
-IsTextFound ended failed sought most held found.Failed = failed × IsOpenIn sought most held
+abbrev pub IsTextFound : (source source' : End) → Sought → ℕ → List ℕ → Result TextFound Stopped → Type 0
+IsTextFound source source' sought most held (Ok found) = IsText sought most held found
+IsTextFound source source' sought most held (Err stopped) = IsOpenIn sought most held × IsStopped source source' stopped

@@ -6,7 +6,7 @@ use Rattle.httparse.specs.Grammar.{RequestHead}
 use Rattle.httparse.specs.Spans.{name_and_value, span_bytes, header_bytes}
 use Rattle.httparse.specs.declared.spans.HeaderSpan.{HeaderSpan}
 use Rattle.httparse.specs.declared.spans.RequestSpans.{RequestSpans}
-use Rattle.http_message.specs.Fields.{Pair, values, has_option}
+use Rattle.http_message.specs.Fields.{Pair, values, lists}
 
 -- the parts of a request
 pub record Message : Type 0 where
@@ -54,4 +54,4 @@ calls_for_continue minor fields has_body = (minor == 1) && (expects fields && ha
 
 -- the connection ends after a request of HTTP/1.0, and after one that asks for it (RFC 9112, section 9.6)
 abbrev pub asks_to_close : Message → Bool
-asks_to_close m = (m.minor == 0) || list_any (has_option (codes "close")) (values (codes "connection") m.fields)
+asks_to_close m = (m.minor == 0) || lists (codes "connection") (codes "close") m.fields

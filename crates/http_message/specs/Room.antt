@@ -2,12 +2,9 @@
 use Rattle.std.specs.Prelude.{◌≡◌, ℕ, ◌≤◌, List, length, take}
 use Rattle.httparse.specs.Spans.{IsRequestWithin}
 use Rattle.httparse.specs.declared.spans.HeaderSpan.{HeaderSpan}
-use Rattle.http_message.specs.Coding.{trailer_room}
-use Rattle.http_message.specs.Framing.{body_limit}
-use Rattle.http_message.specs.Head.{field_room}
+use Rattle.http_message.specs.Limits.{head_limit, field_room, trailer_room, body_limit}
 use Rattle.http_message.specs.Message.{Message, message_in}
 use Rattle.http_message.specs.Taken.{Held}
-use Rattle.http_message.specs.Text.{head_limit}
 use Rattle.http_message.specs.declared.kept.Kept.{Kept}
 
 -- the request that is kept

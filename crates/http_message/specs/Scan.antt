@@ -1,12 +1,10 @@
 -- What a search for the end of a head knows, whatever bytes follow.
-use Rattle.std.specs.Prelude.{◌≡◌, ℕ, ◌+◌, ◌<◌, ◌≤◌, true, false, List, [], ◌∷◌, ◌++◌, length, drop, slice_index, Some, None, option_map, ◌⊎◌}
+use Rattle.std.specs.Prelude.{◌≡◌, ℕ, ◌+◌, ◌<◌, ◌≤◌, List, [], ◌∷◌, ◌++◌, length, drop, slice_index, Some, None, option_map, ◌⊎◌}
 use Rattle.httparse.specs.Ascii.{line_feed, carriage_return}
-use Rattle.http_message.specs.Text.{empty_line, blank_length, head_length, begins_bare_return}
+use Rattle.http_message.specs.Text.{empty_line, blank_length, head_length}
 use Rattle.http_message.specs.declared.scan.Scan.{Scan}
 use Rattle.http_message.specs.declared.scan.End.{End}
 use Rattle.http_message.specs.declared.scan.End.TheVariants.{At, Behind}
-use Rattle.http_message.specs.declared.scan.Look.{Look}
-use Rattle.http_message.specs.declared.scan.Look.TheVariants.{BareReturn, Text, Unfinished}
 
 -- the empty line at the front has this length, whatever follows
 pub record IsLine (rest : List ℕ) (size : ℕ) : Type 0 where
@@ -44,14 +42,3 @@ pub record IsFeed (bytes : List ℕ) (feed : ℕ) : Type 0 where
 abbrev pub IsEnd : List ℕ → End → Type 0
 IsEnd bytes (At size) = head_length bytes ≡ Some size
 IsEnd bytes (Behind passed) = (head_length bytes ≡ None) × Passes bytes passed
-
--- what a look at the bytes of a window shows
-abbrev pub IsLook : List ℕ → Look → Type 0
-IsLook bytes (BareReturn lead) =
-    (lead ≡ blank_length bytes) × (begins_bare_return (drop lead bytes) ≡ true)
-IsLook bytes (Text lead size) =
-    (lead ≡ blank_length bytes) × (begins_bare_return (drop lead bytes) ≡ false)
-    × (head_length (drop lead bytes) ≡ Some size)
-IsLook bytes (Unfinished scan) =
-    (scan.blank ≡ blank_length bytes) × (begins_bare_return (drop scan.blank bytes) ≡ false)
-    × (head_length (drop scan.blank bytes) ≡ None) × IsScanned bytes scan

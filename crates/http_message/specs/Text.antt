@@ -2,10 +2,7 @@
 use Rattle.std.specs.Prelude.{ℕ, suc, Bool, true, false, not, ◌&&◌, ◌||◌, nat_lt, nat_le, if◌then◌else◌, ◌==◌, List, [], ◌∷◌, length, take, drop, Option, Some, None, option_map}
 use Rattle.std.specs.List.{list_all}
 use Rattle.httparse.specs.Ascii.{line_feed, carriage_return}
-
--- a head ends within so many bytes, with the empty lines before it
-abbrev pub head_limit : ℕ
-head_limit = 16384
+use Rattle.http_message.specs.Limits.{head_limit}
 
 -- the bytes begin with a line feed
 abbrev pub begins_line_feed : List ℕ → Bool

@@ -1,16 +1,19 @@
 //! Bytes that are taken straight into a room of their own.
-ghost use Rattle.std.specs.Prelude.{◌≤◌, ◌<◌};
-ghost use Rattle.q_outside.specs.Told.{IsEnded};
-ghost use Rattle.http_message.specs.Body.{IsFull, IsExact};
+ghost use Rattle.std.specs.Prelude.{◌≡◌, ℕ, ◌<◌, List, length};
+ghost use Rattle.http_message.specs.Input.{Reads, IsFull};
 
-use crate::input::{Input, Reached};
-use q_outside::Source;
+use crate::input::Input;
+use crate::stopped::Stopped;
+use q_outside::{Failed, Source};
 
 /// Fills the room: first with the bytes that are held, and then from the source, of which no more are
 /// taken.
-pub fn take_exact<S: Source>(source: &mut S, input: &mut Input, into: &mut [u8]) -> Reached
-    ensures exact { IsExact (S.left source.old) (S.left source.new) (IsEnded (S.left source.new)) (S.faults source.old < S.faults source.new) input.old input.new into.new result }
-    ensures count { S.faults source.old ≤ S.faults source.new }
+pub fn take_exact<S: Source>(
+    source: &mut S,
+    input: &mut Input,
+    into: &mut [u8],
+) -> Result<(), Stopped>
+    ensures { Reads (S.at source.old) (S.at source.new) input.old input.new (λ bytes. length bytes < length into.new) (λ _ used. used ≡ into.new) result }
 {
     let held = input.len().min(into.len());
     into[..held].copy_from_slice(&input.bytes()[..held]);
@@ -19,17 +22,17 @@ pub fn take_exact<S: Source>(source: &mut S, input: &mut Input, into: &mut [u8])
 }
 
 /// Fills the room from the source.
-fn take_all<S: Source>(source: &mut S, into: &mut [u8]) -> Reached
-    ensures full { IsFull (S.left source.old) (S.left source.new) (IsEnded (S.left source.new)) (S.faults source.old < S.faults source.new) into.new result }
-    ensures count { S.faults source.old ≤ S.faults source.new }
+fn take_all<S: Source>(source: &mut S, into: &mut [u8]) -> Result<(), Stopped>
+    ensures full { IsFull (S.at source.old) (S.at source.new) into.new result }
+    ensures idle { length into.new ≡ 0 → S.at source.new ≡ S.at source.old }
 {
     let mut at = 0;
     while at < into.len() {
         match source.take(&mut into[at..]) {
-            Ok(0) => return Reached::Ended,
+            Ok(0) => return Err(Stopped::Truncated),
             Ok(count) => at += count,
-            Err(_) => return Reached::Failed,
+            Err(Failed) => return Err(Stopped::ReadFault),
         }
     }
-    Reached::Whole
+    Ok(())
 }

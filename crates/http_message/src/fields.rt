@@ -3,7 +3,7 @@ ghost use Rattle.std.specs.Prelude.{◌≡◌, ℕ, List, ◌++◌, [], ◌∷�
 ghost use Rattle.std.specs.List.{list_any};
 ghost use Rattle.std.specs.Str.{str_eq_ignore_ascii_case};
 ghost use Rattle.httparse.specs.Spans.{header_bytes, span_bytes, IsHeaderWithin};
-ghost use Rattle.http_message.specs.Fields.{values, is_named, has_option};
+ghost use Rattle.http_message.specs.Fields.{values, is_named, has_option, lists};
 ghost use Rattle.http_message.specs.Message.{expects};
 ghost use Rattle.http_message.specs.Named.{IsNamed};
 
@@ -67,25 +67,25 @@ fn is_named(text: &[u8], field: HeaderSpan, name: &[u8]) -> bool
     field.name.of(text).eq_ignore_ascii_case(name)
 }
 
-/// Whether some field of Connection has the option `close`.
-pub fn closes(text: &[u8], fields: &[HeaderSpan]) -> bool
+/// Whether some field of this name lists the option.
+pub fn lists(text: &[u8], fields: &[HeaderSpan], name: &[u8], option: &[u8]) -> bool
     requires { All (IsHeaderWithin (length text.now)) fields.now }
-    ensures { result ≡ list_any (has_option (codes "close")) (values (codes "connection") (map (header_bytes text.now) fields.now)) }
+    ensures { result ≡ lists name.now option.now (map (header_bytes text.now) fields.now) }
 {
     for field in fields {
-        if is_close(text, *field) {
+        if is_listed(text, *field, name, option) {
             return true;
         }
     }
     false
 }
 
-/// Whether this field does.
-fn is_close(text: &[u8], field: HeaderSpan) -> bool
+/// Whether this field has the name, and does.
+fn is_listed(text: &[u8], field: HeaderSpan, name: &[u8], option: &[u8]) -> bool
     requires { IsHeaderWithin (length text.now) field }
-    ensures { result ≡ (is_named (codes "connection") (header_bytes text.now field) && has_option (codes "close") (span_bytes text.now field.value)) }
+    ensures { result ≡ (is_named name.now (header_bytes text.now field) && has_option option.now (span_bytes text.now field.value)) }
 {
-    is_named(text, field, b"connection") && has_option(field.value.of(text), b"close")
+    is_named(text, field, name) && has_option(field.value.of(text), option)
 }
 
 /// Whether some field of Expect asks for `100 Continue`.

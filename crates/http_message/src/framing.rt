@@ -4,19 +4,15 @@ ghost use Rattle.std.specs.Char.{is_ascii_digit, digit_value};
 ghost use Rattle.std.specs.List.{list_all};
 ghost use Rattle.std.specs.Str.Parse.{digits_value};
 ghost use Rattle.httparse.specs.Spans.{header_bytes, IsHeaderWithin};
-ghost use Rattle.http_message.specs.Framing.{body_limit, framing_in, framing_by, framing_by_length, framing_by_codings, is_length, has_body};
+ghost use Rattle.http_message.specs.Framing.{framing_in, framing_by, framing_by_length, framing_by_codings, is_length, has_body};
+ghost use Rattle.http_message.specs.Limits.{body_limit};
 ghost use Rattle.http_message.specs.Message.{calls_for_continue};
 ghost use Rattle.http_message.specs.Named.{IsNamed};
 
 use crate::fields::{Named, expects, find_named};
-use crate::refused::Refused;
+use crate::limits::{BODY_LIMIT, MOST_FIELDS};
+use crate::refusal::FramingRefusal;
 use httparse::spans::HeaderSpan;
-
-/// A head has at most so many fields.
-pub const MOST_FIELDS: usize = 64;
-
-/// A body has at most so many bytes.
-pub const BODY_LIMIT: usize = 65_536;
 
 /// How the body of a request is framed (RFC 9112, section 6).
 #[derive(Clone, Copy, Debug, PartialEq, Eq)]
@@ -41,12 +37,12 @@ impl Framing {
 
 /// How the body is framed behind a head of this minor version and these fields, or why the head is
 /// refused.
-pub fn framing_in(text: &[u8], minor: u8, fields: &[HeaderSpan]) -> Result<Framing, Refused>
+pub fn framing_in(text: &[u8], minor: u8, fields: &[HeaderSpan]) -> Result<Framing, FramingRefusal>
     requires { All (IsHeaderWithin (length text.now)) fields.now }
     ensures { result ≡ framing_in minor (map (header_bytes text.now) fields.now) }
 {
     if fields.len() > MOST_FIELDS {
-        return Err(Refused::HeadTooLarge);
+        return Err(FramingRefusal::HeadTooLarge);
     }
     let lengths = find_named(text, fields, b"content-length");
     let codings = find_named(text, fields, b"transfer-encoding");
@@ -54,42 +50,42 @@ pub fn framing_in(text: &[u8], minor: u8, fields: &[HeaderSpan]) -> Result<Frami
 }
 
 /// The same, of how often the two fields stand there.
-fn framing_by(minor: u8, lengths: Named, codings: Named) -> Result<Framing, Refused>
+fn framing_by(minor: u8, lengths: Named, codings: Named) -> Result<Framing, FramingRefusal>
     ensures { (texts names : List (List ℕ)) → IsNamed texts lengths.entry → IsNamed names codings.entry
         → result ≡ framing_by minor texts names }
 {
     match (lengths, codings) {
         (Named::Absent, Named::Absent) => Ok(Framing::Sized(0)),
         (Named::Once(text), Named::Absent) => framing_by_length(text),
-        (Named::Repeated, Named::Absent) => Err(Refused::BadLength),
-        (Named::Absent, _) if minor == 0 => Err(Refused::BadLength),
+        (Named::Repeated, Named::Absent) => Err(FramingRefusal::BadLength),
+        (Named::Absent, _) if minor == 0 => Err(FramingRefusal::BadLength),
         (Named::Absent, Named::Once(coding)) => framing_by_coding(coding),
-        (Named::Absent, Named::Repeated) => Err(Refused::BadCoding),
-        _ => Err(Refused::BadLength),
+        (Named::Absent, Named::Repeated) => Err(FramingRefusal::BadCoding),
+        _ => Err(FramingRefusal::BadLength),
     }
 }
 
 /// The same, of the only value of Transfer-Encoding.
-fn framing_by_coding(coding: &[u8]) -> Result<Framing, Refused>
+fn framing_by_coding(coding: &[u8]) -> Result<Framing, FramingRefusal>
     ensures { result ≡ framing_by_codings coding.now [] }
 {
     if coding.eq_ignore_ascii_case(b"chunked") {
         Ok(Framing::Chunked)
     } else {
-        Err(Refused::BadCoding)
+        Err(FramingRefusal::BadCoding)
     }
 }
 
 /// The same, of the only value of Content-Length.
-fn framing_by_length(text: &[u8]) -> Result<Framing, Refused>
+fn framing_by_length(text: &[u8]) -> Result<Framing, FramingRefusal>
     ensures { result ≡ framing_by_length text.now }
 {
     if !is_length(text) {
-        return Err(Refused::BadLength);
+        return Err(FramingRefusal::BadLength);
     }
     let size = number(text);
     if size > BODY_LIMIT {
-        return Err(Refused::BodyTooLarge);
+        return Err(FramingRefusal::BodyTooLarge);
     }
     Ok(Framing::Sized(size))
 }

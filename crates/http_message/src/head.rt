@@ -1,13 +1,11 @@
 //! The head of a request, read from its whole text.
 ghost use Rattle.std.specs.Prelude.{◌≡◌, ℕ, length, IfSome, IfNone};
 ghost use Rattle.httparse.specs.Grammar.{RequestHead};
-ghost use Rattle.http_message.specs.Head.{IsHeadAt, IsNoHead, field_room};
+ghost use Rattle.http_message.specs.Head.{IsHeadAt, IsNoHead};
+ghost use Rattle.http_message.specs.Limits.{field_room};
 
 use httparse::Status;
 use httparse::spans::{HeaderSpan, RequestSpans, parse_request};
-
-/// The most fields that a head in the window has.
-pub const FIELD_ROOM: usize = 5_462;
 
 /// The parts of the head that the whole text is, or nothing where it is none.
 pub fn read_head(text: &[u8], spans: &mut [HeaderSpan]) -> Option<RequestSpans>

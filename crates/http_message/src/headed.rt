@@ -1,17 +1,18 @@
 //! The head of the next item: found, judged, and copied to where it stays.
-ghost use Rattle.std.specs.Prelude.{◌≡◌, ◌<◌, ◌≤◌, length, drop};
-ghost use Rattle.q_outside.specs.Told.{IsEnded};
+ghost use Rattle.std.specs.Prelude.{◌≡◌, ◌≤◌, length, drop};
 ghost use Rattle.http_message.specs.Found.{IsTextAt};
-ghost use Rattle.http_message.specs.Head.{field_room};
-ghost use Rattle.http_message.specs.Headed.{IsHeaded, Heads};
-ghost use Rattle.http_message.specs.Text.{head_limit, is_blank};
+ghost use Rattle.http_message.specs.Headed.{IsHeadOf, Heads};
+ghost use Rattle.http_message.specs.Limits.{head_limit, field_room};
+ghost use Rattle.http_message.specs.Stopped.{before_head};
+ghost use Rattle.http_message.specs.Text.{is_blank};
 
 use crate::find::{Found, find_head};
 use crate::framing::Framing;
-use crate::front::HEAD_LIMIT;
 use crate::input::Input;
-use crate::judge::{Judged, judge};
-use crate::refused::Refused;
+use crate::judge::judge;
+use crate::limits::HEAD_LIMIT;
+use crate::refusal::FramingRefusal;
+use crate::stopped::Stopped;
 use httparse::spans::{HeaderSpan, RequestSpans};
 use q_outside::Source;
 
@@ -38,11 +39,10 @@ pub enum Headed {
     /// The head frames a body.
     Framed(Framed),
     /// No body is framed, and so many bytes were used.
-    Bad { refused: Refused, used: usize },
-    /// The source had ended. There is nothing but CR and LF where `blank` says so.
-    Ended { blank: bool },
-    /// The source failed.
-    Failed,
+    Bad {
+        refused: FramingRefusal,
+        used: usize,
+    },
 }
 
 /// Takes the head of the next item, whose text is copied to the front of the room for it.
@@ -51,20 +51,16 @@ pub fn next_head<S: Source>(
     input: &mut Input,
     text: &mut [u8],
     spans: &mut [HeaderSpan],
-) -> Headed
+) -> Result<Headed, Stopped>
     requires text { length text.old ≡ head_limit }
     requires spans { length spans.old ≡ field_room }
-    ensures heads { Heads (S.left source.old) (S.left source.new) (IsEnded (S.left source.new)) (S.faults source.old < S.faults source.new) input.old input.new text.new spans.new result }
-    ensures count { S.faults source.old ≤ S.faults source.new }
+    ensures { Heads (S.at source.old) (S.at source.new) input.old input.new text.new spans.new result }
 {
     match find_head(source, input) {
-        Found::BareReturn { lead } => refuse(input, Refused::BadHead, lead + 2),
-        Found::Text { lead, size } => judge_text(input, text, spans, lead, size),
-        Found::TooLarge => refuse(input, Refused::HeadTooLarge, HEAD_LIMIT),
-        Found::Ended => Headed::Ended {
-            blank: is_blank(input.bytes()),
-        },
-        Found::Failed => Headed::Failed,
+        Ok(Found::BareReturn { lead }) => Ok(refuse(input, FramingRefusal::BadHead, lead + 2)),
+        Ok(Found::Text { lead, size }) => Ok(judge_text(input, text, spans, lead, size)),
+        Ok(Found::TooLarge) => Ok(refuse(input, FramingRefusal::HeadTooLarge, HEAD_LIMIT)),
+        Err(stopped) => Err(stopped.before_head(is_blank(input.bytes()))),
     }
 }
 
@@ -79,34 +75,28 @@ fn judge_text(
     requires text { length text.old ≡ head_limit }
     requires spans { length spans.old ≡ field_room }
     requires at { IsTextAt input.old lead size }
-    ensures { IsHeaded ⊥ ⊥ input.old input.new text.new spans.new result }
+    ensures { IsHeadOf input.old input.new text.new spans.new result }
 {
     let used = lead + size;
     text[..size].copy_from_slice(&input.bytes()[lead..used]);
     match judge(&text[..size], spans) {
-        Judged::NoHead => refuse(input, Refused::BadHead, used),
-        Judged::Refused(refused) => refuse(input, refused, used),
-        Judged::Framed {
-            parts,
-            framing,
-            calls,
-            head,
-        } => {
+        Err(refused) => refuse(input, refused, used),
+        Ok(judged) => {
             input.skip(used);
             Headed::Framed(Framed {
                 used,
                 text: size,
-                parts,
-                framing,
-                calls,
-                head,
+                parts: judged.parts,
+                framing: judged.framing,
+                calls: judged.calls,
+                head: judged.head,
             })
         }
     }
 }
 
 /// Drops the bytes of an item that has no body.
-fn refuse(input: &mut Input, refused: Refused, used: usize) -> Headed
+fn refuse(input: &mut Input, refused: FramingRefusal, used: usize) -> Headed
     requires { used ≤ length input.old }
     ensures skips { input.new ≡ drop used input.old }
     ensures is { result ≡ Headed.Bad refused used }

@@ -1,19 +1,19 @@
 //! The bytes that were taken from a source and are not used yet.
-ghost use Rattle.std.specs.Prelude.{◌≡◌, ℕ, ◌+◌, ◌-◌, ◌<◌, ◌≤◌, List, [], length, take, drop, slice_range, vec_len, IfOk, OnErr};
+ghost use Rattle.std.specs.Prelude.{◌≡◌, ◌+◌, ◌-◌, ◌<◌, ◌≤◌, [], length, take, drop, slice_range, vec_len, IfOk, IfErr};
 ghost use Rattle.httparse.specs.Spans.{span_bytes};
-ghost use Rattle.q_outside.specs.Told.{Takes, IsEnded, Counts};
-ghost use Rattle.http_message.specs.Input.{Grows, IsFilled, input_size};
+ghost use Rattle.q_outside.specs.Told.{TookBytes};
+ghost use Rattle.http_message.specs.Input.{IsStopped, Fills};
+ghost use Rattle.http_message.specs.Limits.{head_limit};
 
+use crate::limits::HEAD_LIMIT;
+use crate::stopped::Stopped;
 use httparse::spans::Span;
 use q_base::Memory;
 use q_outside::{Failed, Source};
 use std::alloc::Global;
 use std::marker::Model;
 
-/// The buffer has room for the longest head.
-pub const INPUT_SIZE: usize = 16_384;
-
-/// Bytes in a buffer of a fixed size. Contracts see them as a list.
+/// Bytes in a buffer that has room for the longest head. Contracts see them as a list.
 #[derive(Drop)]
 pub struct Input {
     buffer: Vec<u8>,
@@ -32,34 +32,12 @@ impl Model for Input {
     ghost invariant = { λ i. IsPlaced i.buffer.items i.start i.end };
 }
 
-/// How more bytes came.
-#[derive(Clone, Copy, Debug, PartialEq, Eq)]
-pub enum Filled {
-    /// Some did.
-    More,
-    /// The source had ended.
-    Ended,
-    /// The source failed.
-    Failed,
-}
-
-/// Whether all bytes came that were asked for.
-#[derive(Clone, Copy, Debug, PartialEq, Eq)]
-pub enum Reached {
-    /// They did.
-    Whole,
-    /// The source had ended.
-    Ended,
-    /// The source failed.
-    Failed,
-}
-
 impl Input {
     /// No bytes, and the room for them.
     pub fn new(alloc: Global) -> Result<Input, Memory>
         ensures { IfOk result (λ input. input ≡ []) }
     {
-        let buffer = vec![in alloc; 0; INPUT_SIZE]?;
+        let buffer = vec![in alloc; 0; HEAD_LIMIT]?;
         Ok(Input {
             buffer,
             start: 0,
@@ -102,25 +80,18 @@ impl Input {
         }
     }
 
-    /// Takes more bytes behind these. They are moved to the front where the room behind them is used
-    /// up.
-    pub fn fill<S: Source>(&mut self, source: &mut S) -> Filled
-        requires { length self.old < input_size }
-        ensures grows { Grows (S.left source.old) (S.left source.new) self.old self.new }
-        ensures filled { IsFilled (IsEnded (S.left source.new)) (S.faults source.old < S.faults source.new) self.old self.new result }
-        ensures count { S.faults source.old ≤ S.faults source.new }
+    /// Takes more bytes behind these, at least one. They are moved to the front where the room behind
+    /// them is used up.
+    pub fn fill<S: Source>(&mut self, source: &mut S) -> Result<(), Stopped>
+        requires { length self.old < head_limit }
+        ensures { Fills (S.at source.old) (S.at source.new) self.old self.new result }
     {
         let place = make_room(&mut self.buffer, self.start, self.end);
         self.start = place.start;
         self.end = place.end;
-        match take_behind(source, &mut self.buffer, place.end) {
-            Ok(0) => Filled::Ended,
-            Ok(count) => {
-                self.end = place.end + count;
-                Filled::More
-            }
-            Err(Failed) => Filled::Failed,
-        }
+        let count = take_behind(source, &mut self.buffer, place.end)?;
+        self.end = place.end + count;
+        Ok(())
     }
 }
 
@@ -144,16 +115,23 @@ fn make_room(buffer: &mut Vec<u8>, start: usize, end: usize) -> Span
     }
 }
 
-/// Takes bytes behind the first ones, so many, and answers how many came.
-fn take_behind<S: Source>(source: &mut S, buffer: &mut Vec<u8>, end: usize) -> Result<usize, Failed>
+/// Takes bytes behind the first ones, so many, and answers how many came, at least one.
+fn take_behind<S: Source>(
+    source: &mut S,
+    buffer: &mut Vec<u8>,
+    end: usize,
+) -> Result<usize, Stopped>
     requires { end < vec_len buffer.old }
     ensures kept { take end buffer.new.items ≡ take end buffer.old.items }
     ensures len { vec_len buffer.new ≡ vec_len buffer.old }
+    ensures some { IfOk result (λ n. 0 < n) }
     ensures within { IfOk result (λ n. end + n ≤ vec_len buffer.new) }
-    ensures taken { IfOk result (λ n. Takes (S.left source.old) (S.left source.new) (slice_range buffer.new.items end (end + n))) }
-    ensures end { IfOk result (λ n. n ≡ 0 → IsEnded (S.left source.new)) }
-    ensures failed { OnErr result (Takes (S.left source.old) (S.left source.new) []) }
-    ensures count { Counts (S.faults source.old) (S.faults source.new) result }
+    ensures took { IfOk result (λ n. TookBytes (S.at source.old) (S.at source.new) (slice_range buffer.new.items end (end + n))) }
+    ensures stopped { IfErr result (λ stopped. TookBytes (S.at source.old) (S.at source.new) [] × IsStopped (S.at source.old) (S.at source.new) stopped) }
 {
-    source.take(&mut buffer[end..])
+    match source.take(&mut buffer[end..]) {
+        Ok(0) => Err(Stopped::Truncated),
+        Ok(count) => Ok(count),
+        Err(Failed) => Err(Stopped::ReadFault),
+    }
 }

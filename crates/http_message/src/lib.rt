@@ -7,7 +7,6 @@ mod coding;
 mod fields;
 mod find;
 mod framing;
-mod front;
 mod head;
 mod headed;
 mod input;
@@ -19,10 +18,11 @@ mod line;
 mod message;
 mod next;
 mod options;
-mod refused;
+mod refusal;
 mod request;
 mod room;
 mod scan;
+mod stopped;
 mod taken;
 #[cfg(test)]
 mod tests;
@@ -34,6 +34,6 @@ pub use laws::{
     no_item_is_in_open_bytes, one_call_is_there, one_item_is_first, one_split_is_there,
 };
 pub use message::Request;
-pub use refused::{Allow, DocumentReason, Refused};
+pub use refusal::FramingRefusal;
 pub use room::{RequestRoom, next_request};
 pub use taken::Taken;

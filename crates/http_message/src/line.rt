@@ -1,15 +1,15 @@
 //! The search for a line of a chunk or for trailers, which goes on where it stopped when more bytes
 //! have come.
-ghost use Rattle.std.specs.Prelude.{◌≡◌, ◌<◌, ◌≤◌, take};
-ghost use Rattle.q_outside.specs.Told.{IsEnded};
-ghost use Rattle.http_message.specs.Coding.{line_limit};
+ghost use Rattle.std.specs.Prelude.{◌≡◌, ◌≤◌, take};
 ghost use Rattle.http_message.specs.Input.{Grows};
-ghost use Rattle.http_message.specs.Line.{IsPassed, IsEndOf, IsSight, IsTextFound, PassesLine};
+ghost use Rattle.http_message.specs.Limits.{line_limit};
+ghost use Rattle.http_message.specs.Line.{IsPassed, IsEndOf, IsOpenIn, IsSight, IsTextFound, PassesLine};
 ghost use Rattle.http_message.specs.Scan.{Passes};
 ghost use Rattle.http_message.specs.declared.line.Sought.TheVariants.{Line, Trailers};
 
-use crate::input::{Filled, Input};
+use crate::input::Input;
 use crate::scan::{End, empty_line, find_end};
+use crate::stopped::Stopped;
 use memchr::memchr;
 use q_outside::Source;
 
@@ -22,28 +22,13 @@ pub enum Sought {
     Trailers,
 }
 
-/// What a look at the bytes shows.
-#[derive(Clone, Copy, Debug, PartialEq, Eq)]
-pub enum Sight {
-    /// What is looked for is whole, and has this length.
-    Whole(usize),
-    /// It does not end in the room for it.
-    Overlong,
-    /// More bytes decide, and the search goes on behind so many.
-    Short(usize),
-}
-
-/// What was found, or why no more bytes came.
+/// What was found.
 #[derive(Clone, Copy, Debug, PartialEq, Eq)]
 pub enum TextFound {
     /// What is looked for, of this length.
     Whole(usize),
     /// It does not end in the room for it.
     Overlong,
-    /// The source had ended.
-    Ended,
-    /// The source failed.
-    Failed,
 }
 
 /// Takes bytes until what is looked for is whole, or has filled the room for it.
@@ -52,39 +37,33 @@ pub fn find_text<S: Source>(
     input: &mut Input,
     sought: Sought,
     room: usize,
-) -> TextFound
+) -> Result<TextFound, Stopped>
     requires { room ≤ line_limit }
-    ensures grows { Grows (S.left source.old) (S.left source.new) input.old input.new }
-    ensures found { IsTextFound (IsEnded (S.left source.new)) (S.faults source.old < S.faults source.new) sought room input.new result }
-    ensures count { S.faults source.old ≤ S.faults source.new }
+    ensures grows { Grows (S.at source.old) (S.at source.new) (IsOpenIn sought room) input.old input.new }
+    ensures found { IsTextFound (S.at source.old) (S.at source.new) sought room input.new result }
 {
     let mut passed = 0;
     loop {
         match look_for(input.bytes(), sought, room, passed) {
-            Sight::Whole(size) => return TextFound::Whole(size),
-            Sight::Overlong => return TextFound::Overlong,
-            Sight::Short(further) => match input.fill(source) {
-                Filled::More => passed = further,
-                Filled::Ended => return TextFound::Ended,
-                Filled::Failed => return TextFound::Failed,
-            },
+            Ok(found) => return Ok(found),
+            Err(further) => {
+                input.fill(source)?;
+                passed = further;
+            }
         }
     }
 }
 
-/// Looks for it at the front of the bytes, behind those that were passed.
-fn look_for(bytes: &[u8], sought: Sought, room: usize, passed: usize) -> Sight
+/// Looks for it at the front of the bytes, behind those that were passed. Where more bytes decide, the
+/// search goes on behind as many as it answers.
+fn look_for(bytes: &[u8], sought: Sought, room: usize, passed: usize) -> Result<TextFound, usize>
     requires { IsPassed sought (take room bytes.now) passed }
     ensures { IsSight sought room bytes.now result }
 {
     match end_of(first(bytes, room), sought, passed) {
-        End::At(size) => Sight::Whole(size),
-        End::Behind(further) => {
-            if bytes.len() >= room {
-                return Sight::Overlong;
-            }
-            Sight::Short(further)
-        }
+        End::At(size) => Ok(TextFound::Whole(size)),
+        End::Behind(_) if bytes.len() >= room => Ok(TextFound::Overlong),
+        End::Behind(further) => Err(further),
     }
 }
 

@@ -1,10 +1,10 @@
 //! A request as it stands in the room that it was taken into.
 ghost use Rattle.std.specs.Prelude.{◌≡◌, ◌<◌, length, map, slice_get};
-ghost use Rattle.http_message.specs.Fields.{values};
+ghost use Rattle.http_message.specs.Fields.{values, lists};
 ghost use Rattle.http_message.specs.Message.{asks_to_close};
 ghost use Rattle.http_message.specs.Named.{IsNamed};
 
-use crate::fields::{Named, closes, field_at, find_named};
+use crate::fields::{Named, field_at, find_named, lists};
 use httparse::spans::{HeaderSpan, RequestSpans};
 use std::marker::Model;
 
@@ -89,10 +89,18 @@ impl<'a> Request<'a> {
         find_named(self.text, &self.spans[..self.parts.headers], name)
     }
 
+    /// Whether some field of this name lists the option (RFC 9110, section 5.6.1). Both are compared
+    /// without regard to ASCII case.
+    pub fn lists(&self, name: &[u8], option: &[u8]) -> bool
+        ensures { result ≡ lists name.now option.now self.now.fields }
+    {
+        lists(self.text, &self.spans[..self.parts.headers], name, option)
+    }
+
     /// Whether the connection ends after this request.
     pub fn closes(&self) -> bool
         ensures { result ≡ asks_to_close self.now }
     {
-        self.parts.version == 0 || closes(self.text, &self.spans[..self.parts.headers])
+        self.parts.version == 0 || self.lists(b"connection", b"close")
     }
 }

@@ -2,10 +2,10 @@
 ghost use Rattle.std.specs.Prelude.{◌≡◌};
 
 use crate::kept::Kept;
-use crate::refused::Refused;
+use crate::refusal::FramingRefusal;
 use crate::taken::Taken;
 
-/// The answer, the place behind what was used, and the request, where it is one.
+/// The item, the place behind what was used, and the request, where it is one.
 #[derive(Clone, Copy, Debug, PartialEq, Eq)]
 pub struct Next {
     pub taken: Taken,
@@ -15,7 +15,7 @@ pub struct Next {
 
 impl Next {
     /// A request whose end cannot be told.
-    pub fn unframed(refused: Refused, place: usize, behind: usize, head: bool) -> Next
+    pub fn unframed(refused: FramingRefusal, place: usize, behind: usize, head: bool) -> Next
         ensures taken { result.taken ≡ Taken.Framing refused place head }
         ensures place { result.place ≡ behind }
         ensures kept { result.kept ≡ Kept.NONE }
@@ -27,19 +27,6 @@ impl Next {
                 head,
             },
             place: behind,
-            kept: Kept::NONE,
-        }
-    }
-
-    /// No item.
-    pub fn halt(taken: Taken, place: usize) -> Next
-        ensures taken { result.taken ≡ taken }
-        ensures place { result.place ≡ place }
-        ensures kept { result.kept ≡ Kept.NONE }
-    {
-        Next {
-            taken,
-            place,
             kept: Kept::NONE,
         }
     }

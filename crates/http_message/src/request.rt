@@ -1,23 +1,24 @@
 //! The next item of a source's bytes.
-ghost use Rattle.std.specs.Prelude.{◌≡◌, ◌+◌, ◌<◌, ◌≤◌, ◌^◌, length, OnOk, OnErr, true};
-ghost use Rattle.q_outside.specs.Told.{IsEnded, Gives, GivesPart, Counts};
+ghost use Rattle.std.specs.Prelude.{◌≡◌, ◌+◌, ◌<◌, ◌^◌, length, IfOk, IfErr, true};
+ghost use Rattle.q_outside.specs.Told.{GaveBytes, GavePart};
 ghost use Rattle.http_message.specs.Bodied.{IsBody};
-ghost use Rattle.http_message.specs.Coding.{trailer_room};
-ghost use Rattle.http_message.specs.Framing.{body_limit};
-ghost use Rattle.http_message.specs.Head.{field_room};
 ghost use Rattle.http_message.specs.Headed.{HasRoom};
+ghost use Rattle.http_message.specs.Input.{Reads};
+ghost use Rattle.http_message.specs.Item.{IsCut};
+ghost use Rattle.http_message.specs.Limits.{head_limit, field_room, trailer_room, body_limit};
 ghost use Rattle.http_message.specs.Message.{Message};
-ghost use Rattle.http_message.specs.Room.{message_kept, IsKept, held_of};
-ghost use Rattle.http_message.specs.Taken.{IsTaken, item_limit, continue_text, continue_where};
-ghost use Rattle.http_message.specs.Text.{head_limit};
+ghost use Rattle.http_message.specs.Next.{IsNext, Waits};
+ghost use Rattle.http_message.specs.Room.{held_of};
+ghost use Rattle.http_message.specs.Taken.{item_limit, continue_text, continue_where};
 
 use crate::body::take_exact;
 use crate::coding::{Coded, take_coded};
 use crate::framing::Framing;
 use crate::headed::{Headed, next_head};
-use crate::input::{Input, Reached};
+use crate::input::Input;
 use crate::kept::Kept;
 use crate::next::Next;
+use crate::stopped::Stopped;
 use crate::taken::Taken;
 use httparse::spans::HeaderSpan;
 use q_outside::{Failed, Sink, Source, give_all};
@@ -36,58 +37,51 @@ pub fn next_in<S: Source, K: Sink>(
     spare: &mut [HeaderSpan],
     body: &mut [u8],
     place: usize,
-) -> Next
+) -> Result<Next, Stopped>
     requires text { length text.old ≡ head_limit }
     requires spans { length spans.old ≡ field_room }
     requires spare { length spare.old ≡ trailer_room }
     requires body { length body.old ≡ body_limit }
     requires place { place + item_limit < 2 ^ 64 }
-    ensures taken { (message : Message) → IsTaken (S.left source.old) (S.left source.new) (K.held sink.old) (K.held sink.new) (IsEnded (S.left source.new)) (S.faults source.old < S.faults source.new) (K.faults sink.old < K.faults sink.new) (held_of input.old place message) (held_of input.new result.place (message_kept text.new spans.new body.new result.kept)) result.taken }
-    ensures kept { IsKept text.new spans.new body.new result.kept }
-    ensures source_count { S.faults source.old ≤ S.faults source.new }
-    ensures sink_count { K.faults sink.old ≤ K.faults sink.new }
+    ensures next { (message : Message) → IsNext (S.at source.old) (S.at source.new) (K.at sink.old) (K.at sink.new) (held_of input.old place message) input.new text.new spans.new body.new result }
+    ensures waits { Waits (S.at source.old) (S.at source.new) input.old }
 {
-    match next_head(source, input, text, spans) {
-        Headed::Bad { refused, used } => Next::unframed(refused, place, place + used, false),
-        Headed::Ended { blank: true } => Next::halt(Taken::InputEnd, place),
-        Headed::Ended { blank: false } => Next::halt(Taken::Truncated, place),
-        Headed::Failed => Next::halt(Taken::ReadFault, place),
-        Headed::Framed(head) => {
-            if give_continue(sink, head.calls).is_err() {
-                return Next::halt(Taken::WriteFault, place);
-            }
-            let behind = place + head.used;
-            match take_body(source, input, head.framing, body, spare) {
-                Coded::Whole { size, used } => Next {
-                    taken: Taken::Request { place },
-                    place: behind + used,
-                    kept: Kept {
-                        text: head.text,
-                        parts: head.parts,
-                        body: size,
-                    },
-                },
-                Coded::Broken { refused, used } => {
-                    Next::unframed(refused, place, behind + used, head.head)
-                }
-                Coded::Ended => Next::halt(Taken::Truncated, place),
-                Coded::Failed => Next::halt(Taken::ReadFault, place),
-            }
+    let head = match next_head(source, input, text, spans)? {
+        Headed::Bad { refused, used } => {
+            return Ok(Next::unframed(refused, place, place + used, false));
+        }
+        Headed::Framed(head) => head,
+    };
+    give_continue(sink, head.calls)?;
+    let behind = place + head.used;
+    match take_body(source, input, head.framing, body, spare)? {
+        Coded::Whole { size, used } => Ok(Next {
+            taken: Taken::Request { place },
+            place: behind + used,
+            kept: Kept {
+                text: head.text,
+                parts: head.parts,
+                body: size,
+            },
+        }),
+        Coded::Broken { refused, used } => {
+            Ok(Next::unframed(refused, place, behind + used, head.head))
         }
     }
 }
 
 /// Gives `100 Continue` where it is called for.
-fn give_continue<K: Sink>(sink: &mut K, called: bool) -> Result<(), Failed>
-    ensures ok { OnOk result (Gives (K.held sink.old) (K.held sink.new) (continue_where called)) }
-    ensures called { OnErr result (called ≡ true) }
-    ensures part { OnErr result (GivesPart (K.held sink.old) (K.held sink.new) continue_text) }
-    ensures count { Counts (K.faults sink.old) (K.faults sink.new) result }
+fn give_continue<K: Sink>(sink: &mut K, called: bool) -> Result<(), Stopped>
+    ensures gave { IfOk result (λ _. GaveBytes (K.at sink.old) (K.at sink.new) (continue_where called)) }
+    ensures stopped { IfErr result (λ stopped. (stopped ≡ Stopped.WriteFault) × (called ≡ true) × GavePart (K.at sink.old) (K.at sink.new) continue_text) }
 {
-    if called {
-        return give_all(sink, CONTINUE);
+    if !called {
+        return Ok(());
     }
-    Ok(())
+    match give_all(sink, CONTINUE) {
+        Ok(()) => Ok(()),
+        Err(Failed) => Err(Stopped::WriteFault),
+    }
 }
 
 /// Takes the body of this framing into the front of the room for it.
@@ -97,19 +91,17 @@ fn take_body<S: Source>(
     framing: Framing,
     body: &mut [u8],
     spare: &mut [HeaderSpan],
-) -> Coded
+) -> Result<Coded, Stopped>
     requires room { HasRoom framing }
     requires body { length body.old ≡ body_limit }
     requires spare { length spare.old ≡ trailer_room }
-    ensures body { IsBody (S.left source.old) (S.left source.new) (IsEnded (S.left source.new)) (S.faults source.old < S.faults source.new) framing input.old input.new body.new result }
-    ensures count { S.faults source.old ≤ S.faults source.new }
+    ensures { Reads (S.at source.old) (S.at source.new) input.old input.new (IsCut framing) (IsBody framing body.new) result }
 {
     match framing {
-        Framing::Sized(size) => match take_exact(source, input, &mut body[..size]) {
-            Reached::Whole => Coded::Whole { size, used: size },
-            Reached::Ended => Coded::Ended,
-            Reached::Failed => Coded::Failed,
-        },
+        Framing::Sized(size) => {
+            take_exact(source, input, &mut body[..size])?;
+            Ok(Coded::Whole { size, used: size })
+        }
         Framing::Chunked => take_coded(source, input, body, spare),
     }
 }

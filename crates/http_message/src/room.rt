@@ -1,14 +1,10 @@
 //! The room for a connection's requests, and the requests that are taken into it.
 ghost use Rattle.std.specs.Prelude.{◌≡◌, ◌+◌, ◌<◌, ◌≤◌, ◌^◌, [], IfOk};
-ghost use Rattle.q_outside.specs.Told.{IsEnded};
-ghost use Rattle.http_message.specs.Taken.{IsTaken, item_limit};
+ghost use Rattle.http_message.specs.Taken.{IsTaken, WaitsForNone, item_limit};
 
-use crate::coding::TRAILER_ROOM;
-use crate::framing::BODY_LIMIT;
-use crate::front::HEAD_LIMIT;
-use crate::head::FIELD_ROOM;
 use crate::input::Input;
 use crate::kept::Kept;
+use crate::limits::{BODY_LIMIT, FIELD_ROOM, HEAD_LIMIT, TRAILER_ROOM};
 use crate::message::Request;
 use crate::request::next_in;
 use crate::taken::Taken;
@@ -94,11 +90,10 @@ pub fn next_request<S: Source, K: Sink>(
     room: &mut RequestRoom,
 ) -> Taken
     requires { room.old.place + item_limit < 2 ^ 64 }
-    ensures taken { IsTaken (S.left source.old) (S.left source.new) (K.held sink.old) (K.held sink.new) (IsEnded (S.left source.new)) (S.faults source.old < S.faults source.new) (K.faults sink.old < K.faults sink.new) room.old room.new result }
-    ensures source_count { S.faults source.old ≤ S.faults source.new }
-    ensures sink_count { K.faults sink.old ≤ K.faults sink.new }
+    ensures taken { IsTaken (S.at source.old) (S.at source.new) (K.at sink.old) (K.at sink.new) room.old room.new result }
+    ensures waits { WaitsForNone (S.at source.old) (S.at source.new) room.old.bytes }
 {
-    let next = next_in(
+    match next_in(
         source,
         sink,
         &mut room.input,
@@ -107,8 +102,15 @@ pub fn next_request<S: Source, K: Sink>(
         &mut room.spare,
         &mut room.body,
         room.place,
-    );
-    room.place = next.place;
-    room.kept = next.kept;
-    next.taken
+    ) {
+        Ok(next) => {
+            room.place = next.place;
+            room.kept = next.kept;
+            next.taken
+        }
+        Err(stopped) => {
+            room.kept = Kept::NONE;
+            stopped.taken()
+        }
+    }
 }

@@ -1,7 +1,7 @@
 //! The search for the end of a head, which goes on where it stopped when more bytes have come.
 ghost use Rattle.std.specs.Prelude.{◌≡◌, ℕ, ◌+◌, ◌<◌, ◌≤◌, length, drop, IfSome, IfNone, Option, None};
-ghost use Rattle.http_message.specs.Text.{begins_bare_return, head_length, blank_length};
-ghost use Rattle.http_message.specs.Scan.{IsLine, IsCut, Skips, Passes, IsScanned, IsFeed, IsLook, IsEnd};
+ghost use Rattle.http_message.specs.Text.{begins_bare_return, blank_length};
+ghost use Rattle.http_message.specs.Scan.{IsLine, IsCut, Skips, Passes, IsScanned, IsFeed, IsEnd};
 
 use memchr::memchr;
 
@@ -22,17 +22,6 @@ impl Scan {
     };
 }
 
-/// What a look at the bytes shows.
-#[derive(Clone, Copy, Debug, PartialEq, Eq)]
-pub enum Look {
-    /// Behind the empty lines stands a CR that no LF follows.
-    BareReturn { lead: usize },
-    /// Behind the empty lines stands a whole head, of this length.
-    Text { lead: usize, size: usize },
-    /// More bytes decide, and the search goes on from here.
-    Unfinished(Scan),
-}
-
 /// Where a head ends.
 #[derive(Clone, Copy, Debug, PartialEq, Eq)]
 pub enum End {
@@ -42,30 +31,8 @@ pub enum End {
     Behind(usize),
 }
 
-/// Looks for the head in the bytes, of which those that were looked at before begin them.
-pub fn look_at(bytes: &[u8], scan: Scan) -> Look
-    requires { IsScanned bytes.now scan }
-    ensures { IsLook bytes.now result }
-{
-    let scan = pass_blank(bytes, scan);
-    let rest = &bytes[scan.blank..];
-    if begins_bare_return(rest) {
-        return Look::BareReturn { lead: scan.blank };
-    }
-    match find_end(rest, scan.passed) {
-        End::At(size) => Look::Text {
-            lead: scan.blank,
-            size,
-        },
-        End::Behind(passed) => Look::Unfinished(Scan {
-            blank: scan.blank,
-            passed,
-        }),
-    }
-}
-
 /// Passes over the empty lines that have come.
-fn pass_blank(bytes: &[u8], scan: Scan) -> Scan
+pub fn pass_blank(bytes: &[u8], scan: Scan) -> Scan
     requires { IsScanned bytes.now scan }
     ensures blank { result.blank ≡ blank_length bytes.now }
     ensures scanned { IsScanned bytes.now result }
@@ -118,7 +85,7 @@ pub fn empty_line(rest: &[u8]) -> Option<usize>
 }
 
 /// Whether a CR stands at the front that another byte than LF follows.
-fn begins_bare_return(rest: &[u8]) -> bool
+pub fn begins_bare_return(rest: &[u8]) -> bool
     ensures { result ≡ begins_bare_return rest.now }
 {
     rest.len() >= 2 && rest[0] == b'\r' && rest[1] != b'\n'

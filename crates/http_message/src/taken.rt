@@ -1,6 +1,6 @@
 //! The answers of `next_request`.
 
-use crate::refused::Refused;
+use crate::refusal::FramingRefusal;
 
 /// What was taken. A place is that of the item's first byte, counted since the room was cleared.
 #[derive(Clone, Copy, Debug, PartialEq, Eq)]
@@ -12,7 +12,7 @@ pub enum Taken {
     /// A request whose end cannot be told. The head was not refused and its method is HEAD where
     /// `head` says so.
     Framing {
-        refused: Refused,
+        refused: FramingRefusal,
         place: usize,
         head: bool,
     },

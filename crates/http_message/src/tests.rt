@@ -1,7 +1,7 @@
 //! Requests and what is none, in pieces of several sizes, at the limits, and where the outside fails.
 ghost use Rattle.std.specs.Prelude.{◌≡◌, ◌<◌};
 
-use crate::refused::Refused;
+use crate::refusal::FramingRefusal;
 use crate::{Request, RequestRoom, Taken, next_request};
 use q_base::Memory;
 use q_outside::{ListSink, ListSource, Script};
@@ -111,17 +111,16 @@ fn tell(alloc: Global, text: &mut Vec<u8>, place: usize, request: &Request) -> R
 fn tell_refusal(
     alloc: Global,
     text: &mut Vec<u8>,
-    refused: Refused,
+    refused: FramingRefusal,
     place: usize,
     head: bool,
 ) -> Result<(), Memory> {
     let word = match refused {
-        Refused::BadHead => "bad_head",
-        Refused::HeadTooLarge => "head_too_large",
-        Refused::BadLength => "bad_length",
-        Refused::BadCoding => "bad_coding",
-        Refused::BodyTooLarge => "body_too_large",
-        _ => "another",
+        FramingRefusal::BadHead => "bad_head",
+        FramingRefusal::HeadTooLarge => "head_too_large",
+        FramingRefusal::BadLength => "bad_length",
+        FramingRefusal::BadCoding => "bad_coding",
+        FramingRefusal::BodyTooLarge => "body_too_large",
     };
     text.extend_from_slice(format!(in alloc; "{place} {word} {head}\n")?.as_bytes())?;
     Ok(())

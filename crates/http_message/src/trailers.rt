@@ -1,29 +1,19 @@
 //! The trailers of a chunked coding, which are dropped.
-ghost use Rattle.std.specs.Prelude.{◌≡◌, ◌<◌, ◌≤◌, length, IsTrue, IsFalse};
-ghost use Rattle.q_outside.specs.Told.{IsEnded};
-ghost use Rattle.http_message.specs.Coded.{IsEnding};
-ghost use Rattle.http_message.specs.Coding.{AreTrailers, AreNoTrailers, trailer_room, coding_limit};
+ghost use Rattle.std.specs.Prelude.{◌≡◌, ◌≤◌, ℕ, List, length, IsTrue, IsFalse};
+ghost use Rattle.http_message.specs.Coded.{IsEnding, EndsCoding};
+ghost use Rattle.http_message.specs.Coding.{AreTrailers, AreNoTrailers, Unfinished};
+ghost use Rattle.http_message.specs.Input.{Reads};
+ghost use Rattle.http_message.specs.Limits.{coding_limit, trailer_room};
 
+use crate::chunk::Part;
 use crate::input::Input;
 use crate::limits::{overlong_at, room_behind};
 use crate::line::{Sought, TextFound, find_text};
-use crate::refused::Refused;
+use crate::refusal::FramingRefusal;
+use crate::stopped::Stopped;
 use httparse::Status;
 use httparse::spans::{HeaderSpan, parse_headers};
 use q_outside::Source;
-
-/// How the trailers came.
-#[derive(Clone, Copy, Debug, PartialEq, Eq)]
-pub enum Ending {
-    /// With their empty line, and the coding has so many bytes with them.
-    Whole { coded: usize },
-    /// They are refused, of so many bytes of the coding.
-    Broken { refused: Refused, coded: usize },
-    /// The source had ended.
-    Ended,
-    /// The source failed.
-    Failed,
-}
 
 /// Takes the trailers behind so many bytes of a coding.
 pub fn take_trailers<S: Source>(
@@ -31,35 +21,32 @@ pub fn take_trailers<S: Source>(
     input: &mut Input,
     spare: &mut [HeaderSpan],
     coded: usize,
-) -> Ending
+) -> Result<Part, Stopped>
     requires spare { length spare.old ≡ trailer_room }
     requires coded { coded ≤ coding_limit }
-    ensures ending { IsEnding (S.left source.old) (S.left source.new) (IsEnded (S.left source.new)) (S.faults source.old < S.faults source.new) input.old input.new coded result }
-    ensures count { S.faults source.old ≤ S.faults source.new }
+    ensures { Reads (S.at source.old) (S.at source.new) input.old input.new (λ bytes. EndsCoding coded bytes Unfinished) (IsEnding coded) result }
 {
     let room = room_behind(coded);
-    match find_text(source, input, Sought::Trailers, room) {
+    match find_text(source, input, Sought::Trailers, room)? {
         TextFound::Whole(size) => {
             let whole = are_trailers(&input.bytes()[..size], spare);
             input.skip(size);
             let coded = coded + size;
             if whole {
-                return Ending::Whole { coded };
+                return Ok(Part::End { coded });
             }
-            Ending::Broken {
-                refused: Refused::BadLength,
+            Ok(Part::Broken {
+                refused: FramingRefusal::BadLength,
                 coded,
-            }
+            })
         }
         TextFound::Overlong => {
             input.skip(room);
-            Ending::Broken {
+            Ok(Part::Broken {
                 refused: overlong_at(coded),
                 coded: coded + room,
-            }
+            })
         }
-        TextFound::Ended => Ending::Ended,
-        TextFound::Failed => Ending::Failed,
     }
 }
 

@@ -1,6 +1,7 @@
 -- Calls one after another take, give and tell what they did together.
-use Rattle.std.proofs.Common.{◌≡◌, ℕ, List, [], ◌∷◌, ◌++◌, Option, Some, None, refl, append_assoc, append-nil, sym, subst}
-use Rattle.q_outside.specs.Told.{Takes, Gives, Ticks}
+use Rattle.std.proofs.Common.{◌≡◌, ℕ, ◌+◌, List, [], ◌∷◌, ◌++◌, length, take, Option, Some, None, refl, append_assoc, append-nil, sym, subst, arith, length-append}
+use Rattle.std.proofs.Math.Seq.{take-append-add}
+use Rattle.q_outside.specs.Told.{End, Takes, Gives, TookBytes, GaveBytes, GavePart, Ticks}
 
 -- a call that took nothing leaves what was left
 pub Takes-nothing : {A : Type 0} (left : Option (List A)) → Takes left left []
@@ -30,6 +31,37 @@ Gives-append (Some held) None last xs ys t u = cc
 Gives-append {A} (Some held) (Some more) last xs ys t u =
     let joined : (held ++ xs) ++ ys ≡ held ++ (xs ++ ys) = append_assoc held xs ys in
     cc
+
+-- a source from which nothing was taken
+pub took_nothing : (source : End) → TookBytes source source []
+took_nothing source = record { taken = Takes-nothing source.bytes; count = omega arith }
+
+-- what two calls took is taken in one
+pub took_both : (first middle last : End) (xs ys : List ℕ) → TookBytes first middle xs → TookBytes middle last ys → TookBytes first last (xs ++ ys)
+took_both first middle last xs ys t u =
+    record { taken = Takes-append first.bytes middle.bytes last.bytes xs ys t.taken u.taken; count = omega (arith, t.count, u.count) }
+
+-- a sink that was given nothing
+pub gave_nothing : (sink : End) → GaveBytes sink sink []
+gave_nothing sink = record { given = Gives-nothing sink.bytes; count = omega arith }
+
+-- what two calls gave is given in one
+pub gave_both : (first middle last : End) (xs ys : List ℕ) → GaveBytes first middle xs → GaveBytes middle last ys → GaveBytes first last (xs ++ ys)
+gave_both first middle last xs ys g h =
+    record { given = Gives-append first.bytes middle.bytes last.bytes xs ys g.given h.given; count = omega (arith, g.count, h.count) }
+
+-- a first piece whole, and then the beginning of a second
+pub part_behind : (before mid after : End) (first second : List ℕ) → GaveBytes before mid first → GavePart mid after second → GavePart before after (first ++ second)
+part_behind before mid after first second g p =
+    let size : length (first ++ second) ≡ length first + length second = length-append first second in
+    let text : take (length first + p.size) (first ++ second) ≡ first ++ take p.size second = take-append-add first second p.size in
+    let both : Gives before.bytes after.bytes (first ++ take p.size second) = Gives-append before.bytes mid.bytes after.bytes first (take p.size second) g.given p.given in
+    record {
+      size = length first + p.size;
+      part = omega (arith, size, p.part);
+      given = subst (λ (t : List ℕ). Gives before.bytes after.bytes t) (sym text) both;
+      rises = omega (arith, g.count, p.rises);
+    }
 
 -- one moment more
 pub Ticks-append : {C : Type 0} (tells : C → ℕ → C → Type 0) (first middle last : C) (xs ys : List ℕ) → Ticks tells first xs middle → Ticks tells middle ys last → Ticks tells first (xs ++ ys) last

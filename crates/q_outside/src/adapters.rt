@@ -26,9 +26,7 @@ impl<R: Read + Drop> ReadSource<R> {
 }
 
 impl<R: Read + Drop> Source for ReadSource<R> {
-    ghost left = { λ _. None };
-
-    ghost faults = { λ s. s.faults };
+    ghost at = { λ s. record { bytes = None; faults = s.faults } };
 
     fn take(&mut self, into: &mut [u8]) -> Result<usize, Failed> {
         match self.reader.read(into) {
@@ -59,9 +57,7 @@ impl<W: Write + Drop> WriteSink<W> {
 }
 
 impl<W: Write + Drop> Sink for WriteSink<W> {
-    ghost held = { λ _. None };
-
-    ghost faults = { λ s. s.faults };
+    ghost at = { λ s. record { bytes = None; faults = s.faults } };
 
     fn give(&mut self, bytes: &[u8]) -> Result<usize, Failed> {
         match self.writer.write(bytes) {

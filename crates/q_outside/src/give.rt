@@ -1,14 +1,12 @@
 //! Giving all of a piece to a sink.
-ghost use Rattle.std.specs.Prelude.{◌++◌, OnOk, OnErr};
-ghost use Rattle.q_outside.specs.Told.{Gives, GivesPart, Counts};
+ghost use Rattle.std.specs.Prelude.{◌++◌};
+ghost use Rattle.q_outside.specs.Told.{Gave};
 
 use crate::outside::{Failed, Sink};
 
 /// Gives all of a piece, however much the sink takes at once.
 pub fn give_all<K: Sink>(sink: &mut K, bytes: &[u8]) -> Result<(), Failed>
-    ensures ok { OnOk result (Gives (K.held sink.old) (K.held sink.new) bytes.now) }
-    ensures part { OnErr result (GivesPart (K.held sink.old) (K.held sink.new) bytes.now) }
-    ensures count { Counts (K.faults sink.old) (K.faults sink.new) result }
+    ensures { Gave (K.at sink.old) (K.at sink.new) bytes.now result }
 {
     let mut at = 0;
     while at < bytes.len() {
@@ -22,9 +20,7 @@ pub fn give_all<K: Sink>(sink: &mut K, bytes: &[u8]) -> Result<(), Failed>
 
 /// Gives one piece and then another.
 pub fn give_both<K: Sink>(sink: &mut K, first: &[u8], second: &[u8]) -> Result<(), Failed>
-    ensures ok { OnOk result (Gives (K.held sink.old) (K.held sink.new) (first.now ++ second.now)) }
-    ensures part { OnErr result (GivesPart (K.held sink.old) (K.held sink.new) (first.now ++ second.now)) }
-    ensures count { Counts (K.faults sink.old) (K.faults sink.new) result }
+    ensures { Gave (K.at sink.old) (K.at sink.new) (first.now ++ second.now) result }
 {
     match give_all(sink, first) {
         Ok(()) => give_all(sink, second),

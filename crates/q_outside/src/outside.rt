@@ -2,8 +2,8 @@
 //!
 //! A source may tell the bytes that are left, and a sink those that it holds; one that tells nothing
 //! claims nothing. Each has a count of faults that never falls, and fails only where that count rose.
-ghost use Rattle.std.specs.Prelude.{◌≡◌, ℕ, ◌<◌, ◌≤◌, List, [], length, take, Option, IfOk, OnErr};
-ghost use Rattle.q_outside.specs.Told.{Takes, Gives, IsEnded, Counts};
+ghost use Rattle.std.specs.Prelude.{◌≡◌, ℕ, ◌<◌, length};
+ghost use Rattle.q_outside.specs.Told.{End, Took, GaveSome};
 
 use q_base::Moment;
 
@@ -13,43 +13,28 @@ pub struct Failed;
 
 /// Where bytes come from.
 pub trait Source {
-    /// The bytes left, where the source tells them.
-    ghost left: { Self → Option (List ℕ) };
-
-    /// How often the source has failed.
-    ghost faults: { Self → ℕ };
+    /// What the source tells: the bytes left, where it tells them, and how often it has failed.
+    ghost at: { Self → End };
 
     /// Takes the next bytes into the front of the room and answers how many; 0 is the end.
     fn take(&mut self, into: &mut [u8]) -> Result<usize, Failed>
         requires { 0 < length into.old }
-        ensures within { IfOk result (λ n. n ≤ length into.old) }
-        ensures taken { IfOk result (λ n. Takes (left self.old) (left self.new) (take n into.new)) }
-        ensures end { IfOk result (λ n. n ≡ 0 → IsEnded (left self.new)) }
-        ensures failed { OnErr result (Takes (left self.old) (left self.new) []) }
-        ensures count { Counts (faults self.old) (faults self.new) result };
+        ensures { Took (at self.old) (at self.new) into.new result };
 }
 
 /// Where bytes go to.
 pub trait Sink {
-    /// The bytes held, where the sink tells them.
-    ghost held: { Self → Option (List ℕ) };
-
-    /// How often the sink has failed.
-    ghost faults: { Self → ℕ };
+    /// What the sink tells: the bytes held, where it tells them, and how often it has failed.
+    ghost at: { Self → End };
 
     /// Gives the first bytes of a piece and answers how many, at least one.
     fn give(&mut self, bytes: &[u8]) -> Result<usize, Failed>
         requires { 0 < length bytes.now }
-        ensures within { IfOk result (λ n. n ≤ length bytes.now) }
-        ensures some { IfOk result (λ n. 0 < n) }
-        ensures given { IfOk result (λ n. Gives (held self.old) (held self.new) (take n bytes.now)) }
-        ensures failed { OnErr result (Gives (held self.old) (held self.new) []) }
-        ensures count { Counts (faults self.old) (faults self.new) result };
+        ensures { GaveSome (at self.old) (at self.new) bytes.now result };
 
-    /// Says that nothing more will be given. What is held stays, and so does the count of faults.
+    /// Says that nothing more will be given. What the sink tells stays as it is.
     fn end(&mut self)
-        ensures held { held self.new ≡ held self.old }
-        ensures count { faults self.new ≡ faults self.old };
+        ensures { at self.new ≡ at self.old };
 }
 
 /// What tells the time. It never fails; it may stand or run back.

@@ -13,9 +13,7 @@ use std::sync::ledger::{Blank, Ledger};
 pub struct EndlessSink;
 
 impl Sink for EndlessSink {
-    ghost held = { λ _. None };
-
-    ghost faults = { λ _. 0 };
+    ghost at = { λ _. record { bytes = None; faults = 0 } };
 
     fn give(&mut self, bytes: &[u8]) -> Result<usize, Failed> {
         Ok(bytes.len())
@@ -63,9 +61,7 @@ impl<L: Ledger> ListSink<L> {
 }
 
 impl<L: Ledger> Sink for ListSink<L> {
-    ghost held = { λ s. Some s.bytes.items };
-
-    ghost faults = { λ s. s.faults };
+    ghost at = { λ s. record { bytes = Some s.bytes.items; faults = s.faults } };
 
     fn give(&mut self, bytes: &[u8]) -> Result<usize, Failed> {
         let room = self.bytes.capacity() - self.bytes.len();

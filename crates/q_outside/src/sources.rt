@@ -25,9 +25,7 @@ impl PlainSource {
 }
 
 impl Source for PlainSource {
-    ghost left = { λ s. Some (drop s.at s.bytes.items) };
-
-    ghost faults = { λ _. 0 };
+    ghost at = { λ s. record { bytes = Some (drop s.at s.bytes.items); faults = 0 } };
 
     fn take(&mut self, into: &mut [u8]) -> Result<usize, Failed> {
         let taken = copy_piece(self.bytes.as_slice(), self.at, into, usize::MAX);
@@ -67,9 +65,7 @@ impl ListSource {
 }
 
 impl Source for ListSource {
-    ghost left = { λ s. Some (drop s.at s.bytes.items) };
-
-    ghost faults = { λ s. s.faults };
+    ghost at = { λ s. record { bytes = Some (drop s.at s.bytes.items); faults = s.faults } };
 
     fn take(&mut self, into: &mut [u8]) -> Result<usize, Failed> {
         let turn = self.script.next();

@@ -1,38 +1,35 @@
-use Rattle.std.proofs.Common.{arith}
-use Rattle.http_message.proofs.ChunkLemmas.{line_found, line_overlong, line_short, step_grown}
+use Rattle.std.proofs.lemmas.Result.{err_from_is_err_and}
+use Rattle.http_message.proofs.ChunkLemmas.{line_found}
 use Rattle.http_message.proofs.LineLemmas.{ends_within}
+use Rattle.http_message.proofs.PartLemmas.{part_reads, part_overlong, part_stops}
 use Rattle.http_message.proofs.chunk.take_part.Goals as goal
 
+pub returns-in_err-line : goal.returns-in_err-line
+returns-in_err-line g c =
+    let p = err_from_is_err_and c.from_residual.result c.from_residual.ensures.1 in
+    rw (p.1, p.2)
+    (part_stops _ _ c.args.input.now c.find_text.new.input c.args.at c.room_behind-room.result c.room_behind-room.ensures
+    c.find_text.ensures.grows _ _ _ c.in_err-line.field-0.0 c.in_err-line.ensures.found)
+
 pub take_announced-requires-clause-within : goal.take_announced-requires-clause-within
-take_announced-requires-clause-within g c = (ends_within _ _ _ _ c.in-Whole.ensures.found).1
+take_announced-requires-clause-within g c =
+    let found = rw c.in-Whole.is at c.in_ok-line.ensures.found in
+    (ends_within _ _ _ _ found).1
 
 pub take_announced-requires-clause-here : goal.take_announced-requires-clause-here
 take_announced-requires-clause-here g c =
+    let found = rw c.in-Whole.is at c.in_ok-line.ensures.found in
     line_found c.args.at.coded c.room_behind-room.result c.find_text.new.input c.in-Whole.line c.requires.at.coded
-    c.room_behind-room.ensures c.in-Whole.ensures.found
+    c.room_behind-room.ensures found
 
-pub returns-in-Whole-clause-step : goal.returns-in-Whole-clause-step
-returns-in-Whole-clause-step g c =
-    step_grown _ _ _ _ _ _ c.args.input.now c.find_text.new.input c.take_announced.new.input c.args.at c.args.body.now
-    c.take_announced.new.body c.take_announced.result (λ rose. omega (arith, c.find_text.ensures.count))
-    c.find_text.ensures.grows c.take_announced.ensures.step
+pub returns-in-Whole : goal.returns-in-Whole
+returns-in-Whole g c =
+    part_reads _ _ c.args.input.now c.find_text.new.input c.args.at c.room_behind-room.result c.room_behind-room.ensures
+    c.find_text.ensures.grows _ c.take_announced.new.input _ _ c.take_announced.result c.take_announced.ensures
 
-pub returns-in-Overlong-clause-step : goal.returns-in-Overlong-clause-step
-returns-in-Overlong-clause-step g c =
+pub returns-in-Overlong : goal.returns-in-Overlong
+returns-in-Overlong g c =
+    let found = rw c.in-Overlong.is at c.in_ok-line.ensures.found in
     rw c.overlong_at.ensures
-    (line_overlong _ _ c.args.input.now c.find_text.new.input c.skip.new.self c.args.at.coded c.args.at.got
-    c.room_behind-room.result c.find_text.ensures.grows c.room_behind-room.ensures c.in-Overlong.ensures.found c.skip.ensures)
-
-pub returns-in-Ended-clause-step : goal.returns-in-Ended-clause-step
-returns-in-Ended-clause-step g c = (
-  c.in-Ended.ensures.found.0,
-  line_short _ _ c.args.input.now c.find_text.new.input c.args.at.coded c.args.at.got c.room_behind-room.result
-      c.find_text.ensures.grows c.room_behind-room.ensures c.in-Ended.ensures.found.1,
-)
-
-pub returns-in-Failed-clause-step : goal.returns-in-Failed-clause-step
-returns-in-Failed-clause-step g c = (
-  c.in-Failed.ensures.found.0,
-  line_short _ _ c.args.input.now c.find_text.new.input c.args.at.coded c.args.at.got c.room_behind-room.result
-      c.find_text.ensures.grows c.room_behind-room.ensures c.in-Failed.ensures.found.1,
-)
+    (part_overlong _ _ c.args.input.now c.find_text.new.input c.args.at c.room_behind-room.result c.room_behind-room.ensures
+    c.find_text.ensures.grows c.skip.new.self _ _ found c.skip.ensures)

@@ -1,6 +1,6 @@
 use Rattle.std.proofs.Common.{◌≡◌, ◌+◌, take, min}
 use Rattle.std.specs.Str.Parse.{digits_value}
-use Rattle.http_message.specs.Framing.{body_limit}
+use Rattle.http_message.specs.Limits.{body_limit}
 use Rattle.http_message.proofs.framing.number.Given as goal
 
 abbrev pub invariant-loop-byte : goal.invariant-loop-byte

@@ -1,19 +1,20 @@
 use Rattle.std.proofs.Common.{◌+◌, arith, lit≤}
+use Rattle.http_message.specs.Limits.{head_limit}
 use Rattle.http_message.proofs.ItemLemmas.{headed_bad, heads_grow, bad_first, item_return, item_large}
 use Rattle.http_message.proofs.headed.next_head.Goals as goal
 
-pub returns-in-BareReturn-clause-heads : goal.returns-in-BareReturn-clause-heads
-returns-in-BareReturn-clause-heads g c =
-    let found = c.in-BareReturn.ensures.found in
-    heads_grow _ _ _ _ _ c.find_head.new.input _ _ _ _ c.find_head.ensures.grows
-    (headed_bad _ _ _ _ _ _ c.refuse.result _ _ c.refuse.ensures.is
-    (bad_first c.find_head.new.input c.refuse.new.input _ (c.in-BareReturn.lead + 2)
-    (item_return c.find_head.new.input c.in-BareReturn.lead found) c.refuse.ensures.skips (omega arith) found.limit found.within))
+pub returns-in-Ok-BareReturn : goal.returns-in-Ok-BareReturn
+returns-in-Ok-BareReturn g c =
+    let found = rw c.in-Ok-BareReturn.field-0-is at c.in-Ok-BareReturn.ensures.found in
+    heads_grow _ _ _ c.find_head.new.input _ _ _ c.find_head.ensures.grows c.refuse.result
+    (headed_bad _ _ _ _ c.refuse.result _ _ c.refuse.ensures.is
+    (bad_first c.find_head.new.input c.refuse.new.input _ (c.in-Ok-BareReturn.lead + 2)
+    (item_return c.find_head.new.input c.in-Ok-BareReturn.lead found) c.refuse.ensures.skips (omega arith) found.limit found.within))
 
-pub returns-in-TooLarge-clause-heads : goal.returns-in-TooLarge-clause-heads
-returns-in-TooLarge-clause-heads g c =
-    let found = c.in-TooLarge.ensures.found in
-    heads_grow _ _ _ _ _ c.find_head.new.input _ _ _ _ c.find_head.ensures.grows
-    (headed_bad _ _ _ _ _ _ c.refuse-in-TooLarge.result _ _ c.refuse-in-TooLarge.ensures.is
-    (bad_first c.find_head.new.input c.refuse-in-TooLarge.new.input _ 16384
-    (item_large c.find_head.new.input found) c.refuse-in-TooLarge.ensures.skips (omega arith) (lit≤ tt) found.full))
+pub returns-in-Ok-TooLarge : goal.returns-in-Ok-TooLarge
+returns-in-Ok-TooLarge g c =
+    let found = rw c.in-Ok-TooLarge.field-0-is at c.in-Ok-TooLarge.ensures.found in
+    heads_grow _ _ _ c.find_head.new.input _ _ _ c.find_head.ensures.grows c.refuse-in-Ok-TooLarge.result
+    (headed_bad _ _ _ _ c.refuse-in-Ok-TooLarge.result _ _ c.refuse-in-Ok-TooLarge.ensures.is
+    (bad_first c.find_head.new.input c.refuse-in-Ok-TooLarge.new.input _ head_limit
+    (item_large c.find_head.new.input found) c.refuse-in-Ok-TooLarge.ensures.skips (omega arith) (lit≤ tt) found.full))

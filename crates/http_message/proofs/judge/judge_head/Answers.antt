@@ -1,4 +1,4 @@
-use Rattle.std.proofs.Common.{sym, ◌∙◌, ap, codes, ℕ, List}
+use Rattle.std.proofs.Common.{sym, ◌∙◌, ap, codes, ℕ, List, inr}
 use Rattle.std.specs.Str.{bytes_eq}
 use Rattle.http_message.proofs.HeadLemmas.{framing_at, calls_at, head_at}
 use Rattle.http_message.proofs.judge.judge_head.Goals as goal
@@ -23,8 +23,8 @@ pub returns-in-Err : goal.returns-in-Err
 returns-in-Err c =
     let head = c.requires.0 in
     let at = c.requires.1 in
-    record {
+    inr (record {
       head = head;
       is = at.is;
       framing_is = framing_at c.args.text.now c.args.spans.now c.args.parts head at ∙ sym c.framing_in.ensures ∙ c.in-Err.is;
-    }
+    })

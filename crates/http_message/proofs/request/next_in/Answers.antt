@@ -1,58 +1,69 @@
-use Rattle.std.proofs.Common.{refl, arith}
-use Rattle.http_message.specs.Room.{message_kept}
-use Rattle.http_message.proofs.TakenLemmas.{ok_given, takes_request, takes_broken, halts_early, halts_late}
+use Rattle.std.proofs.Common.{rules, refl}
+use Rattle.std.proofs.lemmas.Result.{err_from_is_err_and}
+use Rattle.http_message.proofs.TakenLemmas.{takes_request, takes_broken, stops_early, stops_late, waits_body}
 use Rattle.http_message.proofs.request.next_in.Goals as goal
 
-pub returns-in-Failed-clause-taken : goal.returns-in-Failed-clause-taken
-returns-in-Failed-clause-taken g c message =
-    let heads = c.in-Failed.ensures.heads in
-    rw c.halt-in-Failed.ensures.taken
-    (heads.is.0, (_, halts_early _ _ _ c.args.input.now heads.got c.args.place message _ heads.taken heads.is.1 refl))
+pub returns-in_err-refused-clause-next : goal.returns-in_err-refused-clause-next
+returns-in_err-refused-clause-next g c message =
+    let heads = c.in_err-refused.ensures in
+    let p = err_from_is_err_and c.from_residual.result c.from_residual.ensures.1 in
+    rw (p.1, p.2)
+    (stops_early _ _ c.args.input.now heads.got c.args.place message heads.took _ _ c.in_err-refused.field-0.0 heads.is)
 
-pub returns-in-Whole-clause-taken : goal.returns-in-Whole-clause-taken
-returns-in-Whole-clause-taken g c message =
-    let heads = c.in-Framed.ensures.heads in
-    let given = ok_given c.give_continue.result _ c.if-is_err.ensures.value c.give_continue.ensures.ok in (
-      takes_request _ _ _ _ _ c.args.input.now heads.got c.next_head.new.input c.take_body.new.input c.next_head.new.text
-          c.take_body.new.body c.next_head.new.spans c.in-Framed.head c.in-Whole.size c.in-Whole.used c.args.place _ message
-          heads.taken heads.is c.in-Whole.ensures.body.1 given refl,
-      refl,
-    )
+pub returns-in_err-size-clause-next : goal.returns-in_err-size-clause-next
+returns-in_err-size-clause-next g c message =
+    let heads = rw c.in-Framed.is at c.in_ok-refused.ensures in
+    let body = c.in_err-size.ensures in
+    let p = err_from_is_err_and c.from_residual-in_err-size.result c.from_residual-in_err-size.ensures.1 in
+    rw (p.1, p.2)
+    (stops_late _ _ c.args.input.now heads.got c.args.place message heads.took _ _ c.next_head.new.input c.next_head.new.text
+    c.next_head.new.spans c.in-Framed.head heads.is _ body.got body.took c.in_ok-give_continue.ensures.gave _
+    c.in_err-size.field-0.0 body.came)
 
-pub returns-in-Broken-clause-taken : goal.returns-in-Broken-clause-taken
-returns-in-Broken-clause-taken g c message =
-    let heads = c.in-Framed.ensures.heads in
-    let given = ok_given c.give_continue.result _ c.if-is_err.ensures.value c.give_continue.ensures.ok in
-    rw c.unframed-in-Broken.ensures.taken (
-      c.in-Framed.head.calls,
-      takes_broken _ _ _ _ _ c.args.input.now heads.got c.next_head.new.input c.take_body.new.input c.next_head.new.text
-          c.next_head.new.spans c.in-Framed.head c.in-Broken.refused c.in-Broken.used c.args.place
-          c.unframed-in-Broken.result.place message
-          (message_kept c.next_head.new.text c.next_head.new.spans c.take_body.new.body c.unframed-in-Broken.result.kept)
-          heads.taken heads.is c.in-Broken.ensures.body given c.unframed-in-Broken.ensures.place,
-      refl,
-    )
+pub returns-in_err-size-clause-waits : goal.returns-in_err-size-clause-waits
+returns-in_err-size-clause-waits g c =
+    let heads = rw c.in-Framed.is at c.in_ok-refused.ensures in
+    waits_body c.args.input.now heads.got c.next_head.new.input c.next_head.new.text c.next_head.new.spans c.in-Framed.head heads.is
+    _ _ _ c.take_body.ensures.got heads.waits c.take_body.ensures.waits
 
-pub returns-in-Ended-clause-taken : goal.returns-in-Ended-clause-taken
-returns-in-Ended-clause-taken g c message =
-    let heads = c.in-Framed.ensures.heads in
-    let given = ok_given c.give_continue.result _ c.if-is_err.ensures.value c.give_continue.ensures.ok in
-    rw c.halt-in-Ended.ensures.taken (
-      c.in-Ended.ensures.body.0,
-      halts_late _ _ _ _ _ c.args.input.now heads.got c.next_head.new.input c.take_body.new.input c.next_head.new.text
-          c.next_head.new.spans c.in-Framed.head c.args.place message heads.taken heads.is c.in-Ended.ensures.body.1 given,
-    )
-
-pub returns-in-Failed-take_body-clause-taken : goal.returns-in-Failed-take_body-clause-taken
-returns-in-Failed-take_body-clause-taken g c message =
-    let heads = c.in-Framed.ensures.heads in
-    let given = ok_given c.give_continue.result _ c.if-is_err.ensures.value c.give_continue.ensures.ok in
-    let came = c.in-Failed-take_body.ensures.body in
-    rw c.halt-in-Failed-take_body.ensures.taken (
-      omega (arith, came.0, c.in-Framed.ensures.count),
+pub returns-in-Whole-clause-next : goal.returns-in-Whole-clause-next
+returns-in-Whole-clause-next g c message =
+    let heads = rw c.in-Framed.is at c.in_ok-refused.ensures in
+    let body = rw c.in-Whole.is at c.in_ok-size.ensures in (
       (
-        _,
-        halts_late _ _ _ _ _ c.args.input.now heads.got c.next_head.new.input c.take_body.new.input c.next_head.new.text
-            c.next_head.new.spans c.in-Framed.head c.args.place message heads.taken heads.is came.1 given,
+        takes_request _ _ c.args.input.now heads.got c.args.place message heads.took _ _ c.next_head.new.input c.next_head.new.text
+            c.next_head.new.spans c.in-Framed.head heads.is _ body.got body.took c.in_ok-give_continue.ensures.gave
+            c.take_body.new.input c.take_body.new.body body.came.used c.in-Whole.size c.in-Whole.used _
+            body.came.splits body.came.says refl,
+        refl,
       ),
+      record { text_within = heads.is.text_within; parts = heads.is.at.within; body_within = body.came.says.0 },
     )
+
+pub returns-in-Whole-clause-waits : goal.returns-in-Whole-clause-waits
+returns-in-Whole-clause-waits g c =
+    let heads = rw c.in-Framed.is at c.in_ok-refused.ensures in
+    waits_body c.args.input.now heads.got c.next_head.new.input c.next_head.new.text c.next_head.new.spans c.in-Framed.head heads.is
+    _ _ _ c.take_body.ensures.got heads.waits c.take_body.ensures.waits
+
+pub returns-in-Broken-clause-next : goal.returns-in-Broken-clause-next
+returns-in-Broken-clause-next g c message =
+    let heads = rw c.in-Framed.is at c.in_ok-refused.ensures in
+    let body = rw c.in-Broken.is at c.in_ok-size.ensures in
+    rw (c.unframed-in-Broken.ensures.taken, c.unframed-in-Broken.ensures.kept) (
+      (
+        c.in-Framed.head.calls,
+        takes_broken _ _ c.args.input.now heads.got c.args.place message heads.took _ _ c.next_head.new.input c.next_head.new.text
+            c.next_head.new.spans c.in-Framed.head heads.is _ body.got body.took c.in_ok-give_continue.ensures.gave
+            c.take_body.new.input c.take_body.new.body body.came.used c.in-Broken.refused c.in-Broken.used
+            c.unframed-in-Broken.result.place _ body.came.splits body.came.says c.unframed-in-Broken.ensures.place,
+        refl,
+      ),
+      search rules,
+    )
+
+pub returns-in-Broken-clause-waits : goal.returns-in-Broken-clause-waits
+returns-in-Broken-clause-waits g c =
+    let heads = rw c.in-Framed.is at c.in_ok-refused.ensures in
+    waits_body c.args.input.now heads.got c.next_head.new.input c.next_head.new.text c.next_head.new.spans c.in-Framed.head heads.is
+    _ _ _ c.take_body.ensures.got heads.waits c.take_body.ensures.waits

@@ -1,5 +1,5 @@
 use Rattle.std.proofs.Common.{◌≤◌, ◌*◌}
-use Rattle.http_message.specs.Taken.{item_limit}
+use Rattle.http_message.specs.Limits.{item_limit}
 use Rattle.http_message.proofs.tests.told_counted.Given as goal
 
 abbrev pub invariant-loop-turn : goal.invariant-loop-turn

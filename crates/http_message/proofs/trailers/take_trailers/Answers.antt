@@ -1,49 +1,62 @@
-use Rattle.std.proofs.Common.{refl, sym, arith}
+use Rattle.std.proofs.Common.{ℕ, List, refl, sym, arith}
 use Rattle.std.proofs.lemmas.List.{length-take-le}
+use Rattle.std.proofs.lemmas.Result.{err_from_is_err_and}
+use Rattle.http_message.specs.Coded.{EndsCoding, IsEnding}
+use Rattle.http_message.specs.Coding.{Unfinished}
+use Rattle.http_message.specs.Line.{IsOpenIn}
+use Rattle.http_message.specs.declared.line.Sought.TheVariants.{Trailers}
 use Rattle.http_message.proofs.ChunkLemmas.{trailers_whole, trailers_bad, trailers_overlong, trailers_short}
+use Rattle.http_message.proofs.InputLemmas.{reads_grown, reads_short}
 use Rattle.http_message.proofs.LineLemmas.{ends_within}
 use Rattle.http_message.proofs.trailers.take_trailers.Goals as goal
 
+pub returns-in_err-size : goal.returns-in_err-size
+returns-in_err-size g c =
+    let p = err_from_is_err_and c.from_residual.result c.from_residual.ensures.1 in
+    rw (p.1, p.2)
+    (reads_short _ _ _ c.find_text.new.input _ (IsOpenIn Trailers c.room_behind-room.result) (λ (bytes : List ℕ). EndsCoding c.args.coded bytes Unfinished)
+    (IsEnding c.args.coded) c.in_err-size.field-0.0 c.find_text.ensures.grows
+    (trailers_short c.args.coded c.room_behind-room.result c.room_behind-room.ensures) c.in_err-size.ensures.found)
+
 pub slice_bounds-are_trailers-end : goal.slice_bounds-are_trailers-end
 slice_bounds-are_trailers-end g c =
-    sym (length-take-le c.in-Whole.size c.bytes.result.now (rw c.bytes.ensures (ends_within _ _ _ _ c.in-Whole.ensures.found).1))
+    let found = rw c.in-Whole.is at c.in_ok-size.ensures.found in
+    sym (length-take-le c.in-Whole.size c.bytes.result.now (rw c.bytes.ensures (ends_within _ _ _ _ found).1))
 
 pub overflow_add-coded : goal.overflow_add-coded
 overflow_add-coded g c =
-    let most = (ends_within _ _ _ _ c.in-Whole.ensures.found).2 in
+    let found = rw c.in-Whole.is at c.in_ok-size.ensures.found in
+    let most = (ends_within _ _ _ _ found).2 in
     omega (arith, most, c.room_behind-room.ensures, c.requires.coded)
 
 pub skip-requires : goal.skip-requires
-skip-requires g c = (ends_within _ _ _ _ c.in-Whole.ensures.found).1
+skip-requires g c =
+    let found = rw c.in-Whole.is at c.in_ok-size.ensures.found in
+    (ends_within _ _ _ _ found).1
 
-pub returns-then-whole-clause-ending : goal.returns-then-whole-clause-ending
-returns-then-whole-clause-ending g c =
-    trailers_whole _ _ c.args.input.now c.find_text.new.input c.skip.new.self c.args.coded c.room_behind-room.result c.in-Whole.size
-    c.find_text.ensures.grows c.room_behind-room.ensures c.in-Whole.ensures.found c.skip.ensures (rw c.bytes.ensures at (c.if-whole.ensures.yes refl))
-    (ends_within _ _ _ _ c.in-Whole.ensures.found).1
+pub returns-then-whole : goal.returns-then-whole
+returns-then-whole g c =
+    let found = rw c.in-Whole.is at c.in_ok-size.ensures.found in
+    reads_grown _ _ _ c.find_text.new.input _ c.in-Whole.size (IsOpenIn Trailers c.room_behind-room.result) (λ (bytes : List ℕ). EndsCoding c.args.coded bytes Unfinished)
+    (IsEnding c.args.coded) _ c.find_text.ensures.grows c.skip.ensures
+    (trailers_short c.args.coded c.room_behind-room.result c.room_behind-room.ensures)
+    (trailers_whole c.args.coded c.room_behind-room.result c.in-Whole.size c.find_text.new.input c.room_behind-room.ensures found
+    (ends_within _ _ _ _ found).1 (rw c.bytes.ensures at (c.if-whole.ensures.yes refl)))
 
-pub returns-else-whole-clause-ending : goal.returns-else-whole-clause-ending
-returns-else-whole-clause-ending g c =
-    trailers_bad _ _ c.args.input.now c.find_text.new.input c.skip.new.self c.args.coded c.room_behind-room.result c.in-Whole.size
-    c.find_text.ensures.grows c.room_behind-room.ensures c.in-Whole.ensures.found c.skip.ensures (rw c.bytes.ensures at (c.if-whole.ensures.no refl))
-    (ends_within _ _ _ _ c.in-Whole.ensures.found).1
+pub returns-else-whole : goal.returns-else-whole
+returns-else-whole g c =
+    let found = rw c.in-Whole.is at c.in_ok-size.ensures.found in
+    reads_grown _ _ _ c.find_text.new.input _ c.in-Whole.size (IsOpenIn Trailers c.room_behind-room.result) (λ (bytes : List ℕ). EndsCoding c.args.coded bytes Unfinished)
+    (IsEnding c.args.coded) _ c.find_text.ensures.grows c.skip.ensures
+    (trailers_short c.args.coded c.room_behind-room.result c.room_behind-room.ensures)
+    (trailers_bad c.args.coded c.room_behind-room.result c.in-Whole.size c.find_text.new.input c.room_behind-room.ensures found
+    (ends_within _ _ _ _ found).1 (rw c.bytes.ensures at (c.if-whole.ensures.no refl)))
 
-pub returns-in-Overlong-clause-ending : goal.returns-in-Overlong-clause-ending
-returns-in-Overlong-clause-ending g c =
+pub returns-in-Overlong : goal.returns-in-Overlong
+returns-in-Overlong g c =
+    let found = rw c.in-Overlong.is at c.in_ok-size.ensures.found in
     rw c.overlong_at.ensures
-    (trailers_overlong _ _ c.args.input.now c.find_text.new.input c.skip-in-Overlong.new.self c.args.coded c.room_behind-room.result
-    c.find_text.ensures.grows c.room_behind-room.ensures c.in-Overlong.ensures.found c.skip-in-Overlong.ensures)
-
-pub returns-in-Ended-clause-ending : goal.returns-in-Ended-clause-ending
-returns-in-Ended-clause-ending g c = (
-  c.in-Ended.ensures.found.0,
-  trailers_short _ _ c.args.input.now c.find_text.new.input c.args.coded c.room_behind-room.result c.find_text.ensures.grows
-      c.room_behind-room.ensures c.in-Ended.ensures.found.1,
-)
-
-pub returns-in-Failed-clause-ending : goal.returns-in-Failed-clause-ending
-returns-in-Failed-clause-ending g c = (
-  c.in-Failed.ensures.found.0,
-  trailers_short _ _ c.args.input.now c.find_text.new.input c.args.coded c.room_behind-room.result c.find_text.ensures.grows
-      c.room_behind-room.ensures c.in-Failed.ensures.found.1,
-)
+    (reads_grown _ _ _ c.find_text.new.input _ c.room_behind-room.result (IsOpenIn Trailers c.room_behind-room.result) (λ (bytes : List ℕ). EndsCoding c.args.coded bytes Unfinished)
+    (IsEnding c.args.coded) _ c.find_text.ensures.grows c.skip-in-Overlong.ensures
+    (trailers_short c.args.coded c.room_behind-room.result c.room_behind-room.ensures)
+    (trailers_overlong c.args.coded c.room_behind-room.result c.find_text.new.input c.room_behind-room.ensures found))

@@ -1,15 +1,14 @@
 -- the bytes that were given now come behind those before
 use Rattle.std.proofs.Common.{◌≤◌, length, drop, arith, length-drop}
 use Rattle.std.proofs.lemmas.List.{take_rest}
-use Rattle.q_outside.proofs.Given.{given-more}
+use Rattle.q_outside.proofs.Given.{given_more}
 use Rattle.q_outside.proofs.give.give_all.Goals as goal
 
 pub loop-at-preserved : goal.loop-at-preserved
 loop-at-preserved g c =
-    let within : c.in-Ok.count ≤ length (drop c.loop-at.at c.args.bytes.now) = rw take_rest at c.in-Ok.ensures.within in
+    let within : c.in-Ok.count ≤ length (drop c.loop-at.at c.args.bytes.now) = rw take_rest at c.in-Ok.ensures.1 in
     let size = length-drop c.loop-at.at c.args.bytes.now in
     record {
       within = omega (arith, within, size, c.loop-at-test.true);
-      given = given-more _ _ _ c.args.bytes.now c.loop-at.at c.in-Ok.count c.loop-at.invariant.given (rw take_rest at c.in-Ok.ensures.given);
-      count = omega (arith, c.loop-at.invariant.count, c.give.ensures.count.later);
+      given = given_more _ _ _ c.args.bytes.now c.loop-at.at c.in-Ok.count c.loop-at.invariant.given (rw take_rest at c.in-Ok.ensures.2);
     }

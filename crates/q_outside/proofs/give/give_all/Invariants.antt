@@ -1,13 +1,12 @@
--- the first bytes were given, and the count has not fallen
+-- the first bytes were given
 use Rattle.std.proofs.Common.{◌≤◌, ◌-◌, length, take}
-use Rattle.q_outside.specs.Told.{Gives}
+use Rattle.q_outside.specs.Told.{GaveBytes}
 use Rattle.q_outside.proofs.give.give_all.Given as goal
 
 abbrev pub invariant-loop-at : goal.invariant-loop-at
 invariant-loop-at g l = record {
   within : l.at ≤ length l.bytes;
-  given : Gives (g.K.Sink.held l.initial.sink) (g.K.Sink.held l.sink) (take l.at l.bytes);
-  count : g.K.Sink.faults l.initial.sink ≤ g.K.Sink.faults l.sink;
+  given : GaveBytes (g.K.Sink.at l.initial.sink) (g.K.Sink.at l.sink) (take l.at l.bytes);
 }
 
 abbrev pub decreases-loop-at : goal.decreases-loop-at
