@@ -1,6 +1,6 @@
 -- Requests of records whose names have no escape.
 use Rattle.std.proofs.Common.{◌≡◌, ◌≢◌, ℕ, ◌+◌, ◌<◌, ◌≤◌, Bool, true, false, not, cond, nat_lt, List, [], ◌∷◌, ◌++◌, length, drop, take, get_or, refl, sym, ◌∙◌, ap, ap₂, arith, inl, inr, codes, ◌⊎◌}
-use Rattle.std.proofs.lemmas.Bool.{cases_Bool, and_parts, and_from}
+use Rattle.std.proofs.lemmas.Bool.{cases_Bool, and_parts, and_from, ltb-false}
 use Rattle.std.proofs.lemmas.Bool.Decides.{nat_tests}
 use Rattle.std.proofs.lemmas.List.{take_all, take-append-drop, length-drop}
 use Rattle.std.proofs.lemmas.List.Elements.{All-cons, All-nil, All-weaker}
@@ -10,7 +10,7 @@ use Rattle.std.proofs.lemmas.Str.{IsUtf8-from_ascii}
 use Rattle.std.proofs.lemmas.Str.Ascii.{IsAscii-from_all}
 use Rattle.std.specs.Cmp.Lexicographic.{bytes_decides}
 use Rattle.std.specs.List.{list_all, starts_with, position_or_len}
-use Rattle.std.specs.Prelude.{All, ◌==◌, ◌&&◌, nat_eq, Option, Some, None, Result, Ok, Err}
+use Rattle.std.specs.Prelude.{All, ◌==◌, ◌&&◌, nat_eq, is_ok, Option, Some, None, Result, Ok, Err}
 use Rattle.matchit.specs.Seek.{has_slash}
 use Rattle.percent_encoding.specs.Percent.{percent_decode}
 use Rattle.percent_encoding.proofs.PercentLemmas.{percent_decode-nil, percent_decode_not_percent}
@@ -18,15 +18,18 @@ use Rattle.q_base.specs.Name.{is_name_byte, first_bad, read_name, name_unless}
 use Rattle.q_base.specs.declared.name.NameRefusal.{NameRefusal}
 use Rattle.q_base.specs.declared.name.NameRefusal.TheVariants.{Empty, TooLong, Memory}
 use Rattle.http_message.specs.Message.{Message}
-use Rattle.http_front.specs.Answered.{and_then, unless}
-use Rattle.http_front.specs.Asks.{ask_at, ask_by, ask_of, has_host, method_in, name_in, record_by}
-use Rattle.http_front.specs.Query.{is_query}
-use Rattle.http_front.specs.Routes.{route_of, collection_in, id_in}
+use Rattle.http_front.specs.Answered.{and_then}
+use Rattle.http_front.specs.Asks.{ask_at, ask_by, ask_of, fields_or_not, has_host, method_in, name_in, put_of, record_by}
+use Rattle.http_front.specs.Early.{has_names, is_bare, is_bare_put, is_early, is_early_at, is_early_call, is_early_with}
+use Rattle.http_front.specs.Query.{fields_in}
+use Rattle.http_front.specs.Routes.{route_of, served_of, serves, collection_in, id_in}
 use Rattle.http_front.specs.Target.{local_part, path_of, query_of, or_root}
-use Rattle.http_message.specs.declared.refused.Refused.{Refused}
-use Rattle.http_message.specs.declared.refused.Refused.TheVariants.{BadTarget}
+use Rattle.http_front.specs.declared.refused.Refused.{Refused}
 use Rattle.http_front.specs.declared.ask.Ask.{Ask}
 use Rattle.http_front.specs.declared.routes.Method.{Method}
+use Rattle.http_front.specs.declared.routes.Method.TheVariants.{Get, Head, Post, Put, Delete}
+use Rattle.http_front.specs.declared.routes.Served.{Served}
+use Rattle.http_front.specs.declared.routes.Route.{Route}
 use Rattle.http_front.specs.declared.routes.Route.TheVariants.{Record}
 use Rattle.http_front.proofs.CutLemmas.{no_place}
 use Rattle.http_front.proofs.RecordLemmas.{record_path, route_of_record}
@@ -51,6 +54,31 @@ all_good (x ∷ xs) h =
     elim (cases_Bool (is_name_byte x)) [
       | inl good ↦ and_from _ _ good (all_good xs (let more = rw good at h in omega arith))
       | inr bad ↦ absurd (let none = rw bad at h in omega arith)
+    ]
+
+-- and back
+none_bad : (xs : List ℕ) → list_all is_name_byte xs ≡ true → length xs ≤ position_or_len (λ byte. not (is_name_byte byte)) xs
+none_bad [] e = omega arith
+none_bad (x ∷ xs) e =
+    let parts = and_parts (is_name_byte x) (list_all is_name_byte xs) e in
+    let later = none_bad xs parts.1 in
+    rw parts.0 (omega arith)
+
+-- whether a text is a name, by its length and its bytes
+pub name_test : (text : List ℕ) → (length text == 0) ≡ false → length text ≤ 64 → list_all is_name_byte text ≡ is_ok (read_name text)
+name_test text zero few =
+    let low : nat_lt 64 (length text) ≡ false = grind (arith, nat_tests) in
+    let place = position_or_len (λ byte. not (is_name_byte byte)) text in
+    elim (cases_Bool (list_all is_name_byte text)) [
+      | inl all ↦
+          let past : nat_lt place (length text) ≡ false = let none = none_bad text all in grind (arith, nat_tests) in
+          rw (all, zero, low, past) refl
+      | inr other ↦
+          let here : nat_lt place (length text) ≡ true = elim (cases_Bool (nat_lt place (length text))) [
+            | inl h ↦ h
+            | inr h ↦ absurd (let all = all_good text (ltb-false place (length text) h) in cc)
+          ] in
+          rw (other, zero, low, here) refl
     ]
 
 -- A text that was read as a name is the name.
@@ -160,20 +188,24 @@ named : (text name : List ℕ) → read_name text ≡ Ok name → list_all is_na
 unfolding name_in
 named text name e good = rw (no_escape text good, e) refl
 
-asked_by : (m : Message) (path collection id : List ℕ) (r : Result Method Refused)
-    → name_in (collection_in path) ≡ Ok collection → name_in (id_in path) ≡ Ok id
-    → and_then r (λ method. unless (not (is_query Record None)) BadTarget (ask_by m path method Record))
-    ≡ and_then r (λ method. record_by m collection id method)
-unfolding is_query
-asked_by m path collection id (Ok method) e f = rw (e, f) refl
-asked_by m path collection id (Err refused) e f = refl
+-- What is known of a target that begins as a record's and goes on with two names as they stand.
+record IsPlain (s : Served) (path collection id : List ℕ) : Type 0 where
+  path_same : path_of path ≡ path
+  query_none : query_of path ≡ None
+  route_found : served_of s (route_of path) ≡ Some Record
+  collection_is : name_in (collection_in path) ≡ Ok collection
+  id_is : name_in (id_in path) ≡ Ok id
+  names_are : has_names path ≡ true
 
--- a request of a path whose names are read as they stand
-pub record_asked : (m : Message) (path collection id : List ℕ) → starts_with nat_eq path (codes "/v1/d/") ≡ true
-    → read_name (collection_in path) ≡ Ok collection → read_name (id_in path) ≡ Ok id
-    → ask_at m (path_of path) (query_of path) (route_of (path_of path))
-    ≡ and_then (method_in m Record) (λ method. record_by m collection id method)
-record_asked m path collection id starts e f =
+served_record : (s : Served) (found : Option Route) → serves s Record ≡ true → found ≡ Some Record
+    → served_of s found ≡ Some Record
+served_record s found e is = rw (is, e) refl
+
+plain_target : (s : Served) (path collection id : List ℕ) → starts_with nat_eq path (codes "/v1/d/") ≡ true
+    → serves s Record ≡ true → read_name (collection_in path) ≡ Ok collection → read_name (id_in path) ≡ Ok id
+    → IsPlain s path collection id
+unfolding has_names
+plain_target s path collection id starts served e f =
     let one = read_name_is (collection_in path) collection e in
     let two = read_name_is (id_in path) id f in
     let whole = path_parts path starts two.some in
@@ -182,13 +214,99 @@ record_asked m path collection id starts e f =
     let some : 0 < length path = omega (ap length whole, arith) in
     let route : route_of path ≡ Some Record =
     ap route_of whole ∙ route_is (collection_in path) (id_in path) one.some two.some one.good two.good in
-    rw (path_is path plain some, query_is path plain, route)
-    (asked_by m path collection id (method_in m Record) (named (collection_in path) collection e one.good)
-    (named (id_in path) id f two.good))
+    record {
+      path_same = path_is path plain some;
+      query_none = query_is path plain;
+      route_found = served_record s (route_of path) served route;
+      collection_is = named (collection_in path) collection e one.good;
+      id_is = named (id_in path) id f two.good;
+      names_are = rw (e, f) refl;
+    }
+
+asked_by : (m : Message) (path collection id : List ℕ) (r : Result Method Refused)
+    → name_in (collection_in path) ≡ Ok collection → name_in (id_in path) ≡ Ok id
+    → and_then r (λ method. and_then (fields_or_not (fields_in Record None)) (λ values. ask_by m path method Record values))
+    ≡ and_then r (λ method. record_by m collection id method)
+unfolding fields_in
+asked_by m path collection id (Ok method) e f = rw (e, f) refl
+asked_by m path collection id (Err refused) e f = refl
+
+-- a request of a path whose names are read as they stand
+pub record_asked : (s : Served) (m : Message) (path collection id : List ℕ)
+    → starts_with nat_eq path (codes "/v1/d/") ≡ true → serves s Record ≡ true
+    → read_name (collection_in path) ≡ Ok collection → read_name (id_in path) ≡ Ok id
+    → ask_at m (path_of path) (query_of path) (served_of s (route_of (path_of path)))
+    ≡ and_then (method_in m Record) (λ method. record_by m collection id method)
+record_asked s m path collection id starts served e f =
+    let plain = plain_target s path collection id starts served e f in
+    rw (plain.path_same, plain.query_none, plain.route_found)
+    (asked_by m path collection id (method_in m Record) plain.collection_is plain.id_is)
+
+and_true : (b : Bool) → (b && true) ≡ b
+and_true true = refl
+and_true false = refl
+
+early_by : (m : Message) (path : List ℕ) (r : Result Method Refused) → has_names path ≡ true
+    → is_early_with m path None Record r ≡ is_bare_put m r
+early_by m path (Ok Put) e = rw e (and_true (is_bare m))
+early_by m path (Ok Get) e = refl
+early_by m path (Ok Head) e = refl
+early_by m path (Ok Post) e = refl
+early_by m path (Ok Delete) e = refl
+early_by m path (Err refused) e = refl
+
+-- whether it is refused before anything is allocated
+pub record_early : (s : Served) (m : Message) (path collection id : List ℕ)
+    → starts_with nat_eq path (codes "/v1/d/") ≡ true → serves s Record ≡ true
+    → read_name (collection_in path) ≡ Ok collection → read_name (id_in path) ≡ Ok id
+    → is_early_at m (path_of path) (query_of path) (served_of s (route_of (path_of path)))
+    ≡ is_bare_put m (method_in m Record)
+record_early s m path collection id starts served e f =
+    let plain = plain_target s path collection id starts served e f in
+    rw (plain.path_same, plain.query_none, plain.route_found)
+    (early_by m path (method_in m Record) plain.names_are)
 
 -- a request of a target
-pub asked_at : (m : Message) (local : List ℕ) (answer : Result Ask Refused) → has_host m ≡ true
+pub asked_at : (s : Served) (m : Message) (local : List ℕ) (answer : Result Ask Refused) → has_host m ≡ true
     → local_part m.target ≡ Some local
-    → ask_at m (path_of local) (query_of local) (route_of (path_of local)) ≡ answer → ask_of m ≡ answer
+    → ask_at m (path_of local) (query_of local) (served_of s (route_of (path_of local))) ≡ answer → ask_of s m ≡ answer
 unfolding ask_of
-asked_at m local answer hosted local_is e = rw (hosted, local_is) e
+asked_at s m local answer hosted local_is e = rw (hosted, local_is) e
+
+pub early_at : (s : Served) (m : Message) (local : List ℕ) (early : Bool) → has_host m ≡ true
+    → local_part m.target ≡ Some local
+    → is_early_at m (path_of local) (query_of local) (served_of s (route_of (path_of local))) ≡ early → is_early s m ≡ early
+unfolding is_early
+early_at s m local early hosted local_is e = rw (hosted, local_is) e
+
+-- names as they stand, once their escapes are decoded
+is_named : (text : List ℕ) → is_ok (read_name text) ≡ true → (name : List ℕ) × (name_in text ≡ Ok name)
+is_named text e = by (read_name text) refl e
+  where
+    by : (r : Result (List ℕ) NameRefusal) → read_name text ≡ r → is_ok r ≡ true → (name : List ℕ) × (name_in text ≡ Ok name)
+    by (Ok name) is h = (name, named text name is (read_name_is text name is).good)
+    by (Err refusal) is h = absurd (cc)
+
+-- whether the body of a PUT of such a record is refused
+pub early_put : (m : Message) (path collection id : List ℕ) (method : Method) (names : Bool) → method ≡ Put → is_bare m ≡ true
+    → collection ≡ collection_in path → id ≡ id_in path
+    → names ≡ (is_ok (read_name collection) && is_ok (read_name id)) → names ≡ is_early_call m path Record method
+unfolding has_names
+early_put m path collection id method names put bare one two is =
+    is ∙ ap₂ (λ c i. is_ok (read_name c) && is_ok (read_name i)) one two ∙ rw (put, bare) refl
+
+-- a PUT of such a record whose body is refused
+pub bare_asked : (m : Message) (path : List ℕ) (method : Method) (refused : Refused) → is_early_call m path Record method ≡ true
+    → (is_bare m ≡ true → (collection id : List ℕ) → put_of m collection id ≡ Err refused)
+    → Err refused ≡ and_then (name_in (collection_in path)) (λ collection. and_then (name_in (id_in path)) (λ id. record_by m collection id method))
+unfolding has_names
+bare_asked m path Put refused early bare =
+    let parts = and_parts (is_bare m) (has_names path) early in
+    let both = and_parts (is_ok (read_name (collection_in path))) (is_ok (read_name (id_in path))) parts.1 in
+    let one = is_named (collection_in path) both.0 in
+    let two = is_named (id_in path) both.1 in
+    rw (one.1, two.1) (sym (bare parts.0 one.0 two.0))
+bare_asked m path Get refused early bare = absurd (cc)
+bare_asked m path Head refused early bare = absurd (cc)
+bare_asked m path Post refused early bare = absurd (cc)
+bare_asked m path Delete refused early bare = absurd (cc)

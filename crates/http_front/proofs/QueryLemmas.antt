@@ -1,12 +1,11 @@
 -- The fields of a query one by one.
-use Rattle.std.proofs.Common.{◌≡◌, ℕ, true, false, List, [], ◌∷◌, map, refl, sym, ap, ap₂}
-use Rattle.std.proofs.lemmas.Bool.{and_left, and_right, or_left, or_parts, cond-false, false_from_ne_true}
+use Rattle.std.proofs.Common.{◌≡◌, ℕ, true, false, List, [], ◌∷◌, ◌++◌, map, refl, sym, ap, inl, inr, append_assoc}
+use Rattle.std.proofs.lemmas.Bool.{cases_Bool, or_left, false_from_ne_true}
 use Rattle.std.proofs.lemmas.Str.{IsUtf8-from_is_utf8, is_utf8-from_IsUtf8}
-use Rattle.std.specs.Prelude.{◌==◌, not, bytes_eq, Option, Some, None}
-use Rattle.std.specs.List.{list_any}
+use Rattle.std.specs.Prelude.{bytes_eq, Option, Some, None}
 use Rattle.std.specs.Str.{IsUtf8, is_utf8}
 use Rattle.percent_encoding.specs.Percent.{percent_decode}
-use Rattle.http_front.specs.Query.{are_fields, decoded, is_among, is_field, name_of, pieces_of, spaced}
+use Rattle.http_front.specs.Query.{NamedValue, decoded, field_of, fields_of, is_among, name_of, pieces_of, spaced, with_field}
 use Rattle.http_front.specs.Target.{ahead_of, behind}
 use Rattle.http_front.specs.declared.routes.Route.{Route}
 use Rattle.http_front.proofs.CutLemmas.{parted, whole}
@@ -32,33 +31,60 @@ pub among_next : (name rest others : List ℕ) → behind 38 rest ≡ Some other
     → is_among name (pieces_of rest) ≡ is_among name (pieces_of others)
 among_next name rest others e other = rw ((parted 38 rest others e).split, other) refl
 
-fields_by : (route : Route) (rest : List ℕ) (o : Option (List ℕ)) → behind 38 rest ≡ o
-    → is_field route (ahead_of 38 rest) ≡ false → are_fields route (pieces_of rest) ≡ false
-fields_by route rest None e bad = rw (whole 38 rest e, bad) refl
-fields_by route rest (Some others) e bad = rw ((parted 38 rest others e).split, bad) refl
+-- fields behind others
+abbrev pub behind_fields : List NamedValue → Option (List NamedValue) → Option (List NamedValue)
+behind_fields front None = None
+behind_fields front (Some values) = Some (front ++ values)
 
--- the first field is none of the route
-pub fields_bad : (route : Route) (rest : List ℕ) → is_field route (ahead_of 38 rest) ≡ false
-    → are_fields route (pieces_of rest) ≡ false
-fields_bad route rest bad = fields_by route rest (behind 38 rest) refl bad
+no_fields : (route : Route) (piece : List ℕ) (pieces : List (List ℕ)) → field_of route piece ≡ None
+    → fields_of route (piece ∷ pieces) ≡ None
+no_fields route piece pieces bad =
+    elim (cases_Bool (is_among (name_of piece) pieces)) [
+      | inl again ↦ rw again refl
+      | inr once ↦ rw (once, bad) refl
+    ]
+
+fields_by : (route : Route) (rest : List ℕ) (o : Option (List ℕ)) → behind 38 rest ≡ o
+    → field_of route (ahead_of 38 rest) ≡ None → fields_of route (pieces_of rest) ≡ None
+fields_by route rest None e bad = rw (whole 38 rest e) (no_fields route (ahead_of 38 rest) [] bad)
+fields_by route rest (Some others) e bad =
+    rw ((parted 38 rest others e).split) (no_fields route (ahead_of 38 rest) (pieces_of others) bad)
+
+-- the first piece is no field of the route
+pub fields_bad : (route : Route) (front : List NamedValue) (rest : List ℕ) → field_of route (ahead_of 38 rest) ≡ None
+    → behind_fields front (fields_of route (pieces_of rest)) ≡ None
+fields_bad route front rest bad = ap (behind_fields front) (fields_by route rest (behind 38 rest) refl bad)
 
 -- it is one, and it is the last
-pub fields_last : (route : Route) (rest : List ℕ) → behind 38 rest ≡ None → is_field route (ahead_of 38 rest) ≡ true
-    → are_fields route (pieces_of rest) ≡ true
-fields_last route rest e good = rw (whole 38 rest e, good) refl
+pub fields_last : (route : Route) (front : List NamedValue) (rest : List ℕ) (value : NamedValue) → behind 38 rest ≡ None
+    → field_of route (ahead_of 38 rest) ≡ Some value
+    → behind_fields front (fields_of route (pieces_of rest)) ≡ Some (front ++ value ∷ [])
+fields_last route front rest value e good = rw (whole 38 rest e, good) refl
 
 -- it is repeated
-pub fields_repeated : (route : Route) (rest others : List ℕ) → behind 38 rest ≡ Some others
-    → is_among (name_of (ahead_of 38 rest)) (pieces_of others) ≡ true → are_fields route (pieces_of rest) ≡ false
-fields_repeated route rest others e again =
-    rw ((parted 38 rest others e).split)
-    (and_left _ _ (and_right _ _ (ap not again)))
+pub fields_repeated : (route : Route) (front : List NamedValue) (rest others : List ℕ) → behind 38 rest ≡ Some others
+    → is_among (name_of (ahead_of 38 rest)) (pieces_of others) ≡ true
+    → behind_fields front (fields_of route (pieces_of rest)) ≡ None
+fields_repeated route front rest others e again = rw ((parted 38 rest others e).split, again) refl
+
+joined : (front : List NamedValue) (value : NamedValue) (values : Option (List NamedValue))
+    → behind_fields front (with_field (Some value) values) ≡ behind_fields (front ++ value ∷ []) values
+joined front value None = refl
+joined front value (Some values) = ap (λ l. Some l) (sym (append_assoc front (value ∷ []) values))
 
 -- it is not
-pub fields_next : (route : Route) (rest others : List ℕ) → behind 38 rest ≡ Some others
-    → is_field route (ahead_of 38 rest) ≡ true → is_among (name_of (ahead_of 38 rest)) (pieces_of others) ≡ false
-    → are_fields route (pieces_of rest) ≡ are_fields route (pieces_of others)
-fields_next route rest others e good once = rw ((parted 38 rest others e).split, good, once) refl
+pub fields_next : (route : Route) (front : List NamedValue) (rest others : List ℕ) (value : NamedValue) → behind 38 rest ≡ Some others
+    → field_of route (ahead_of 38 rest) ≡ Some value
+    → is_among (name_of (ahead_of 38 rest)) (pieces_of others) ≡ false
+    → behind_fields front (fields_of route (pieces_of rest))
+    ≡ behind_fields (front ++ value ∷ []) (fields_of route (pieces_of others))
+fields_next route front rest others value e good once =
+    rw ((parted 38 rest others e).split, once, good) (joined front value (fields_of route (pieces_of others)))
+
+-- no fields ahead of others
+pub fields_first : (values : Option (List NamedValue)) → behind_fields [] values ≡ values
+fields_first None = refl
+fields_first (Some values) = refl
 
 -- the test of UTF-8
 pub utf8_no : (bytes : List ℕ) → (IsUtf8 bytes → ⊥) → is_utf8 bytes ≡ false
@@ -67,17 +93,7 @@ utf8_no bytes never = false_from_ne_true (is_utf8 bytes) (λ e. never (IsUtf8-fr
 pub utf8_yes : (bytes : List ℕ) → IsUtf8 bytes → is_utf8 bytes ≡ true
 utf8_yes bytes text = is_utf8-from_IsUtf8 bytes text
 
--- a text without `+` has no spaces for it
-same_spaced : (text : List ℕ) → list_any (λ b. b == 43) text ≡ false → map spaced text ≡ text
-same_spaced [] e = refl
-same_spaced (byte ∷ bytes) e =
-    let parts = or_parts _ _ e in
-    ap₂ (λ b bs. b ∷ bs) (cond-false (byte == 43) 32 byte parts.0) (same_spaced bytes parts.1)
-
-pub decoded_plain : (text : List ℕ) → list_any (λ b. b == 43) text ≡ false → percent_decode text ≡ decoded text
-unfolding decoded
-decoded_plain text e = ap percent_decode (sym (same_spaced text e))
-
+-- a value once its escapes are decoded
 pub decoded_spaced : (text copy : List ℕ) → copy ≡ map spaced text → percent_decode copy ≡ decoded text
 unfolding decoded
 decoded_spaced text copy e = ap percent_decode e

@@ -1,17 +1,18 @@
 -- Requests and their parts with what they ask, said of the specs, so that a slip does not check.
-use Rattle.std.proofs.Common.{◌≡◌, [], ◌∷◌, ◌++◌, refl, codes, true, false}
+use Rattle.std.proofs.Common.{◌≡◌, [], ◌∷◌, ◌++◌, refl, codes}
 use Rattle.std.specs.Prelude.{Some, None, Ok, Err}
 use Rattle.std.specs.Str.{is_utf8, chars}
 use Rattle.percent_encoding.specs.Percent.{percent_decode}
 use Rattle.httparse.specs.Grammar.{trim_ows}
 use Rattle.matchit.proofs.OnLiterals.{matchit_on_literals}
 use Rattle.hub_model.specs.declared.entry.Tags.TheVariants.{Any, Listed}
-use Rattle.http_message.specs.declared.refused.Refused.TheVariants.{BadTag}
+use Rattle.http_front.specs.declared.tags.TagRefusal.TheVariants.{BadTag}
 use Rattle.http_front.specs.Numbers.{number_of}
-use Rattle.http_front.specs.Query.{decoded, is_field, is_query}
+use Rattle.http_front.specs.Query.{decoded, field_of, fields_in}
 use Rattle.http_front.specs.Routes.{route_of, table}
 use Rattle.http_front.specs.Tags.{members_of, tag_of, tags_in, commits_in}
 use Rattle.http_front.specs.Target.{local_part, path_of, query_of}
+use Rattle.http_front.specs.declared.refused.QueryField.TheVariants as field
 use Rattle.http_front.specs.declared.routes.Route.TheVariants.{Record, Query, Filter, Purges, Match, Stats}
 use Rattle.http_front.specs.declared.tags.Comparison.TheVariants.{Strong, Weak}
 
@@ -43,29 +44,30 @@ pub values : (decoded (codes "a+%2B%zz%") ≡ codes "a +%zz%")
 unfolding decoded percent_decode
 values = (refl, refl)
 
--- an empty field, a field twice and a field of another route are none
-pub queries : (is_query Stats None ≡ true)
-    × (is_query Stats (Some []) ≡ false)
-    × (is_query Query (Some (codes "f=a=b&k")) ≡ true)
-    × (is_query Query (Some (codes "f=&f=")) ≡ false)
-    × (is_query Query (Some (codes "f=&")) ≡ false)
-    × (is_query Query (Some (codes "F=")) ≡ false)
-    × (is_query Query (Some (codes "%66=")) ≡ false)
-    × (is_query Query (Some (codes "f=%ff")) ≡ false)
-    × (is_query Record (Some (codes "f=")) ≡ false)
-unfolding is_query decoded percent_decode is_utf8 chars lib.Utf8.encode
-queries = (refl, refl, refl, refl, refl, refl, refl, refl, refl)
+-- an empty field, a field twice and a field of another route are none; the others have decoded values
+pub queries : (fields_in Stats None ≡ Some [])
+    × (fields_in Stats (Some []) ≡ None)
+    × (fields_in Query (Some (codes "f=a=b&k")) ≡ Some ((field.Filter, codes "a=b") ∷ (field.Kind, []) ∷ []))
+    × (fields_in Query (Some (codes "o=%2Dyear+%3D&s=2&n=10")) ≡ Some ((field.Order, codes "-year =") ∷ (field.Skip, codes "2") ∷ (field.Take, codes "10") ∷ []))
+    × (fields_in Query (Some (codes "f=&f=")) ≡ None)
+    × (fields_in Query (Some (codes "f=&")) ≡ None)
+    × (fields_in Query (Some (codes "F=")) ≡ None)
+    × (fields_in Query (Some (codes "%66=")) ≡ None)
+    × (fields_in Query (Some (codes "f=%ff")) ≡ None)
+    × (fields_in Record (Some (codes "f=")) ≡ None)
+unfolding fields_in decoded percent_decode is_utf8 chars lib.Utf8.encode
+queries = (refl, refl, refl, refl, refl, refl, refl, refl, refl, refl)
 
 -- the purges begin at a number from 1 to 2^63
-pub starts : (is_field Purges (codes "from=1") ≡ true)
-    × (is_field Purges (codes "from=%31") ≡ true)
-    × (is_field Purges (codes "from=9223372036854775808") ≡ true)
-    × (is_field Purges (codes "from=9223372036854775809") ≡ false)
-    × (is_field Purges (codes "from=0") ≡ false)
-    × (is_field Purges (codes "from=01") ≡ false)
-    × (is_field Purges (codes "from=+1") ≡ false)
-    × (is_field Purges (codes "from=") ≡ false)
-    × (is_field Query (codes "from=1") ≡ false)
+pub starts : (field_of Purges (codes "from=1") ≡ Some (field.From, codes "1"))
+    × (field_of Purges (codes "from=%31") ≡ Some (field.From, codes "1"))
+    × (field_of Purges (codes "from=9223372036854775808") ≡ Some (field.From, codes "9223372036854775808"))
+    × (field_of Purges (codes "from=9223372036854775809") ≡ None)
+    × (field_of Purges (codes "from=0") ≡ None)
+    × (field_of Purges (codes "from=01") ≡ None)
+    × (field_of Purges (codes "from=+1") ≡ None)
+    × (field_of Purges (codes "from=") ≡ None)
+    × (field_of Query (codes "from=1") ≡ None)
 unfolding decoded percent_decode is_utf8 chars number_of lib.Utf8.encode
 starts = (refl, refl, refl, refl, refl, refl, refl, refl, refl)
 

@@ -1,13 +1,17 @@
 -- Worked replies, computed from the definitions.
-use Rattle.std.proofs.Common.{◌≡◌, ℕ, Bool, true, false, List, [], ◌++◌, Some, codes, refl, length}
+use Rattle.std.proofs.Common.{◌≡◌, ℕ, Bool, true, false, List, [], Some, codes, refl}
 use Rattle.std.specs.Fmt.{digits}
-use Rattle.http_message.specs.declared.refused.Allow.TheVariants.{Record, Match as MatchAll, Other}
-use Rattle.http_message.specs.declared.refused.DocumentReason.TheVariants.{NotWhole}
-use Rattle.http_message.specs.declared.refused.Refused.TheVariants.{NoRoute, BadMethod, BodyTooLarge, BadDocument, Memory as NoMemory}
+use Rattle.http_front.specs.declared.refused.Allow.TheVariants.{Record, Match as MatchAll, Other}
+use Rattle.http_front.specs.declared.refused.DocumentReason.TheVariants.{NotWhole}
+use Rattle.http_front.specs.declared.refused.FilterReason.TheVariants.{TooManyPaths}
+use Rattle.http_message.specs.declared.refusal.FramingRefusal.TheVariants.{BodyTooLarge}
+use Rattle.http_front.specs.declared.refused.QueryField.TheVariants.{Order}
+use Rattle.http_front.specs.declared.refused.Refused.TheVariants.{Framing, NoRoute, BadMethod, BadFilter, BadDocument}
 use Rattle.hub_model.specs.declared.entry.Found.TheVariants.{Missing, At}
 use Rattle.hub_model.specs.declared.entry.Outcome.TheVariants.{Whole, Absent}
 use Rattle.hub_model.specs.declared.entry.Written.TheVariants.{Done, Precondition, Full}
-use Rattle.http_front.specs.ReplyText.{head_text, told_head, body_text, given_body}
+use Rattle.http_front.specs.Reply.{head_text, head_fields, reply_text, status_line}
+use Rattle.http_front.specs.ReplyText.{reply_of}
 use Rattle.http_front.specs.declared.shape.Shape.{Shape}
 use Rattle.http_front.specs.declared.told.Told.{Told}
 use Rattle.http_front.specs.declared.told.Told.TheVariants.{Write, Read, Count, Refusal, Memory}
@@ -24,95 +28,94 @@ head = record { put = false; head = true }
 
 -- the text of a reply at 100 seconds after 1970 began
 abbrev text_at_100 : Shape → Told → Bool → List ℕ
-text_at_100 shape told close =
-    head_text (told_head shape told (length (body_text told [])) close) (codes "Thu, 01 Jan 1970 00:01:40 GMT")
-    ++ given_body shape told []
+text_at_100 shape told close = reply_text (reply_of shape told [] (codes "Thu, 01 Jan 1970 00:01:40 GMT") close)
 
 -- a PUT that creates
 accepted-put : text_at_100 put (Write (Done 1 Missing 100)) false ≡ codes "HTTP/1.1 201 Created\r\nDate: Thu, 01 Jan 1970 00:01:40 GMT\r\nContent-Type: application/json\r\nContent-Length: 12\r\nCache-Control: no-store\r\nQuaestor-Commit: 1\r\n\r\n{\"commit\":1}"
-unfolding head_text digits get put head
+unfolding head_text head_fields status_line digits get put head
 accepted-put = refl
 
 -- a read that finds a document
 read-document : text_at_100 get (Read (record { commit = 1; clock = 100; ttl = 3600; result = Whole (codes "{\"a\":1}") (Some 1) })) false ≡ codes "HTTP/1.1 200 OK\r\nDate: Thu, 01 Jan 1970 00:01:40 GMT\r\nContent-Type: application/json\r\nContent-Length: 7\r\nETag: \"1\"\r\nCache-Control: max-age=3600\r\nQuaestor-Commit: 1\r\nQuaestor-Version: 1\r\nQuaestor-Until: 3700\r\n\r\n{\"a\":1}"
-unfolding head_text digits get put head
+unfolding head_text head_fields status_line digits get put head
 read-document = refl
 
 -- the same with HEAD
 head-of-document : text_at_100 head (Read (record { commit = 1; clock = 100; ttl = 3600; result = Whole (codes "{\"a\":1}") (Some 1) })) false ≡ codes "HTTP/1.1 200 OK\r\nDate: Thu, 01 Jan 1970 00:01:40 GMT\r\nContent-Type: application/json\r\nContent-Length: 7\r\nETag: \"1\"\r\nCache-Control: max-age=3600\r\nQuaestor-Commit: 1\r\nQuaestor-Version: 1\r\nQuaestor-Until: 3700\r\n\r\n"
-unfolding head_text digits get put head
+unfolding head_text head_fields status_line digits get put head
 head-of-document = refl
 
 -- a HEAD that finds none
 head-of-absent : text_at_100 head (Read (record { commit = 1; clock = 100; ttl = 3600; result = Absent })) false ≡ codes "HTTP/1.1 404 Not Found\r\nDate: Thu, 01 Jan 1970 00:01:40 GMT\r\nContent-Type: application/json\r\nContent-Length: 18\r\nCache-Control: max-age=3600\r\nQuaestor-Commit: 1\r\nQuaestor-Until: 3700\r\n\r\n"
-unfolding head_text digits get put head
+unfolding head_text head_fields status_line digits get put head
 head-of-absent = refl
 
 -- a DELETE that finds nothing
 accepted-delete : text_at_100 get (Write (Done 1 Missing 100)) false ≡ codes "HTTP/1.1 200 OK\r\nDate: Thu, 01 Jan 1970 00:01:40 GMT\r\nContent-Type: application/json\r\nContent-Length: 12\r\nCache-Control: no-store\r\nQuaestor-Commit: 1\r\n\r\n{\"commit\":1}"
-unfolding head_text digits get put head
+unfolding head_text head_fields status_line digits get put head
 accepted-delete = refl
 
 -- a PUT that replaces
 replaced : text_at_100 put (Write (Done 2 (At 1) 100)) false ≡ codes "HTTP/1.1 200 OK\r\nDate: Thu, 01 Jan 1970 00:01:40 GMT\r\nContent-Type: application/json\r\nContent-Length: 12\r\nCache-Control: no-store\r\nQuaestor-Commit: 2\r\n\r\n{\"commit\":2}"
-unfolding head_text digits get put head
+unfolding head_text head_fields status_line digits get put head
 replaced = refl
 
 -- a PUT whose condition is not met by what is there
 precondition-with-version : text_at_100 put (Write (Precondition (At 1) 100)) false ≡ codes "HTTP/1.1 412 Precondition Failed\r\nDate: Thu, 01 Jan 1970 00:01:40 GMT\r\nContent-Type: application/json\r\nContent-Length: 34\r\nCache-Control: no-store\r\n\r\n{\"error\":\"precondition\",\"found\":1}"
-unfolding head_text digits get put head
+unfolding head_text head_fields status_line digits get put head
 precondition-with-version = refl
 
 -- and one that finds nothing
 precondition-of-missing : text_at_100 put (Write (Precondition Missing 100)) false ≡ codes "HTTP/1.1 412 Precondition Failed\r\nDate: Thu, 01 Jan 1970 00:01:40 GMT\r\nContent-Type: application/json\r\nContent-Length: 37\r\nCache-Control: no-store\r\n\r\n{\"error\":\"precondition\",\"found\":null}"
-unfolding head_text digits get put head
+unfolding head_text head_fields status_line digits get put head
 precondition-of-missing = refl
 
 -- the counts
 counts : text_at_100 get (Count (record { front = 0; commits = 0; clock = 100 })) false ≡ codes "HTTP/1.1 200 OK\r\nDate: Thu, 01 Jan 1970 00:01:40 GMT\r\nContent-Type: application/json\r\nContent-Length: 35\r\nCache-Control: no-store\r\n\r\n{\"clock\":100,\"commits\":0,\"front\":0}"
-unfolding head_text digits get put head
+unfolding head_text head_fields status_line digits get put head
 counts = refl
 
 -- a method that records do not have
 method-of-record : text_at_100 get (Refusal (BadMethod Record) 100) false ≡ codes "HTTP/1.1 405 Method Not Allowed\r\nDate: Thu, 01 Jan 1970 00:01:40 GMT\r\nContent-Type: application/json\r\nContent-Length: 22\r\nCache-Control: no-store\r\nAllow: GET, HEAD, PUT, DELETE\r\n\r\n{\"error\":\"bad_method\"}"
-unfolding head_text digits get put head
+unfolding head_text head_fields status_line digits get put head
 method-of-record = refl
 
 -- or the match
 method-of-match : text_at_100 put (Refusal (BadMethod MatchAll) 100) false ≡ codes "HTTP/1.1 405 Method Not Allowed\r\nDate: Thu, 01 Jan 1970 00:01:40 GMT\r\nContent-Type: application/json\r\nContent-Length: 22\r\nCache-Control: no-store\r\nAllow: POST\r\n\r\n{\"error\":\"bad_method\"}"
-unfolding head_text digits get put head
+unfolding head_text head_fields status_line digits get put head
 method-of-match = refl
 
 -- or the others
 method-of-stats : text_at_100 get (Refusal (BadMethod Other) 100) false ≡ codes "HTTP/1.1 405 Method Not Allowed\r\nDate: Thu, 01 Jan 1970 00:01:40 GMT\r\nContent-Type: application/json\r\nContent-Length: 22\r\nCache-Control: no-store\r\nAllow: GET, HEAD\r\n\r\n{\"error\":\"bad_method\"}"
-unfolding head_text digits get put head
+unfolding head_text head_fields status_line digits get put head
 method-of-stats = refl
 
 -- a path without a route
 no-route : text_at_100 get (Refusal NoRoute 100) false ≡ codes "HTTP/1.1 404 Not Found\r\nDate: Thu, 01 Jan 1970 00:01:40 GMT\r\nContent-Type: application/json\r\nContent-Length: 20\r\nCache-Control: no-store\r\n\r\n{\"error\":\"no_route\"}"
-unfolding head_text digits get put head
+unfolding head_text head_fields status_line digits get put head
 no-route = refl
 
 -- a document with a fraction
 not-whole : text_at_100 put (Refusal (BadDocument NotWhole) 100) false ≡ codes "HTTP/1.1 422 Unprocessable Entity\r\nDate: Thu, 01 Jan 1970 00:01:40 GMT\r\nContent-Type: application/json\r\nContent-Length: 45\r\nCache-Control: no-store\r\n\r\n{\"error\":\"bad_document\",\"reason\":\"not_whole\"}"
-unfolding head_text digits get put head
+unfolding head_text head_fields status_line digits get put head
 not-whole = refl
 
 -- a body that is too large, after which the connection ends
-too-large : text_at_100 get (Refusal BodyTooLarge 100) true ≡ codes "HTTP/1.1 413 Payload Too Large\r\nDate: Thu, 01 Jan 1970 00:01:40 GMT\r\nContent-Type: application/json\r\nContent-Length: 26\r\nCache-Control: no-store\r\nConnection: close\r\n\r\n{\"error\":\"body_too_large\"}"
-unfolding head_text digits get put head
+too-large : text_at_100 get (Refusal (Framing BodyTooLarge) 100) true ≡ codes "HTTP/1.1 413 Payload Too Large\r\nDate: Thu, 01 Jan 1970 00:01:40 GMT\r\nContent-Type: application/json\r\nContent-Length: 26\r\nCache-Control: no-store\r\nConnection: close\r\n\r\n{\"error\":\"body_too_large\"}"
+unfolding head_text head_fields status_line digits get put head
 too-large = refl
 
 -- a write for which there is no room
 no-room : text_at_100 put (Write (Full 65837 100)) false ≡ codes "HTTP/1.1 507 Insufficient Storage\r\nDate: Thu, 01 Jan 1970 00:01:40 GMT\r\nContent-Type: application/json\r\nContent-Length: 36\r\nCache-Control: no-store\r\n\r\n{\"bytes\":65837,\"error\":\"store_full\"}"
-unfolding head_text digits put
+unfolding head_text head_fields status_line digits put
 no-room = refl
 
 -- want of memory
 no-memory : text_at_100 get Memory false ≡ codes "HTTP/1.1 503 Service Unavailable\r\nContent-Type: application/json\r\nContent-Length: 18\r\nCache-Control: no-store\r\n\r\n{\"error\":\"memory\"}"
-unfolding head_text digits get
+unfolding head_text head_fields status_line digits get
 no-memory = refl
 
--- which a refusal for want of memory is told as
-refused-memory : (shape : Shape) (close : Bool) → text_at_100 shape (Refusal NoMemory 100) close ≡ text_at_100 shape Memory close
-refused-memory shape close = refl
+-- a fifth path in an order
+bad-order : text_at_100 get (Refusal (BadFilter (record { field = Order; place = 9; reason = TooManyPaths })) 100) false ≡ codes "HTTP/1.1 400 Bad Request\r\nDate: Thu, 01 Jan 1970 00:01:40 GMT\r\nContent-Type: application/json\r\nContent-Length: 70\r\nCache-Control: no-store\r\n\r\n{\"error\":\"bad_filter\",\"field\":\"o\",\"place\":9,\"reason\":\"too_many_paths\"}"
+unfolding head_text head_fields status_line digits get
+bad-order = refl

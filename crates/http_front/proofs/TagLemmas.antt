@@ -7,7 +7,7 @@ use Rattle.std.proofs.lemmas.Grind.{flat_map-append}
 use Rattle.std.specs.List.{onto_first, filter_map, flat_map}
 use Rattle.std.specs.Prelude.{◌==◌, ◌&&◌, not, nat_lt, nat_le, Option, Some, None, Result, Ok, Err}
 use Rattle.httparse.specs.Grammar.{trim_ows}
-use Rattle.http_message.specs.declared.refused.Refused.{Refused}
+use Rattle.http_front.specs.declared.tags.TagRefusal.{TagRefusal}
 use Rattle.http_message.specs.Fields.{values}
 use Rattle.http_front.specs.Added.{Adds, pieces_behind}
 use Rattle.http_front.specs.Answered.{Answers}
@@ -111,7 +111,7 @@ take_of_taken zero xs ys = refl
 take_of_taken (suc n) [] ys = refl
 take_of_taken (suc n) (x ∷ xs) ys = ap (λ zs. x ∷ zs) (take_of_taken n xs ys)
 
-adds_both : (comparison : Comparison) (tags others : Option (List Tag)) (old mid new : List ℕ) (result : Result (Unit {0}) Refused)
+adds_both : (comparison : Comparison) (tags others : Option (List Tag)) (old mid new : List ℕ) (result : Result (Unit {0}) TagRefusal)
     → Adds comparison tags old mid (Ok tt) → Adds comparison others mid new result → Adds comparison (both tags others) old new result
 adds_both comparison None others old mid new result (inl e) second = absurd (cc)
 adds_both comparison None others old mid new result (inr e) second = absurd (cc)
@@ -122,13 +122,13 @@ adds_both comparison (Some tags) (Some others) old mid new result (inr first) (i
     inr (second.0, second.1 ∙ rw (first.1, filter_map-append (commit_of comparison) tags others, ← append_assoc) (take_of_taken 16 (old ++ filter_map (commit_of comparison) tags) (filter_map (commit_of comparison) others)))
 
 -- first the commits of some members, and then those of others
-pub adds_more : (comparison : Comparison) (xs ys : List (List ℕ)) (old mid new : List ℕ) (result : Result (Unit {0}) Refused)
+pub adds_more : (comparison : Comparison) (xs ys : List (List ℕ)) (old mid new : List ℕ) (result : Result (Unit {0}) TagRefusal)
     → Adds comparison (tags_of xs) old mid (Ok tt) → Adds comparison (tags_of ys) mid new result
     → Adds comparison (tags_of (xs ++ ys)) old new result
 adds_more comparison xs ys old mid new result first second =
     rw (tags_of-append xs ys) (adds_both comparison (tags_of xs) (tags_of ys) old mid new result first second)
 
-fails_both : (comparison : Comparison) (tags others : Option (List Tag)) (old mid : List ℕ) (refused : Refused)
+fails_both : (comparison : Comparison) (tags others : Option (List Tag)) (old mid : List ℕ) (refused : TagRefusal)
     → Adds comparison tags old mid (Err refused) → Adds comparison (both tags others) old mid (Err refused)
 fails_both comparison None others old mid refused first = first
 fails_both comparison (Some tags) None old mid refused (inl e) = inl e
@@ -136,7 +136,7 @@ fails_both comparison (Some tags) (Some others) old mid refused (inl e) = inl e
 fails_both comparison (Some tags) others old mid refused (inr e) = absurd (cc)
 
 -- some members fail, and so do all
-pub fails_more : (comparison : Comparison) (xs ys : List (List ℕ)) (old mid : List ℕ) (refused : Refused)
+pub fails_more : (comparison : Comparison) (xs ys : List (List ℕ)) (old mid : List ℕ) (refused : TagRefusal)
     → Adds comparison (tags_of xs) old mid (Err refused) → Adds comparison (tags_of (xs ++ ys)) old mid (Err refused)
 fails_more comparison xs ys old mid refused first =
     rw (tags_of-append xs ys) (fails_both comparison (tags_of xs) (tags_of ys) old mid refused first)
@@ -170,7 +170,7 @@ adds_full comparison member commits commit some full few is =
     rw long (full_by comparison (tag_of member) commits commit room is)
 
 -- the first member fails
-pub fails_list : (comparison : Comparison) (list member trimmed : List ℕ) (rest : Option (List ℕ)) (old new : List ℕ) (refused : Refused)
+pub fails_list : (comparison : Comparison) (list member trimmed : List ℕ) (rest : Option (List ℕ)) (old new : List ℕ) (refused : TagRefusal)
     → pieces_from false list ≡ member ∷ pieces_behind rest → trimmed ≡ trim_ows member
     → Adds comparison (tags_of (filter (λ m. nat_lt 0 (length m)) (trimmed ∷ []))) old new (Err refused)
     → Adds comparison (tags_of (members_of list)) old new (Err refused)
@@ -189,7 +189,7 @@ adds_last comparison list member trimmed rest old new pieces none is adds =
     rw (members_last list member rest pieces none, ← is) adds
 
 -- one is added, and then the others
-pub adds_next : (comparison : Comparison) (list member trimmed others : List ℕ) (rest : Option (List ℕ)) (old mid new : List ℕ) (result : Result (Unit {0}) Refused)
+pub adds_next : (comparison : Comparison) (list member trimmed others : List ℕ) (rest : Option (List ℕ)) (old mid new : List ℕ) (result : Result (Unit {0}) TagRefusal)
     → pieces_from false list ≡ member ∷ pieces_behind rest → rest ≡ Some others → trimmed ≡ trim_ows member
     → Adds comparison (tags_of (filter (λ m. nat_lt 0 (length m)) (trimmed ∷ []))) old mid (Ok tt)
     → Adds comparison (tags_of (members_of others)) mid new result
@@ -207,7 +207,7 @@ one_value : (value : List ℕ) → flat_map members_of (value ∷ []) ≡ member
 one_value value = append-nil (members_of value)
 
 -- one value more
-pub adds_value : (comparison : Comparison) (front more : List (List ℕ)) (value mid new : List ℕ) (result : Result (Unit {0}) Refused)
+pub adds_value : (comparison : Comparison) (front more : List (List ℕ)) (value mid new : List ℕ) (result : Result (Unit {0}) TagRefusal)
     → more ≡ front ++ value ∷ []
     → Adds comparison (tags_of (flat_map members_of front)) [] mid (Ok tt)
     → Adds comparison (tags_of (members_of value)) mid new result
@@ -222,7 +222,7 @@ pub adds_same : (comparison : Comparison) (front more : List (List ℕ)) (commit
     → Adds comparison (tags_of (flat_map members_of more)) [] commits (Ok tt)
 adds_same comparison front more commits is adds = rw (is ∙ append-nil front) adds
 
-answers_fails : (comparison : Comparison) (tags : Option (List Tag)) (new : List ℕ) (refused : Refused)
+answers_fails : (comparison : Comparison) (tags : Option (List Tag)) (new : List ℕ) (refused : TagRefusal)
     → Adds comparison tags [] new (Err refused) → Answers (commits_by comparison tags) (Err refused)
 answers_fails comparison None new refused (inl e) = inl (cc)
 answers_fails comparison None new refused (inr e) = inr (cc)
@@ -230,7 +230,7 @@ answers_fails comparison (Some tags) new refused (inl e) = inl (cc)
 answers_fails comparison (Some tags) new refused (inr done) = absurd (cc)
 
 -- the values fail with the first ones
-pub fails_values : (comparison : Comparison) (front more all others : List (List ℕ)) (value mid new : List ℕ) (refused : Refused)
+pub fails_values : (comparison : Comparison) (front more all others : List (List ℕ)) (value mid new : List ℕ) (refused : TagRefusal)
     → more ≡ front ++ value ∷ [] → all ≡ more ++ others
     → Adds comparison (tags_of (flat_map members_of front)) [] mid (Ok tt)
     → Adds comparison (tags_of (members_of value)) mid new (Err refused)

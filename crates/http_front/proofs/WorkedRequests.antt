@@ -10,14 +10,14 @@ use Rattle.hub_model.specs.declared.entry.Condition.{Condition}
 use Rattle.hub_model.specs.declared.entry.Condition.TheVariants.{Always, Present, Absent, Unchanged}
 use Rattle.hub_model.specs.declared.entry.Tags.TheVariants.{Listed}
 use Rattle.http_message.specs.Fields.{Pair, values}
-use Rattle.http_message.specs.declared.refused.Allow.TheVariants as allow
-use Rattle.http_message.specs.declared.refused.Refused.{Refused}
-use Rattle.http_message.specs.declared.refused.Refused.TheVariants.{BadHost, BadTarget, NoRoute, BadMethod, NoLength, BadEncoding, BadTag, NotBuilt}
+use Rattle.http_front.specs.declared.refused.Allow.TheVariants as allow
+use Rattle.http_front.specs.declared.refused.Refused.{Refused}
+use Rattle.http_front.specs.declared.refused.Refused.TheVariants.{BadHost, BadTarget, NoRoute, BadMethod, NoLength, BadEncoding, BadTag, NotBuilt}
 use Rattle.http_front.specs.Answered.{and_then}
 use Rattle.http_front.specs.Asks.{ask_of, document_in, has_host, has_length, is_plain, name_in, write}
 use Rattle.http_front.specs.Numbers.{number_of}
-use Rattle.http_front.specs.Query.{decoded, is_query}
-use Rattle.http_front.specs.Routes.{route_of, table}
+use Rattle.http_front.specs.Query.{decoded, fields_in}
+use Rattle.http_front.specs.Routes.{all_routes, route_of, table}
 use Rattle.http_front.specs.Tags.{commits_in, members_of, tag_of, tags_in}
 use Rattle.http_front.specs.Target.{local_part, path_of}
 use Rattle.http_front.specs.declared.ask.Ask.{Ask}
@@ -26,7 +26,7 @@ use Rattle.http_front.specs.declared.ask.Ask.TheVariants.{Read, MatchAll, Fetch,
 -- what a request of these fields asks
 abbrev asked_of : ℕ → List ℕ → List ℕ → List Pair → Result Ask Refused
 asked_of minor method target fields =
-    ask_of (record { method = method; target = target; minor = minor; fields = fields; body = codes "{}" })
+    ask_of all_routes (record { method = method; target = target; minor = minor; fields = fields; body = codes "{}" })
 
 -- of HTTP/1.1 with a Host
 abbrev asked : List ℕ → List ℕ → List Pair → Result Ask Refused
@@ -51,7 +51,7 @@ pub methods : (asked (codes "POST") (codes "/v1/d/shop/p1") [] ≡ Err (BadMetho
     × (asked (codes "HEAD") (codes "/v1/filter") [] ≡ Ok (Fetch true))
     × (asked (codes "POST") (codes "/v1/match") [] ≡ Ok MatchAll)
     × (asked (codes "GET") (codes "/v1/stats?x=1") [] ≡ Err BadTarget)
-unfolding ask_of has_host values local_part path_of route_of table matchit_on_literals is_utf8 chars lib.Utf8.encode is_query decoded percent_decode
+unfolding ask_of has_host values local_part path_of route_of table matchit_on_literals is_utf8 chars lib.Utf8.encode fields_in decoded percent_decode
 methods = (refl, refl, refl, refl, refl, refl, refl, refl, refl, refl)
 
 -- names, whose escapes are decoded
@@ -65,7 +65,7 @@ pub names : (asked (codes "GET") (codes "/v1/d/shop/P") [] ≡ Err BadTarget)
     × (asked (codes "GET") (codes "/v1/q/Shop") [] ≡ Err BadTarget)
     × (asked (codes "GET") (codes "/v1/purges") [] ≡ Err NotBuilt)
     × (asked (codes "GET") (codes "/v1/purges?from=0") [] ≡ Err BadTarget)
-unfolding ask_of has_host values local_part path_of route_of table matchit_on_literals is_utf8 chars lib.Utf8.encode is_query decoded percent_decode name_in tags_in number_of
+unfolding ask_of has_host values local_part path_of route_of table matchit_on_literals is_utf8 chars lib.Utf8.encode fields_in decoded percent_decode name_in tags_in number_of
 names = (refl, refl, refl, refl, refl, refl, refl, refl, refl, refl)
 
 -- the fields of Host (RFC 9112, section 3.2)
@@ -74,7 +74,7 @@ pub hosts : (asked_of 1 (codes "GET") (codes "*") [] ≡ Err BadHost)
     × (asked_of 0 (codes "GET") (codes "/v1/stats") [] ≡ Ok (Stats false))
     × (asked_of 0 (codes "GET") (codes "/v1/stats") ((codes "Host", codes "a") ∷ []) ≡ Ok (Stats false))
     × (asked_of 0 (codes "GET") (codes "/v1/stats") ((codes "Host", codes "a") ∷ (codes "Host", codes "a") ∷ []) ≡ Err BadHost)
-unfolding ask_of has_host values local_part path_of route_of table matchit_on_literals is_utf8 chars lib.Utf8.encode is_query
+unfolding ask_of has_host values local_part path_of route_of table matchit_on_literals is_utf8 chars lib.Utf8.encode fields_in
 hosts = (refl, refl, refl, refl, refl)
 
 -- what a PUT has to tell, in this order
@@ -84,7 +84,7 @@ pub tellings : (asked (codes "PUT") (codes "/v1/d/shop/p1") ((codes "If-Match", 
     × (put ((codes "Content-Encoding", codes "Identity") ∷ []) ≡ puts Always)
     × (asked (codes "PUT") (codes "/v1/d/shop/p1") ((codes "Transfer-Encoding", codes "chunked") ∷ []) ≡ puts Always)
     × (asked (codes "DELETE") (codes "/v1/d/shop/p1") ((codes "Content-Encoding", codes "gzip") ∷ []) ≡ Ok (write (codes "shop") (codes "p1") None Always))
-unfolding ask_of has_host values local_part path_of route_of table matchit_on_literals is_utf8 chars lib.Utf8.encode is_query name_in percent_decode has_length is_plain tags_in commits_in members_of trim_ows tag_of
+unfolding ask_of has_host values local_part path_of route_of table matchit_on_literals is_utf8 chars lib.Utf8.encode fields_in name_in percent_decode has_length is_plain tags_in commits_in members_of trim_ows tag_of
 tellings = (refl, refl, refl, refl, refl, refl)
 
 -- the conditions of a write
@@ -97,7 +97,7 @@ pub conditions : (put ((codes "If-None-Match", codes "*") ∷ []) ≡ puts Absen
     × (put ((codes "If-Match", codes "\"1\"") ∷ (codes "If-None-Match", codes "*") ∷ []) ≡ Err BadTag)
     × (put ((codes "If-None-Match", codes "\"1\"") ∷ []) ≡ Err BadTag)
     × (put ((codes "If-None-Match", []) ∷ []) ≡ Err BadTag)
-unfolding ask_of has_host values local_part path_of route_of table matchit_on_literals is_utf8 chars lib.Utf8.encode is_query name_in percent_decode has_length is_plain tags_in commits_in members_of trim_ows tag_of number_of
+unfolding ask_of has_host values local_part path_of route_of table matchit_on_literals is_utf8 chars lib.Utf8.encode fields_in name_in percent_decode has_length is_plain tags_in commits_in members_of trim_ows tag_of number_of
 conditions = (refl, refl, refl, refl, refl, refl, refl, refl, refl)
 
 -- those of a read
@@ -110,5 +110,5 @@ pub readings : (get ((codes "If-Match", codes "\"7\"") ∷ []) ≡ Ok (Read (key
     × (get ((codes "If-None-Match", codes "\"7\"") ∷ []) ≡ Err NotBuilt)
     × (asked (codes "GET") (codes "/v1/q/shop") ((codes "If-Match", codes "7") ∷ []) ≡ Err BadTag)
     × (asked (codes "GET") (codes "/v1/stats") ((codes "If-Match", codes "7") ∷ []) ≡ Ok (Stats false))
-unfolding ask_of has_host values local_part path_of route_of table matchit_on_literals is_utf8 chars lib.Utf8.encode is_query name_in percent_decode tags_in commits_in members_of trim_ows tag_of number_of
+unfolding ask_of has_host values local_part path_of route_of table matchit_on_literals is_utf8 chars lib.Utf8.encode fields_in name_in percent_decode tags_in commits_in members_of trim_ows tag_of number_of
 readings = (refl, refl, refl, refl, refl, refl)

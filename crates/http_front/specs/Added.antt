@@ -1,13 +1,13 @@
 -- What is added to the commits of a list while it is read.
 use Rattle.std.specs.Prelude.{◌≡◌, ◌⊎◌, ℕ, false, List, [], ◌++◌, take, Option, Some, None, Result, Ok, Err}
 use Rattle.std.specs.List.{filter_map}
-use Rattle.http_message.specs.declared.refused.Refused.{Refused}
-use Rattle.http_message.specs.declared.refused.Refused.TheVariants.{BadTag, Memory}
+use Rattle.http_front.specs.declared.tags.TagRefusal.{TagRefusal}
+use Rattle.http_front.specs.declared.tags.TagRefusal.TheVariants.{BadTag, Memory}
 use Rattle.http_front.specs.Tags.{Tag, commit_of, pieces_from}
 use Rattle.http_front.specs.declared.tags.Comparison.{Comparison}
 
 -- the commits of these tags are added, as far as there is room, or there is a member that is no tag
-abbrev pub Adds : Comparison → Option (List Tag) → List ℕ → List ℕ → Result (Unit {0}) Refused → Type 0
+abbrev pub Adds : Comparison → Option (List Tag) → List ℕ → List ℕ → Result (Unit {0}) TagRefusal → Type 0
 Adds comparison (Some tags) old new result =
     (result ≡ Err Memory) ⊎ ((result ≡ Ok tt) × (new ≡ take 16 (old ++ filter_map (commit_of comparison) tags)))
 Adds comparison None old new result = (result ≡ Err Memory) ⊎ (result ≡ Err BadTag)

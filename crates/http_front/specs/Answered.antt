@@ -1,10 +1,11 @@
--- Answers of calls that take memory, and answers one after the other.
+-- Answers one after the other.
 use Rattle.std.specs.Prelude.{◌≡◌, ◌⊎◌, Bool, true, false, Result, Ok, Err}
-use Rattle.http_message.specs.declared.refused.Refused.{Refused}
-use Rattle.http_message.specs.declared.refused.Refused.TheVariants.{Memory}
+use Rattle.http_front.specs.declared.refused.Refused.{Refused}
+use Rattle.http_front.specs.declared.tags.TagRefusal.{TagRefusal}
+use Rattle.http_front.specs.declared.tags.TagRefusal.TheVariants.{Memory}
 
 -- there was no memory, or it is this answer
-abbrev pub Answers : {A : Type 0} → Result A Refused → Result A Refused → Type 0
+abbrev pub Answers : {A : Type 0} → Result A TagRefusal → Result A TagRefusal → Type 0
 Answers wanted answer = (answer ≡ Err Memory) ⊎ (answer ≡ wanted)
 
 -- what follows of an answer, unless it is a refusal

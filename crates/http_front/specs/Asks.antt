@@ -16,23 +16,26 @@ use Rattle.hub_model.specs.declared.entry.Tags.{Tags}
 use Rattle.hub_model.specs.declared.entry.Tags.TheVariants.{Any, Listed}
 use Rattle.http_message.specs.Fields.{values}
 use Rattle.http_message.specs.Message.{Message}
-use Rattle.http_message.specs.declared.refused.Refused.{Refused}
-use Rattle.http_message.specs.declared.refused.Refused.TheVariants.{BodyTooLarge, BadHost, BadTarget, NoRoute, BadMethod, NoLength, BadEncoding, BadTag, NotBuilt, BadDocument, Memory}
-use Rattle.http_message.specs.declared.refused.Allow.{Allow}
-use Rattle.http_message.specs.declared.refused.DocumentReason.TheVariants.{NotJson, NotObject, TooDeep, NotWhole}
+use Rattle.http_front.specs.declared.refused.Allow.{Allow}
+use Rattle.http_front.specs.declared.refused.DocumentReason.TheVariants.{NotJson, NotObject, TooDeep, NotWhole}
+use Rattle.http_message.specs.declared.refusal.FramingRefusal.TheVariants.{BodyTooLarge}
+use Rattle.http_front.specs.declared.refused.Refused.{Refused}
+use Rattle.http_front.specs.declared.refused.Refused.TheVariants.{Framing, BadHost, BadTarget, NoRoute, BadMethod, NoLength, BadEncoding, BadTag, NotBuilt, BadDocument}
 use Rattle.http_front.specs.Answered.{and_then, unless}
-use Rattle.http_front.specs.Query.{is_query}
-use Rattle.http_front.specs.Routes.{route_of, collection_in, id_in, method_of, allows, methods_of}
+use Rattle.http_front.specs.Query.{NamedValue, fields_in}
+use Rattle.http_front.specs.Routes.{route_of, served_of, collection_in, id_in, queried_in, method_of, allows, methods_of}
 use Rattle.http_front.specs.Tags.{tags_in}
 use Rattle.http_front.specs.Target.{local_part, path_of, query_of}
 use Rattle.http_front.specs.declared.ask.Ask.{Ask}
 use Rattle.http_front.specs.declared.ask.Ask.TheVariants.{Write, Read, MatchAll, Fetch, Stats}
+use Rattle.http_front.specs.declared.routes.Served.{Served}
 use Rattle.http_front.specs.declared.routes.Route.{Route}
 use Rattle.http_front.specs.declared.routes.Route.TheVariants as route
 use Rattle.http_front.specs.declared.routes.Method.{Method}
 use Rattle.http_front.specs.declared.routes.Method.TheVariants.{Get, Head, Post, Put, Delete}
 use Rattle.http_front.specs.declared.shape.Shape.{Shape}
 use Rattle.http_front.specs.declared.tags.Comparison.TheVariants.{Strong, Weak}
+use Rattle.http_front.specs.declared.tags.TagRefusal.{TagRefusal}
 
 -- HTTP/1.1 asks for one field of Host, and HTTP/1.0 takes none too (RFC 9112, section 3.2)
 unfoldable pub has_host : Message → Bool
@@ -57,13 +60,18 @@ unfoldable pub is_plain : Message → Bool
 is_plain m =
     list_all (λ value. str_eq_ignore_ascii_case value (codes "identity")) (values (codes "content-encoding") m.fields)
 
+-- tags, or a list that is none
+abbrev pub tags_or_not : Result (Option Tags) TagRefusal → Result (Option Tags) Refused
+tags_or_not (Ok tags) = Ok tags
+tags_or_not (Err refusal) = Err BadTag
+
 -- the tags of If-Match, which are compared strongly
 abbrev pub matches : Message → Result (Option Tags) Refused
-matches m = tags_in Strong (values (codes "if-match") m.fields)
+matches m = tags_or_not (tags_in Strong (values (codes "if-match") m.fields))
 
 -- the tags of If-None-Match, which are not
 abbrev pub differs : Message → Result (Option Tags) Refused
-differs m = tags_in Weak (values (codes "if-none-match") m.fields)
+differs m = tags_or_not (tags_in Weak (values (codes "if-none-match") m.fields))
 
 -- a name, or a target that has none
 abbrev pub name_or_not : Result (List ℕ) NameRefusal → Result (List ℕ) Refused
@@ -96,14 +104,14 @@ if_none (Some tags) = Err NotBuilt
 abbrev pub check_read : Message → Result (Unit {0}) Refused
 check_read m = and_then (matches m) (λ tags. and_then (differs m) (λ others. if_none others))
 
--- how a body that is no document is refused
+-- how a body that is no document is refused; a definition of documents refuses none for want of memory
 abbrev pub refused_for : DocRefusal → Refused
-refused_for (doc.TooLong length) = BodyTooLarge
+refused_for (doc.TooLong length) = Framing BodyTooLarge
 refused_for doc.NotJson = BadDocument NotJson
 refused_for doc.NotObject = BadDocument NotObject
 refused_for (doc.TooDeep depth) = BadDocument TooDeep
 refused_for doc.NotWhole = BadDocument NotWhole
-refused_for doc.Memory = Memory
+refused_for doc.Memory = BadDocument NotJson
 
 -- a document, or why there is none
 abbrev pub document_by : Result Tree DocRefusal → Result Tree Refused
@@ -158,16 +166,16 @@ is_head Post = false
 is_head Put = false
 is_head Delete = false
 
--- a request of a route that has its method and its query
-abbrev pub ask_by : Message → List ℕ → Method → Route → Result Ask Refused
-ask_by m path method route.Record =
+-- a request of a route that has its method, with the fields of its query
+abbrev pub ask_by : Message → List ℕ → Method → Route → List NamedValue → Result Ask Refused
+ask_by m path method route.Record values =
     and_then (name_in (collection_in path)) (λ collection.
     and_then (name_in (id_in path)) (λ id. record_by m collection id method))
-ask_by m path method route.Query = query_by m (collection_in path)
-ask_by m path method route.Filter = Ok (Fetch (is_head method))
-ask_by m path method route.Purges = Err NotBuilt
-ask_by m path method route.Match = Ok MatchAll
-ask_by m path method route.Stats = Ok (Stats (is_head method))
+ask_by m path method route.Query values = query_by m (queried_in path)
+ask_by m path method route.Filter values = Ok (Fetch (is_head method))
+ask_by m path method route.Purges values = Err NotBuilt
+ask_by m path method route.Match values = Ok MatchAll
+ask_by m path method route.Stats values = Ok (Stats (is_head method))
 
 -- a method, where it is one of these
 abbrev pub method_by : Allow → Option Method → Result Method Refused
@@ -178,22 +186,27 @@ method_by methods (Some method) = if allows methods method then Ok method else E
 abbrev pub method_in : Message → Route → Result Method Refused
 method_in m found = method_by (methods_of found) (method_of m.method)
 
+-- the fields of a query, or a target that has none
+abbrev pub fields_or_not : Option (List NamedValue) → Result (List NamedValue) Refused
+fields_or_not (Some values) = Ok values
+fields_or_not None = Err BadTarget
+
 -- a request of a path
 abbrev pub ask_at : Message → List ℕ → Option (List ℕ) → Option Route → Result Ask Refused
 ask_at m path query None = Err NoRoute
 ask_at m path query (Some found) =
     and_then (method_in m found) (λ method.
-    unless (not (is_query found query)) BadTarget (ask_by m path method found))
+    and_then (fields_or_not (fields_in found query)) (λ values. ask_by m path method found values))
 
 -- a request of a target
-abbrev pub ask_in : Message → Option (List ℕ) → Result Ask Refused
-ask_in m None = Err BadTarget
-ask_in m (Some local) = ask_at m (path_of local) (query_of local) (route_of (path_of local))
+abbrev pub ask_in : Served → Message → Option (List ℕ) → Result Ask Refused
+ask_in s m None = Err BadTarget
+ask_in s m (Some local) = ask_at m (path_of local) (query_of local) (served_of s (route_of (path_of local)))
 
--- what a request asks, or the first reason in this order: its Host, its target, its route, its method,
--- its names and fields, and then those of its call
-unfoldable pub ask_of : Message → Result Ask Refused
-ask_of m = unless (not (has_host m)) BadHost (ask_in m (local_part m.target))
+-- what a request asks where these routes are served, or the first reason in this order: its Host, its
+-- target, its route, its method, its names and fields, and then those of its call
+unfoldable pub ask_of : Served → Message → Result Ask Refused
+ask_of s m = unless (not (has_host m)) BadHost (ask_in s m (local_part m.target))
 
 -- whether the method is PUT or HEAD
 abbrev pub shape_of : Message → Shape

@@ -2,11 +2,14 @@ pub mod Added
 pub mod Answered
 pub mod Asks
 pub mod Date
-pub mod Given
+pub mod Early
+pub mod Lines
 pub mod Numbers
 pub mod Paths
-pub mod Phrases
+pub mod Pieces
 pub mod Query
+pub mod ReadBack
+pub mod Reply
 pub mod ReplyText
 pub mod Routes
 pub mod Tags

@@ -1,10 +1,12 @@
 -- The fields of a target's query.
-use Rattle.std.specs.Prelude.{ℕ, Bool, true, false, not, ◌&&◌, ◌==◌, nat_le, if◌then◌else◌, bytes_eq, List, [], ◌∷◌, map, Option, Some, None, codes}
+use Rattle.std.specs.Prelude.{ℕ, Bool, false, ◌&&◌, ◌==◌, nat_le, if◌then◌else◌, bytes_eq, List, [], ◌∷◌, map, Option, Some, None, codes}
 use Rattle.std.specs.List.{list_any, slice_split}
 use Rattle.std.specs.Str.{is_utf8}
 use Rattle.percent_encoding.specs.Percent.{percent_decode}
 use Rattle.http_front.specs.Numbers.{number_of}
 use Rattle.http_front.specs.Target.{ahead_of, after}
+use Rattle.http_front.specs.declared.refused.QueryField.{QueryField}
+use Rattle.http_front.specs.declared.refused.QueryField.TheVariants as field
 use Rattle.http_front.specs.declared.routes.Route.{Route}
 use Rattle.http_front.specs.declared.routes.Route.TheVariants.{Record, Query, Filter, Purges, Match, Stats}
 
@@ -28,18 +30,19 @@ decoded text = percent_decode (map spaced text)
 abbrev pub value_of : List ℕ → List ℕ
 value_of piece = decoded (after 61 piece)
 
--- the fields of a route
-abbrev pub fields_of : Route → List (List ℕ)
-fields_of Query = codes "f" ∷ codes "o" ∷ codes "s" ∷ codes "n" ∷ codes "k" ∷ []
-fields_of Purges = codes "from" ∷ []
-fields_of Record = []
-fields_of Filter = []
-fields_of Match = []
-fields_of Stats = []
-
--- the field is one of the route
-abbrev pub is_known : Route → List ℕ → Bool
-is_known route name = list_any (bytes_eq name) (fields_of route)
+-- the field of a route that has this name
+abbrev pub field_named : Route → List ℕ → Option QueryField
+field_named Query name =
+    if bytes_eq name (codes "f") then Some field.Filter
+    else (if bytes_eq name (codes "o") then Some field.Order
+    else (if bytes_eq name (codes "s") then Some field.Skip
+    else (if bytes_eq name (codes "n") then Some field.Take
+    else (if bytes_eq name (codes "k") then Some field.Kind else None))))
+field_named Purges name = if bytes_eq name (codes "from") then Some field.From else None
+field_named Record name = None
+field_named Filter name = None
+field_named Match name = None
+field_named Stats name = None
 
 -- a purge's number: from 1 to 2^63
 abbrev pub is_start : Option ℕ → Bool
@@ -47,29 +50,44 @@ is_start None = false
 is_start (Some number) = nat_le 1 number && nat_le number 9223372036854775808
 
 -- the value has the form that its field asks for
-abbrev pub is_value : Route → List ℕ → Bool
-is_value Purges value = is_utf8 value && is_start (number_of value)
-is_value Query value = is_utf8 value
-is_value Record value = is_utf8 value
-is_value Filter value = is_utf8 value
-is_value Match value = is_utf8 value
-is_value Stats value = is_utf8 value
+abbrev pub is_value : QueryField → List ℕ → Bool
+is_value field.From value = is_utf8 value && is_start (number_of value)
+is_value field.Filter value = is_utf8 value
+is_value field.Order value = is_utf8 value
+is_value field.Skip value = is_utf8 value
+is_value field.Take value = is_utf8 value
+is_value field.Kind value = is_utf8 value
+
+-- a field and its decoded value
+abbrev pub NamedValue : Type 0
+NamedValue = QueryField × List ℕ
+
+-- a field of this value, where the value has its form
+abbrev pub valued : Option QueryField → List ℕ → Option NamedValue
+valued None value = None
+valued (Some found) value = if is_value found value then Some (found, value) else None
+
+-- the field of the route that a piece of a query is, with its value
+abbrev pub field_of : Route → List ℕ → Option NamedValue
+field_of route piece = valued (field_named route (name_of piece)) (value_of piece)
 
 -- one of these fields has this name
 abbrev pub is_among : List ℕ → List (List ℕ) → Bool
 is_among name pieces = list_any (λ piece. bytes_eq (name_of piece) name) pieces
 
--- a field of the route, in its form
-abbrev pub is_field : Route → List ℕ → Bool
-is_field route piece = is_known route (name_of piece) && is_value route (value_of piece)
+-- one more field, where it and the others are there
+abbrev pub with_field : Option NamedValue → Option (List NamedValue) → Option (List NamedValue)
+with_field (Some value) (Some values) = Some (value ∷ values)
+with_field (Some value) None = None
+with_field None values = None
 
--- each is a field of the route, in its form, and none is repeated
-abbrev pub are_fields : Route → List (List ℕ) → Bool
-are_fields route [] = true
-are_fields route (piece ∷ pieces) =
-    is_field route piece && not (is_among (name_of piece) pieces) && are_fields route pieces
+-- the fields that the pieces are, where each is one of the route and none is repeated
+abbrev pub fields_of : Route → List (List ℕ) → Option (List NamedValue)
+fields_of route [] = Some []
+fields_of route (piece ∷ pieces) =
+    if is_among (name_of piece) pieces then None else with_field (field_of route piece) (fields_of route pieces)
 
--- the query is such fields, or there is none
-unfoldable pub is_query : Route → Option (List ℕ) → Bool
-is_query route None = true
-is_query route (Some query) = are_fields route (pieces_of query)
+-- the fields of a query, where there is one
+unfoldable pub fields_in : Route → Option (List ℕ) → Option (List NamedValue)
+fields_in route None = Some []
+fields_in route (Some query) = fields_of route (pieces_of query)

@@ -1,5 +1,5 @@
 -- The routes: which one a path has, its names, and its methods.
-use Rattle.std.specs.Prelude.{◌≡◌, ℕ, Bool, true, false, if◌then◌else◌, bytes_eq, List, [], drop, Option, Some, None, option_map, Result, Ok, Err, codes}
+use Rattle.std.specs.Prelude.{◌≡◌, ℕ, Bool, true, false, if◌then◌else◌, bytes_eq, List, [], length, drop, Option, Some, None, option_map, Result, Ok, Err, codes}
 use Rattle.std.specs.Str.{is_utf8}
 use Rattle.matchit.specs.Rows.{RowsOf}
 use Rattle.matchit.specs.Order.{placed}
@@ -7,11 +7,12 @@ use Rattle.matchit.specs.Route.{Scan, parse_route}
 use Rattle.matchit.specs.Router.{RouteOf, route_from}
 use Rattle.matchit.specs.Seek.{first}
 use Rattle.matchit.specs.declared.error.InsertError.{InsertError}
-use Rattle.http_message.specs.declared.refused.Allow.{Allow}
-use Rattle.http_message.specs.declared.refused.Allow.TheVariants as allow
+use Rattle.http_front.specs.declared.refused.Allow.{Allow}
+use Rattle.http_front.specs.declared.refused.Allow.TheVariants as allow
 use Rattle.http_front.specs.Target.{ahead_of, after}
 use Rattle.http_front.specs.declared.routes.Route.{Route}
 use Rattle.http_front.specs.declared.routes.Route.TheVariants.{Record, Query, Filter, Purges, Match, Stats}
+use Rattle.http_front.specs.declared.routes.Served.{Served}
 use Rattle.http_front.specs.declared.routes.Method.{Method}
 use Rattle.http_front.specs.declared.routes.Method.TheVariants.{Get, Head, Post, Put, Delete}
 
@@ -46,13 +47,43 @@ pub record IsTable (rows : Table) : Type 0 where
 unfoldable pub route_of : List ℕ → Option Route
 route_of path = if is_utf8 path then option_map (λ row. row.value) (first table path) else None
 
--- the name of a collection in a path as it stands, behind `/v1/d/` or `/v1/q/`
+-- whether a route is served
+abbrev pub serves : Served → Route → Bool
+serves s Record = s.records
+serves s Query = s.queries
+serves s Filter = s.page
+serves s Purges = s.purges
+serves s Match = s.matching
+serves s Stats = s.stats
+
+-- every route is served
+abbrev pub all_routes : Served
+all_routes = record { records = true; queries = true; page = true; purges = true; matching = true; stats = true }
+
+-- a route, where it is served
+abbrev pub served_of : Served → Option Route → Option Route
+served_of s None = None
+served_of s (Some route) = if serves s route then Some route else None
+
+-- what stands before the names in the path of a record
+abbrev pub record_prefix : List ℕ
+record_prefix = codes "/v1/d/"
+
+-- what stands before the name in the path of a query
+abbrev pub query_prefix : List ℕ
+query_prefix = codes "/v1/q/"
+
+-- the name of a record's collection in its path as it stands
 abbrev pub collection_in : List ℕ → List ℕ
-collection_in path = ahead_of 47 (drop 6 path)
+collection_in path = ahead_of 47 (drop (length record_prefix) path)
 
 -- the name of a document behind it
 abbrev pub id_in : List ℕ → List ℕ
-id_in path = after 47 (drop 6 path)
+id_in path = after 47 (drop (length record_prefix) path)
+
+-- the name of a query's collection in its path as it stands
+abbrev pub queried_in : List ℕ → List ℕ
+queried_in path = ahead_of 47 (drop (length query_prefix) path)
 
 -- the method of these bytes, where some route has it (RFC 9110, section 9.3)
 abbrev pub method_of : List ℕ → Option Method

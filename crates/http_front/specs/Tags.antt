@@ -4,8 +4,8 @@ use Rattle.std.specs.List.{list_all, filter_map, flat_map, onto_first, starts_wi
 use Rattle.httparse.specs.Grammar.{trim_ows}
 use Rattle.hub_model.specs.declared.entry.Tags.{Tags}
 use Rattle.hub_model.specs.declared.entry.Tags.TheVariants.{Any, Listed}
-use Rattle.http_message.specs.declared.refused.Refused.{Refused}
-use Rattle.http_message.specs.declared.refused.Refused.TheVariants.{BadTag}
+use Rattle.http_front.specs.declared.tags.TagRefusal.{TagRefusal}
+use Rattle.http_front.specs.declared.tags.TagRefusal.TheVariants.{BadTag}
 use Rattle.http_front.specs.Numbers.{number_of}
 use Rattle.http_front.specs.declared.tags.Comparison.{Comparison}
 use Rattle.http_front.specs.declared.tags.Comparison.TheVariants.{Strong, Weak}
@@ -75,7 +75,7 @@ commit_of Strong tag = if tag.weak then None else number_of tag.text
 commit_of Weak tag = number_of tag.text
 
 -- of what a member of a list is
-abbrev pub commit_by : Comparison → Option Tag → Result (Option ℕ) Refused
+abbrev pub commit_by : Comparison → Option Tag → Result (Option ℕ) TagRefusal
 commit_by comparison (Some tag) = Ok (commit_of comparison tag)
 commit_by comparison None = Err BadTag
 
@@ -84,16 +84,16 @@ abbrev pub commits_of : Comparison → List Tag → List ℕ
 commits_of comparison tags = take 16 (filter_map (commit_of comparison) tags)
 
 -- the commits of these tags, where they are there
-abbrev pub commits_by : Comparison → Option (List Tag) → Result (List ℕ) Refused
+abbrev pub commits_by : Comparison → Option (List Tag) → Result (List ℕ) TagRefusal
 commits_by comparison (Some tags) = Ok (commits_of comparison tags)
 commits_by comparison None = Err BadTag
 
 -- the commits that these values name together: the fields of one name are one list
-unfoldable pub commits_in : Comparison → List (List ℕ) → Result (List ℕ) Refused
+unfoldable pub commits_in : Comparison → List (List ℕ) → Result (List ℕ) TagRefusal
 commits_in comparison values = commits_by comparison (tags_of (flat_map members_of values))
 
 -- a list of commits
-abbrev pub listed : Result (List ℕ) Refused → Result (Option Tags) Refused
+abbrev pub listed : Result (List ℕ) TagRefusal → Result (Option Tags) TagRefusal
 listed (Ok commits) = Ok (Some (Listed commits))
 listed (Err refused) = Err refused
 
@@ -104,7 +104,7 @@ is_any (value ∷ []) = bytes_eq value (codes "*")
 is_any (value ∷ other ∷ values) = false
 
 -- what the fields of a condition say, of their values
-unfoldable pub tags_in : Comparison → List (List ℕ) → Result (Option Tags) Refused
+unfoldable pub tags_in : Comparison → List (List ℕ) → Result (Option Tags) TagRefusal
 tags_in comparison [] = Ok None
 tags_in comparison (value ∷ values) =
     if is_any (value ∷ values) then Ok (Some Any) else listed (commits_in comparison (value ∷ values))

@@ -1,25 +1,29 @@
 //! What requests ask of the store.
-ghost use Rattle.std.specs.Prelude.{◌≡◌, not, Ok};
+//!
+//! A call answers `Err` for want of memory, and `Ok` with what is asked, or why it is refused.
+ghost use Rattle.std.specs.Prelude.{◌≡◌, ℕ, List, true, drop, length, IfOk, IsOk};
 ghost use Rattle.std.specs.Option.{option_copied};
-ghost use Rattle.http_front.specs.Answered.{Answers, and_then, unless};
-ghost use Rattle.http_front.specs.Asks.{ask_at, ask_by, ask_of, check_read, condition_by, condition_of, delete_of, document_in, method_in, name_in, put_of, query_by, read_of, record_by, refused_for, shape_of};
-ghost use Rattle.http_front.specs.Query.{is_query};
-ghost use Rattle.http_front.specs.Routes.{collection_in, id_in, route_of};
-ghost use Rattle.http_front.specs.Target.{path_of, query_of};
+ghost use Rattle.http_message.specs.Fields.{values as values_named};
+ghost use Rattle.http_front.specs.Answered.{and_then};
+ghost use Rattle.http_front.specs.Asks.{ask_at, ask_by, ask_of, check_read, condition_by, condition_of, delete_of, document_in, method_in, name_in, put_of, query_by, read_of, record_by, shape_of, tags_or_not};
+ghost use Rattle.http_front.specs.Early.{is_bare, is_bare_put, is_early, is_early_at, is_early_call};
+ghost use Rattle.http_front.specs.Routes.{collection_in, id_in, route_of, served_of};
+ghost use Rattle.http_front.specs.Tags.{tags_in};
+ghost use Rattle.http_front.specs.Target.{after, ahead_of, path_of, query_of};
 ghost use Rattle.http_front.specs.declared.routes.Route.TheVariants.{Record};
-ghost use Rattle.http_message.specs.declared.refused.Refused.TheVariants.{BadTarget};
 
 use crate::cut::{cut_at, cut_in_two};
-use crate::fields::{has_condition, has_host, has_length, is_plain};
-use crate::query::are_fields;
-use crate::routes::{Method, Route, Routes};
+use crate::fields::{has_condition, has_host, has_length, is_bare, is_plain};
+use crate::names::{are_names, name_in};
+use crate::query::{FieldValue, fields_in};
+use crate::refused::{DocumentReason, Refused};
+use crate::routes::{Method, QUERIES, RECORDS, Route, Routes};
 use crate::shape::Shape;
-use crate::tags::{Comparison, tags_in};
+use crate::tags::{Comparison, TagRefusal, tags_in};
 use crate::target::{local_part, or_root};
-use http_message::{DocumentReason, Refused, Request};
+use http_message::{FramingRefusal, Request};
 use hub_model::{Change, Commits, Condition, Tags};
-use percent_encoding::percent_decode;
-use q_base::{Memory, Name, NameRefusal};
+use q_base::{Memory, Name};
 use q_doc::{Doc, DocRefusal, ReadRoom};
 use query_normal::Key;
 use std::alloc::Global;
@@ -52,24 +56,29 @@ pub enum Ask {
 
 /// What a request asks, or the first reason why it is refused. A body is read in the room that is
 /// lent. A record whose names have no escape takes no look at the table of routes.
-#[tactic(auto, unfolding(crate::specs::Asks::ask_of, crate::specs::Target::path_of))]
+#[tactic(auto, unfolding(
+    crate::specs::Asks::ask_of,
+    crate::specs::Early::is_early,
+    crate::specs::Target::path_of
+))]
 pub fn ask_of(
     alloc: Global,
     request: &Request<'_>,
     routes: &Routes,
     reading: &mut ReadRoom,
-) -> Result<Ask, Refused>
-    ensures { Answers (ask_of request.now) result }
+) -> Result<Result<Ask, Refused>, Memory>
+    ensures asked { IfOk result (λ asked. asked ≡ ask_of routes.now request.now) }
+    ensures early { is_early routes.now request.now ≡ true → IsOk result }
 {
     if !has_host(request) {
-        return Err(Refused::BadHost);
+        return Ok(Err(Refused::BadHost));
     }
     let Some(local) = local_part(request.target()) else {
-        return Err(Refused::BadTarget);
+        return Ok(Err(Refused::BadTarget));
     };
     // names that are read as they stand have no escape and no query behind them
-    if local.starts_with(b"/v1/d/") {
-        let (collection, id) = names_in(local);
+    if local.starts_with(RECORDS) && routes.serve_records() {
+        let (collection, id) = names_behind(RECORDS, local);
         if let Ok(collection) = Name::read(alloc, collection)
             && let Ok(id) = Name::read(alloc, id)
         {
@@ -87,11 +96,14 @@ fn ask_record(
     collection: Name,
     id: Name,
     reading: &mut ReadRoom,
-) -> Result<Ask, Refused>
-    ensures { Answers (and_then (method_in request.now Record) (λ method. record_by request.now collection id method)) result }
+) -> Result<Result<Ask, Refused>, Memory>
+    ensures asked { IfOk result (λ asked. asked ≡ and_then (method_in request.now Record) (λ method. record_by request.now collection id method)) }
+    ensures early { is_bare_put request.now (method_in request.now Record) ≡ true → IsOk result }
 {
-    let method = method_in(request, Route::Record)?;
-    record_by(alloc, request, collection, id, method, reading)
+    match method_in(request, Route::Record) {
+        Ok(method) => record_by(alloc, request, collection, id, method, reading),
+        Err(refused) => Ok(Err(refused)),
+    }
 }
 
 /// What a request of this target asks, which names no server.
@@ -103,17 +115,38 @@ fn ask_at(
     local: &[u8],
     routes: &Routes,
     reading: &mut ReadRoom,
-) -> Result<Ask, Refused>
-    ensures { Answers (ask_at request.now (path_of local.now) (query_of local.now) (route_of (path_of local.now))) result }
+) -> Result<Result<Ask, Refused>, Memory>
+    ensures asked { IfOk result (λ asked. asked ≡ ask_at request.now (path_of local.now) (query_of local.now) (served_of routes.now (route_of (path_of local.now)))) }
+    ensures early { is_early_at request.now (path_of local.now) (query_of local.now) (served_of routes.now (route_of (path_of local.now))) ≡ true → IsOk result }
 {
     let (path, query) = cut_at(local, b'?');
     let path = or_root(path);
-    let Some(route) = routes.route_of(path) else {
-        return Err(Refused::NoRoute);
+    match routes.route_of(path) {
+        Some(route) => ask_route(alloc, request, path, query, route, reading),
+        None => Ok(Err(Refused::NoRoute)),
+    }
+}
+
+/// What a request of this route asks.
+fn ask_route(
+    alloc: Global,
+    request: &Request<'_>,
+    path: &[u8],
+    query: Option<&[u8]>,
+    route: Route,
+    reading: &mut ReadRoom,
+) -> Result<Result<Ask, Refused>, Memory>
+    ensures asked { IfOk result (λ asked. asked ≡ ask_at request.now path.now (option_copied query.entry) (Some route)) }
+    ensures early { is_early_at request.now path.now (option_copied query.entry) (Some route) ≡ true → IsOk result }
+{
+    let method = match method_in(request, route) {
+        Ok(method) => method,
+        Err(refused) => return Ok(Err(refused)),
     };
-    let method = method_in(request, route)?;
-    check_query(alloc, route, query)?;
-    ask_by(alloc, request, path, method, route, reading)
+    let Some(values) = fields_in(alloc, route, query)? else {
+        return Ok(Err(Refused::BadTarget));
+    };
+    ask_by(alloc, request, path, method, route, values, reading)
 }
 
 /// The method of the request, where the route has it.
@@ -128,78 +161,104 @@ fn method_in(request: &Request<'_>, route: Route) -> Result<Method, Refused>
     }
 }
 
-/// Refuses a query that is not fields of the route.
-#[tactic(auto, unfolding(crate::specs::Query::is_query))]
-fn check_query(alloc: Global, route: Route, query: Option<&[u8]>) -> Result<(), Refused>
-    ensures { Answers (unless (not (is_query route (option_copied query.entry))) BadTarget (Ok tt)) result }
-{
-    let Some(query) = query else {
-        return Ok(());
-    };
-    match are_fields(alloc, route, query) {
-        Ok(true) => Ok(()),
-        Ok(false) => Err(Refused::BadTarget),
-        Err(Memory) => Err(Refused::Memory),
-    }
-}
-
-/// What a request of this route asks.
+/// What a request of this route asks, with these fields of its query.
 fn ask_by(
     alloc: Global,
     request: &Request<'_>,
     path: &[u8],
     method: Method,
     route: Route,
+    _values: Vec<FieldValue>,
     reading: &mut ReadRoom,
-) -> Result<Ask, Refused>
-    ensures { Answers (ask_by request.now path.now method route) result }
+) -> Result<Result<Ask, Refused>, Memory>
+    ensures asked { IfOk result (λ asked. asked ≡ ask_by request.now path.now method route _values.items) }
+    ensures early { is_early_call request.now path.now route method ≡ true → IsOk result }
 {
     let head = method == Method::Head;
     match route {
-        Route::Record => {
-            let (collection, id) = names_in(path);
-            let collection = name_in(alloc, collection)?;
-            let id = name_in(alloc, id)?;
-            record_by(alloc, request, collection, id, method, reading)
-        }
-        Route::Query => query_by(alloc, request, names_in(path).0),
-        Route::Filter => Ok(Ask::Fetch { head }),
-        Route::Purges => Err(Refused::NotBuilt),
-        Route::Match => Ok(Ask::MatchAll),
-        Route::Stats => Ok(Ask::Stats { head }),
+        Route::Record => ask_names(alloc, request, path, method, reading),
+        Route::Query => query_by(alloc, request, names_behind(QUERIES, path).0),
+        Route::Filter => Ok(Ok(Ask::Fetch { head })),
+        Route::Purges => Ok(Err(Refused::NotBuilt)),
+        Route::Match => Ok(Ok(Ask::MatchAll)),
+        Route::Stats => Ok(Ok(Ask::Stats { head })),
     }
 }
 
-/// The names in a path as they stand, behind `/v1/d/` and `/v1/q/`.
-fn names_in(path: &[u8]) -> (&[u8], &[u8])
-    ensures collection { result.0.now ≡ collection_in path.now }
-    ensures id { result.1.now ≡ id_in path.now }
+/// What a request of a record asks, of its path. Where the names have no escape, a body that is refused
+/// is refused before they are copied.
+fn ask_names(
+    alloc: Global,
+    request: &Request<'_>,
+    path: &[u8],
+    method: Method,
+    reading: &mut ReadRoom,
+) -> Result<Result<Ask, Refused>, Memory>
+    ensures asked { IfOk result (λ asked. asked ≡ and_then (name_in (collection_in path.now)) (λ collection. and_then (name_in (id_in path.now)) (λ id. record_by request.now collection id method))) }
+    ensures early { is_early_call request.now path.now Record method ≡ true → IsOk result }
 {
-    cut_in_two(&path[path.len().min(6)..], b'/')
+    let (collection, id) = names_behind(RECORDS, path);
+    if is_early(request, collection, id, method) {
+        return Ok(Err(bare_put(request)));
+    }
+    read_names(alloc, request, collection, id, method, reading)
 }
 
-/// The name that bytes are once their escapes are decoded.
-#[tactic(auto, unfolding(crate::specs::Asks::name_in))]
-fn name_in(alloc: Global, text: &[u8]) -> Result<Name, Refused>
-    ensures { Answers (name_in text.now) result }
+/// Whether a request of these names is a PUT whose body is refused. It takes no memory.
+fn is_early(request: &Request<'_>, collection: &[u8], id: &[u8], method: Method) -> bool
+    ensures { (path : List ℕ) → collection.now ≡ collection_in path → id.now ≡ id_in path → result ≡ is_early_call request.now path Record method }
 {
-    let Ok(text) = percent_decode(text).into_cow(alloc) else {
-        return Err(Refused::Memory);
+    match method {
+        Method::Put => is_bare(request) && are_names(collection, id),
+        _ => false,
+    }
+}
+
+/// What a request of a record asks, whose names are decoded.
+fn read_names(
+    alloc: Global,
+    request: &Request<'_>,
+    collection: &[u8],
+    id: &[u8],
+    method: Method,
+    reading: &mut ReadRoom,
+) -> Result<Result<Ask, Refused>, Memory>
+    ensures { IfOk result (λ asked. asked ≡ and_then (name_in collection.now) (λ collection. and_then (name_in id.now) (λ id. record_by request.now collection id method))) }
+{
+    let collection = match name_in(alloc, collection)? {
+        Ok(name) => name,
+        Err(refused) => return Ok(Err(refused)),
     };
-    match Name::read(alloc, &text) {
-        Ok(name) => Ok(name),
-        Err(NameRefusal::Memory) => Err(Refused::Memory),
-        Err(_) => Err(Refused::BadTarget),
-    }
+    let id = match name_in(alloc, id)? {
+        Ok(name) => name,
+        Err(refused) => return Ok(Err(refused)),
+    };
+    record_by(alloc, request, collection, id, method, reading)
+}
+
+/// The names in a path as they stand, behind what stands before them.
+fn names_behind<'a>(front: &[u8], path: &'a [u8]) -> (&'a [u8], &'a [u8])
+    ensures first { result.0.now ≡ ahead_of 47 (drop (length front.now) path.now) }
+    ensures second { result.1.now ≡ after 47 (drop (length front.now) path.now) }
+{
+    cut_in_two(&path[path.len().min(front.len())..], b'/')
 }
 
 /// What a request of a query asks, which is not answered yet.
-fn query_by(alloc: Global, request: &Request<'_>, collection: &[u8]) -> Result<Ask, Refused>
-    ensures { Answers (query_by request.now collection.now) result }
+fn query_by(
+    alloc: Global,
+    request: &Request<'_>,
+    collection: &[u8],
+) -> Result<Result<Ask, Refused>, Memory>
+    ensures { IfOk result (λ asked. asked ≡ query_by request.now collection.now) }
 {
-    let _name = name_in(alloc, collection)?;
-    check_read(alloc, request)?;
-    Err(Refused::NotBuilt)
+    if let Err(refused) = name_in(alloc, collection)? {
+        return Ok(Err(refused));
+    }
+    match check_read(alloc, request)? {
+        Ok(()) => Ok(Err(Refused::NotBuilt)),
+        Err(refused) => Ok(Err(refused)),
+    }
 }
 
 /// What a request of a record asks.
@@ -211,15 +270,16 @@ fn record_by(
     id: Name,
     method: Method,
     reading: &mut ReadRoom,
-) -> Result<Ask, Refused>
-    ensures { Answers (record_by request.now collection id method) result }
+) -> Result<Result<Ask, Refused>, Memory>
+    ensures asked { IfOk result (λ asked. asked ≡ record_by request.now collection id method) }
+    ensures early { is_bare_put request.now (Ok method) ≡ true → IsOk result }
 {
     match method {
         Method::Get => read_of(alloc, request, collection, id, false),
         Method::Head => read_of(alloc, request, collection, id, true),
         Method::Put => put_of(alloc, request, collection, id, reading),
         Method::Delete => delete_of(alloc, request, collection, id),
-        Method::Post => Err(Refused::BadMethod(Route::Record.methods())),
+        Method::Post => Ok(Err(Refused::BadMethod(Route::Record.methods()))),
     }
 }
 
@@ -231,15 +291,17 @@ fn read_of(
     collection: Name,
     id: Name,
     head: bool,
-) -> Result<Ask, Refused>
-    ensures { Answers (read_of request.now collection id head) result }
+) -> Result<Result<Ask, Refused>, Memory>
+    ensures { IfOk result (λ asked. asked ≡ read_of request.now collection id head) }
 {
-    check_read(alloc, request)?;
+    if let Err(refused) = check_read(alloc, request)? {
+        return Ok(Err(refused));
+    }
     let Ok(key) = Key::record(alloc, collection, id) else {
-        return Err(Refused::Memory);
+        return Err(Memory);
     };
     let tags = Tags::Listed(Commits::new(alloc));
-    Ok(Ask::Read { key, tags, head })
+    Ok(Ok(Ask::Read { key, tags, head }))
 }
 
 /// What a DELETE of a record asks.
@@ -249,66 +311,113 @@ fn delete_of(
     request: &Request<'_>,
     collection: Name,
     id: Name,
-) -> Result<Ask, Refused>
-    ensures { Answers (delete_of request.now collection id) result }
+) -> Result<Result<Ask, Refused>, Memory>
+    ensures { IfOk result (λ asked. asked ≡ delete_of request.now collection id) }
 {
-    let condition = condition_of(alloc, request)?;
-    Ok(Ask::Write {
+    let condition = match condition_of(alloc, request)? {
+        Ok(condition) => condition,
+        Err(refused) => return Ok(Err(refused)),
+    };
+    Ok(Ok(Ask::Write {
         change: Change {
             collection,
             id,
             document: None,
         },
         condition,
-    })
+    }))
 }
 
 /// What a PUT of a record asks.
 #[inline(never)]
+#[tactic(auto, unfolding(crate::specs::Early::is_bare))]
 fn put_of(
     alloc: Global,
     request: &Request<'_>,
     collection: Name,
     id: Name,
     reading: &mut ReadRoom,
-) -> Result<Ask, Refused>
-    ensures { Answers (put_of request.now collection id) result }
+) -> Result<Result<Ask, Refused>, Memory>
+    ensures asked { IfOk result (λ asked. asked ≡ put_of request.now collection id) }
+    ensures early { is_bare request.now ≡ true → IsOk result }
 {
     if !has_length(request) {
-        return Err(Refused::NoLength);
+        return Ok(Err(Refused::NoLength));
     }
     if !is_plain(request) {
-        return Err(Refused::BadEncoding);
+        return Ok(Err(Refused::BadEncoding));
     }
-    let condition = condition_of(alloc, request)?;
-    let document = document_in(alloc, request.body(), reading)?;
-    Ok(Ask::Write {
+    let condition = match condition_of(alloc, request)? {
+        Ok(condition) => condition,
+        Err(refused) => return Ok(Err(refused)),
+    };
+    let document = match document_in(alloc, request.body(), reading)? {
+        Ok(document) => document,
+        Err(refused) => return Ok(Err(refused)),
+    };
+    Ok(Ok(Ask::Write {
         change: Change {
             collection,
             id,
             document: Some(document),
         },
         condition,
-    })
+    }))
+}
+
+/// How a PUT is refused whose body is.
+#[tactic(auto, unfolding(crate::specs::Early::is_bare))]
+fn bare_put(request: &Request<'_>) -> Refused
+    ensures { is_bare request.now ≡ true → (collection id : List ℕ) → put_of request.now collection id ≡ Err result }
+{
+    if has_length(request) {
+        Refused::BadEncoding
+    } else {
+        Refused::NoLength
+    }
 }
 
 /// The condition of a write.
-fn condition_of(alloc: Global, request: &Request<'_>) -> Result<Condition, Refused>
-    ensures { Answers (condition_of request.now) result }
+fn condition_of(alloc: Global, request: &Request<'_>) -> Result<Result<Condition, Refused>, Memory>
+    ensures { IfOk result (λ condition. condition ≡ condition_of request.now) }
 {
     if !has_condition(request) {
-        return Ok(Condition::Always);
+        return Ok(Ok(Condition::Always));
     }
     tagged_condition(alloc, request)
 }
 
 /// The condition of the tags of a write.
-fn tagged_condition(alloc: Global, request: &Request<'_>) -> Result<Condition, Refused>
-    ensures { Answers (condition_of request.now) result }
+fn tagged_condition(
+    alloc: Global,
+    request: &Request<'_>,
+) -> Result<Result<Condition, Refused>, Memory>
+    ensures { IfOk result (λ condition. condition ≡ condition_of request.now) }
 {
-    let tags = tags_in(alloc, request, b"if-match", Comparison::Strong)?;
-    let others = tags_in(alloc, request, b"if-none-match", Comparison::Weak)?;
-    condition_by(tags, others)
+    let tags = match read_tags(alloc, request, b"if-match", Comparison::Strong)? {
+        Ok(tags) => tags,
+        Err(refused) => return Ok(Err(refused)),
+    };
+    match read_tags(alloc, request, b"if-none-match", Comparison::Weak)? {
+        Ok(others) => Ok(condition_by(tags, others)),
+        Err(refused) => Ok(Err(refused)),
+    }
+}
+
+/// The tags of the fields of a name.
+fn read_tags(
+    alloc: Global,
+    request: &Request<'_>,
+    name: &[u8],
+    comparison: Comparison,
+) -> Result<Result<Option<Tags>, Refused>, Memory>
+    ensures { IfOk result (λ tags. tags ≡ tags_or_not (tags_in comparison (values_named name.now request.now.fields))) }
+{
+    match tags_in(alloc, request, name, comparison) {
+        Ok(tags) => Ok(Ok(tags)),
+        Err(TagRefusal::BadTag) => Ok(Err(Refused::BadTag)),
+        Err(TagRefusal::Memory) => Err(Memory),
+    }
 }
 
 /// The condition of the tags of If-Match and of If-None-Match.
@@ -325,49 +434,48 @@ fn condition_by(tags: Option<Tags>, others: Option<Tags>) -> Result<Condition, R
 }
 
 /// Refuses the conditions that a read does not have yet.
-fn check_read(alloc: Global, request: &Request<'_>) -> Result<(), Refused>
-    ensures { Answers (check_read request.now) result }
+fn check_read(alloc: Global, request: &Request<'_>) -> Result<Result<(), Refused>, Memory>
+    ensures { IfOk result (λ checked. checked ≡ check_read request.now) }
 {
     if !has_condition(request) {
-        return Ok(());
+        return Ok(Ok(()));
     }
     check_tags(alloc, request)
 }
 
 /// Refuses the tags of a read that are not answered yet.
-fn check_tags(alloc: Global, request: &Request<'_>) -> Result<(), Refused>
-    ensures { Answers (check_read request.now) result }
+fn check_tags(alloc: Global, request: &Request<'_>) -> Result<Result<(), Refused>, Memory>
+    ensures { IfOk result (λ checked. checked ≡ check_read request.now) }
 {
-    let _tags = tags_in(alloc, request, b"if-match", Comparison::Strong)?;
-    match tags_in(alloc, request, b"if-none-match", Comparison::Weak)? {
-        None => Ok(()),
-        Some(_) => Err(Refused::NotBuilt),
+    if let Err(refused) = read_tags(alloc, request, b"if-match", Comparison::Strong)? {
+        return Ok(Err(refused));
+    }
+    match read_tags(alloc, request, b"if-none-match", Comparison::Weak)? {
+        Ok(None) => Ok(Ok(())),
+        Ok(Some(_)) => Ok(Err(Refused::NotBuilt)),
+        Err(refused) => Ok(Err(refused)),
     }
 }
 
 /// The document that a body is.
 #[tactic(auto, unfolding(crate::specs::Asks::document_in))]
-fn document_in(alloc: Global, body: &[u8], reading: &mut ReadRoom) -> Result<Doc, Refused>
-    ensures { Answers (document_in body.now) result }
+fn document_in(
+    alloc: Global,
+    body: &[u8],
+    reading: &mut ReadRoom,
+) -> Result<Result<Doc, Refused>, Memory>
+    ensures { IfOk result (λ document. document ≡ document_in body.now) }
 {
-    match Doc::read_with(alloc, body, reading) {
-        Ok(document) => Ok(document),
-        Err(refusal) => Err(refused_for(refusal)),
-    }
-}
-
-/// How a body that is no document is refused.
-fn refused_for(refusal: DocRefusal) -> Refused
-    ensures { result ≡ refused_for refusal }
-{
-    match refusal {
-        DocRefusal::TooLong { .. } => Refused::BodyTooLarge,
-        DocRefusal::NotJson => Refused::BadDocument(DocumentReason::NotJson),
-        DocRefusal::NotObject => Refused::BadDocument(DocumentReason::NotObject),
-        DocRefusal::TooDeep { .. } => Refused::BadDocument(DocumentReason::TooDeep),
-        DocRefusal::NotWhole => Refused::BadDocument(DocumentReason::NotWhole),
-        DocRefusal::Memory => Refused::Memory,
-    }
+    let refused = match Doc::read_with(alloc, body, reading) {
+        Ok(document) => return Ok(Ok(document)),
+        Err(DocRefusal::Memory) => return Err(Memory),
+        Err(DocRefusal::TooLong { .. }) => Refused::Framing(FramingRefusal::BodyTooLarge),
+        Err(DocRefusal::NotJson) => Refused::BadDocument(DocumentReason::NotJson),
+        Err(DocRefusal::NotObject) => Refused::BadDocument(DocumentReason::NotObject),
+        Err(DocRefusal::TooDeep { .. }) => Refused::BadDocument(DocumentReason::TooDeep),
+        Err(DocRefusal::NotWhole) => Refused::BadDocument(DocumentReason::NotWhole),
+    };
+    Ok(Err(refused))
 }
 
 /// Whether the method is PUT or HEAD, which decide what a reply looks like.

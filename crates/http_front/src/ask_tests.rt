@@ -1,7 +1,7 @@
 //! What no clause says: that a request is read into what it asks where there is memory.
 
-use crate::{Ask, Routes, ask_of};
-use http_message::{Allow, DocumentReason, Refused, RequestRoom, next_request};
+use crate::{Allow, Ask, DocumentReason, Refused, Routes, ask_of};
+use http_message::{RequestRoom, next_request};
 use hub_model::{Condition, Tags};
 use q_base::Memory;
 use q_doc::ReadRoom;
@@ -20,22 +20,19 @@ fn room_of(alloc: Global, bytes: &[u8]) -> Result<RequestRoom, Memory> {
 }
 
 /// What the request of these bytes asks.
-fn asked(alloc: Global, bytes: &[u8]) -> Result<Ask, Refused> {
-    let Ok(routes) = Routes::new(alloc) else {
-        return Err(Refused::Memory);
-    };
-    match room_of(alloc, bytes) {
-        Ok(room) => ask_of(alloc, &room.request(), &routes, &mut ReadRoom::new(alloc)),
-        Err(Memory) => Err(Refused::Memory),
-    }
+fn asked(alloc: Global, bytes: &[u8]) -> Result<Result<Ask, Refused>, Memory> {
+    let routes = Routes::new(alloc)?;
+    let room = room_of(alloc, bytes)?;
+    ask_of(alloc, &room.request(), &routes, &mut ReadRoom::new(alloc))
 }
 
 /// Checks that the request of these bytes is refused so.
-fn refuses(rt: &impl Abort, alloc: Global, bytes: &[u8], wanted: Refused) {
-    match asked(alloc, bytes) {
+fn refuses(rt: &impl Abort, alloc: Global, bytes: &[u8], wanted: Refused) -> Result<(), Memory> {
+    match asked(alloc, bytes)? {
         Ok(_) => assert!(rt; false),
         Err(refused) => assert_eq!(rt; refused, wanted),
     }
+    Ok(())
 }
 
 #[test]
@@ -98,7 +95,7 @@ fn the_first_cause_is_answered(rt: HostRuntime) -> Result<(), Fail> {
         ),
     ];
     for (bytes, wanted) in cases {
-        refuses(&rt, rt.alloc(), bytes, wanted);
+        refuses(&rt, rt.alloc(), bytes, wanted)?;
     }
     Ok(())
 }
@@ -107,7 +104,7 @@ fn the_first_cause_is_answered(rt: HostRuntime) -> Result<(), Fail> {
 fn the_first_16_strong_tags_that_name_a_commit_count(rt: HostRuntime) -> Result<(), Fail> {
     let bytes =
         b"PUT /v1/d/sh%6Fp/p1 HTTP/1.1\r\nHost: a\r\nContent-Length: 2\r\nIf-Match: W/\"99\", \"a,b\", \"01\"\r\nIf-Match: \"1\",\"2\",\"3\",\"4\",\"5\",\"6\",\"7\",\"8\",\"9\",\"10\",\"11\",\"12\",\"13\",\"14\",\"15\",\"16\",\"17\"\r\n\r\n{}";
-    let Ok(Ask::Write { change, condition }) = asked(rt.alloc(), bytes) else {
+    let Ok(Ask::Write { change, condition }) = asked(rt.alloc(), bytes)? else {
         assert!(rt; false);
         return Ok(());
     };
@@ -128,9 +125,9 @@ fn each_call_is_asked(rt: HostRuntime) -> Result<(), Fail> {
     let read = asked(
         alloc,
         b"HEAD /v1/d/shop/p1 HTTP/1.1\r\nHost: a\r\nIf-Match: \"7\"\r\n\r\n",
-    );
+    )?;
     assert!(rt; matches!(&read, Ok(Ask::Read { head: true, .. })));
-    let delete = asked(alloc, b"DELETE /v1/d/shop/p1 HTTP/1.1\r\nHost: a\r\n\r\n");
+    let delete = asked(alloc, b"DELETE /v1/d/shop/p1 HTTP/1.1\r\nHost: a\r\n\r\n")?;
     assert!(rt;
         matches!(
             &delete,
@@ -140,11 +137,11 @@ fn each_call_is_asked(rt: HostRuntime) -> Result<(), Fail> {
             })
         )
     );
-    let fetch = asked(alloc, b"GET http://b/v1/filter HTTP/1.1\r\nHost: a\r\n\r\n");
+    let fetch = asked(alloc, b"GET http://b/v1/filter HTTP/1.1\r\nHost: a\r\n\r\n")?;
     assert!(rt; matches!(&fetch, Ok(Ask::Fetch { head: false })));
-    let matched = asked(alloc, b"POST /v1/match HTTP/1.0\r\n\r\n");
+    let matched = asked(alloc, b"POST /v1/match HTTP/1.0\r\n\r\n")?;
     assert!(rt; matches!(&matched, Ok(Ask::MatchAll)));
-    let stats = asked(alloc, b"GET /v1/stats HTTP/1.1\r\nHost: a\r\n\r\n");
+    let stats = asked(alloc, b"GET /v1/stats HTTP/1.1\r\nHost: a\r\n\r\n")?;
     assert!(rt; matches!(&stats, Ok(Ask::Stats { head: false })));
     Ok(())
 }

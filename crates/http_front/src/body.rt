@@ -1,14 +1,15 @@
 //! The bodies of replies.
-ghost use Rattle.std.specs.Prelude.{◌≡◌, ◌+◌, ◌≤◌, ◌++◌, [], length, decimal, OnOk, OnErr, if◌then◌else◌};
-ghost use Rattle.q_outside.specs.Told.{Gives, GivesPart, Counts};
-ghost use Rattle.http_front.specs.ReplyText.{commit_body, found_text, precondition_body, full_body, written_body, outcome_body, front_body, stats_body, document_body, refusal_body, body_text, given_body};
+ghost use Rattle.std.specs.Prelude.{◌≡◌, ◌+◌, ◌≤◌, ◌++◌, length, decimal, codes};
+ghost use Rattle.q_outside.specs.Told.{Gave};
+ghost use Rattle.http_front.specs.ReplyText.{found_text, written_body, outcome_body, stats_body, filter_body, refusal, body_of, given_body};
+ghost use Rattle.http_front.specs.declared.refused.Refused.TheVariants.{Framing, BadDocument};
 
 use crate::put::{put, put_number};
+use crate::refused::{DocumentReason, FilterRefusal, Refused};
 use crate::shape::Shape;
 use crate::told::Told;
-use http_message::{DocumentReason, Refused};
+use http_message::FramingRefusal;
 use hub_model::{Found, Outcome, Stats, Written};
-use q_base::Commit;
 use q_outside::{Failed, Sink, give_all};
 
 /// The greatest length of a body with numbers in it.
@@ -28,9 +29,7 @@ pub fn write_body<K: Sink>(
     page: &[u8],
     sink: &mut K,
 ) -> Result<(), Failed>
-    ensures ok { OnOk result (Gives (K.held sink.old) (K.held sink.new) (given_body shape told.now page.now)) }
-    ensures part { OnErr result (GivesPart (K.held sink.old) (K.held sink.new) (given_body shape told.now page.now)) }
-    ensures count { Counts (K.faults sink.old) (K.faults sink.new) result }
+    ensures { Gave (K.at sink.old) (K.at sink.new) (given_body shape (body_of told.now page.now)) result }
 {
     let mut numbers = [0; NUMBERS_ROOM];
     let body = body_of(told, page, &mut numbers);
@@ -39,7 +38,7 @@ pub fn write_body<K: Sink>(
 
 /// What is given of a body: nothing where the request was HEAD.
 pub(crate) fn given(shape: Shape, body: &[u8]) -> &[u8]
-    ensures { result.now ≡ (if shape.head then [] else body.now) }
+    ensures { result.now ≡ given_body shape body.now }
 {
     if shape.head { &[] } else { body }
 }
@@ -48,7 +47,7 @@ pub(crate) fn given(shape: Shape, body: &[u8]) -> &[u8]
 /// these are its bytes.
 pub(crate) fn body_of<'a>(told: &'a Told, page: &'a [u8], room: &'a mut [u8]) -> &'a [u8]
     requires { NUMBERS_ROOM ≤ length room.old }
-    ensures { result.now ≡ body_text told.now page.now }
+    ensures { result.now ≡ body_of told.now page.now }
 {
     match told {
         Told::Write(written) => written_body(written, room),
@@ -56,7 +55,7 @@ pub(crate) fn body_of<'a>(told: &'a Told, page: &'a [u8], room: &'a mut [u8]) ->
         Told::Match(matched) => number_body(b"{\"front\":", matched.front, b"}", room),
         Told::Page(_) => page,
         Told::Count(stats) => stats_body(stats, room),
-        Told::Refusal(refused, _) => refusal_body(*refused),
+        Told::Refusal(refused, _) => refusal_body(*refused, room),
         Told::Memory => NO_MEMORY,
     }
 }
@@ -89,7 +88,7 @@ fn written_body<'a>(written: &Written, room: &'a mut [u8]) -> &'a [u8]
 /// The body of a write whose condition is not met.
 fn precondition_body(found: Found, room: &mut [u8]) -> &[u8]
     requires { NUMBERS_ROOM ≤ length room.old }
-    ensures { result.now ≡ precondition_body found }
+    ensures { result.now ≡ codes "{\"error\":\"precondition\",\"found\":" ++ found_text found ++ codes "}" }
 {
     match found {
         Found::Missing => b"{\"error\":\"precondition\",\"found\":null}",
@@ -128,15 +127,12 @@ fn stats_body<'a>(stats: &Stats, room: &'a mut [u8]) -> &'a [u8]
 }
 
 /// The body of a refusal.
-fn refusal_body(refused: Refused) -> &'static [u8]
-    ensures { result.now ≡ refusal_body refused }
+fn refusal_body(refused: Refused, room: &mut [u8]) -> &[u8]
+    requires { NUMBERS_ROOM ≤ length room.old }
+    ensures { result.now ≡ (refusal refused).body }
 {
     match refused {
-        Refused::BadHead => b"{\"error\":\"bad_head\"}",
-        Refused::HeadTooLarge => b"{\"error\":\"head_too_large\"}",
-        Refused::BadLength => b"{\"error\":\"bad_length\"}",
-        Refused::BadCoding => b"{\"error\":\"bad_coding\"}",
-        Refused::BodyTooLarge => b"{\"error\":\"body_too_large\"}",
+        Refused::Framing(refused) => framing_body(refused),
         Refused::BadHost => b"{\"error\":\"bad_host\"}",
         Refused::BadTarget => b"{\"error\":\"bad_target\"}",
         Refused::NoRoute => b"{\"error\":\"no_route\"}",
@@ -144,15 +140,43 @@ fn refusal_body(refused: Refused) -> &'static [u8]
         Refused::NoLength => b"{\"error\":\"no_length\"}",
         Refused::BadEncoding => b"{\"error\":\"bad_encoding\"}",
         Refused::BadTag => b"{\"error\":\"bad_tag\"}",
+        Refused::BadFilter(refused) => filter_body(refused, room),
         Refused::NotBuilt => b"{\"error\":\"not_built\"}",
         Refused::BadDocument(reason) => document_body(reason),
-        Refused::Memory => NO_MEMORY,
     }
+}
+
+/// The body of what cannot be framed.
+fn framing_body(refused: FramingRefusal) -> &'static [u8]
+    ensures { result.now ≡ (refusal (Framing refused)).body }
+{
+    match refused {
+        FramingRefusal::BadHead => b"{\"error\":\"bad_head\"}",
+        FramingRefusal::HeadTooLarge => b"{\"error\":\"head_too_large\"}",
+        FramingRefusal::BadLength => b"{\"error\":\"bad_length\"}",
+        FramingRefusal::BadCoding => b"{\"error\":\"bad_coding\"}",
+        FramingRefusal::BodyTooLarge => b"{\"error\":\"body_too_large\"}",
+    }
+}
+
+/// The body of the refusal of a query's field.
+fn filter_body(refused: FilterRefusal, room: &mut [u8]) -> &[u8]
+    requires { NUMBERS_ROOM ≤ length room.old }
+    ensures { result.now ≡ filter_body refused }
+{
+    let mut at = put(room, 0, b"{\"error\":\"bad_filter\",\"field\":\"");
+    at = put(room, at, refused.field.name());
+    at = put(room, at, b"\",\"place\":");
+    at = put_number(room, at, refused.place);
+    at = put(room, at, b",\"reason\":\"");
+    at = put(room, at, refused.reason.word());
+    at = put(room, at, b"\"}");
+    &room[..at]
 }
 
 /// The body of the refusal of a document.
 fn document_body(reason: DocumentReason) -> &'static [u8]
-    ensures { result.now ≡ document_body reason }
+    ensures { result.now ≡ (refusal (BadDocument reason)).body }
 {
     match reason {
         DocumentReason::NotJson => b"{\"error\":\"bad_document\",\"reason\":\"not_json\"}",

@@ -4,6 +4,7 @@ ghost use Rattle.std.specs.Option.{option_copied};
 ghost use Rattle.std.specs.Str.{str_eq_ignore_ascii_case};
 ghost use Rattle.http_message.specs.Fields.{values};
 ghost use Rattle.http_front.specs.Asks.{has_condition, has_host, has_length, is_plain};
+ghost use Rattle.http_front.specs.Early.{is_bare};
 
 use http_message::{Named, Request};
 
@@ -58,6 +59,14 @@ pub fn is_plain(request: &Request<'_>) -> bool
         }
     }
     true
+}
+
+/// Whether the length of the body is not told, or it has a coding.
+#[tactic(auto, unfolding(crate::specs::Early::is_bare))]
+pub fn is_bare(request: &Request<'_>) -> bool
+    ensures { result ≡ is_bare request.now }
+{
+    !has_length(request) || !is_plain(request)
 }
 
 /// Whether two texts are the same without regard to ASCII case.

@@ -1,8 +1,10 @@
 //! Giving the text of a reply to a sink.
-ghost use Rattle.q_outside.specs.Told.{Counts};
-ghost use Rattle.http_front.specs.Given.{GivesReply};
+ghost use Rattle.std.specs.Prelude.{ℕ, List};
+ghost use Rattle.q_outside.specs.Told.{Gave};
+ghost use Rattle.http_front.specs.ReplyText.{IsReplyText};
 
 use crate::body::{NUMBERS_ROOM, body_of, given};
+use crate::head::Head;
 use crate::reply::ReplyRoom;
 use crate::shape::Shape;
 use crate::told::Told;
@@ -18,12 +20,12 @@ pub fn give_reply<K: Sink>(
     page: &[u8],
     close: bool,
 ) -> Result<(), Failed>
-    ensures reply { GivesReply (K.held sink.old) (K.held sink.new) shape told.now page.now close result }
-    ensures count { Counts (K.faults sink.old) (K.faults sink.new) result }
+    ensures reply { (text : List ℕ) × IsReplyText shape told.now page.now close text × Gave (K.at sink.old) (K.at sink.new) text result }
 {
     let mut numbers = [0; NUMBERS_ROOM];
     let body = body_of(told, page, &mut numbers);
-    room.write_head(shape, told, body.len(), close);
+    let head = Head::of(shape, told, body.len(), close);
+    room.write_head(&head, told.clock());
     let behind = given(shape, body);
     if room.put_where_it_fits(behind) {
         give_all(sink, room.bytes())

@@ -1,14 +1,33 @@
 //! Laws of the routes, and of the texts of replies.
 ghost use Rattle.http_front.specs.Paths.{PathsOfRecordsHaveTwoNames};
-ghost use Rattle.http_front.specs.Phrases.{PhrasesAreOfHttp};
+ghost use Rattle.http_front.specs.ReadBack.{FramesItsBody, OneReplyIsRead, ReadsBack, RepliesHaveOneText};
 
-/// The phrase of each status is the one that the crate `http` gives to its code.
-pub fn phrases_are_of_http()
-    ensures { PhrasesAreOfHttp }
-{}
+use crate::head::Head;
 
 /// A path has the route of a record exactly where it is UTF-8, and `/v1/d/` with two parts behind it
 /// that a slash parts.
 pub fn paths_of_records_have_two_names()
     ensures { PathsOfRecordsHaveTwoNames }
+{}
+
+/// The text of a head is read back by `httparse` as its status and its fields, whatever follows it.
+pub fn replies_read_back(head: Head)
+    ensures { ReadsBack head }
+{
+    let _status = head.status.as_u16();
+}
+
+/// A head that tells a length frames just so many bytes, where its status has a body.
+pub fn replies_are_framed(head: Head)
+    ensures { FramesItsBody head }
+{}
+
+/// What is read at the front of bytes is one status, one list of fields and one rest.
+pub fn one_reply_is_read()
+    ensures { OneReplyIsRead }
+{}
+
+/// Equal items, told and pages have equal texts.
+pub fn replies_have_one_text()
+    ensures { RepliesHaveOneText }
 {}

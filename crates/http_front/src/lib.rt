@@ -11,9 +11,12 @@ mod fields;
 mod give;
 mod head;
 mod laws;
+mod names;
 mod number;
+mod pieces;
 mod put;
 mod query;
+mod refused;
 mod reply;
 #[cfg(test)]
 mod reply_tests;
@@ -28,9 +31,16 @@ pub use ask::{Ask, ask_of, shape_of};
 pub use body::write_body;
 pub use give::give_reply;
 pub use head::{Head, MediaType};
-pub use laws::{paths_of_records_have_two_names, phrases_are_of_http};
+pub use laws::{
+    one_reply_is_read, paths_of_records_have_two_names, replies_are_framed, replies_have_one_text,
+    replies_read_back,
+};
+pub use query::{FieldValue, fields_in};
+pub use pieces::{Body, Bytes, Parts, give_pieces};
+pub use refused::{
+    Allow, DocumentReason, FilterReason, FilterRefusal, QueryField, Refused,
+};
 pub use reply::{REPLY_ROOM, ReplyRoom, reply_text};
-pub use routes::Routes;
+pub use routes::{ALL_ROUTES, Route, Routes, Served};
 pub use shape::Shape;
-pub use status::Status;
 pub use told::Told;

@@ -1,6 +1,6 @@
 //! Writing bytes from a place of a room on. Each call answers the place behind what it wrote.
 ghost use Rattle.std.specs.Prelude.{◌≡◌, ◌+◌, ◌<◌, ◌≤◌, ◌++◌, length, take, decimal};
-ghost use Rattle.http_front.specs.ReplyText.{field_text};
+ghost use Rattle.http_front.specs.Lines.{number_line};
 
 use itoa::write_digits;
 
@@ -69,7 +69,7 @@ pub(crate) fn put_field(
 ) -> usize
     requires { at + length name.now + 20 + length end.now ≤ length room.old }
     ensures end { result ≤ at + length name.now + 20 + length end.now }
-    ensures text { take result room.new ≡ take at room.old ++ field_text name.now number end.now }
+    ensures text { take result room.new ≡ take at room.old ++ number_line name.now number end.now }
 {
     let Some(number) = number else {
         return at;

@@ -1,75 +1,149 @@
 //! The fields of a target's query.
-ghost use Rattle.std.specs.Prelude.{◌≡◌, ◌&&◌, not, IfOk, map};
-ghost use Rattle.std.specs.Cow.{cow_slice_items};
+ghost use Rattle.std.specs.Prelude.{◌≡◌, true, is_none, IfOk, IsOk, map, option_map};
+ghost use Rattle.std.specs.Option.{option_copied};
 ghost use Rattle.std.specs.Str.{is_utf8};
-ghost use Rattle.http_front.specs.Query.{are_fields, decoded, is_among, is_field, is_known, is_start, is_value, name_of, pieces_of, spaced};
+ghost use Rattle.http_front.specs.Query.{decoded, field_named, fields_in, fields_of, is_among, is_start, is_value, name_of, pieces_of, spaced, valued};
+ghost use Rattle.http_front.specs.declared.routes.Route.TheVariants.{Query};
 
 use crate::cut::{cut_at, cut_in_two};
 use crate::number::number_of;
+use crate::refused::QueryField;
 use crate::routes::Route;
 use percent_encoding::percent_decode;
 use q_base::Memory;
 use std::alloc::Global;
-use std::borrow::CowSlice;
+use std::marker::Model;
 
-/// Whether the query is fields of the route, none of them twice, and each in its form.
-pub fn are_fields(alloc: Global, route: Route, query: &[u8]) -> Result<bool, Memory>
-    ensures { IfOk result (λ good. good ≡ are_fields route (pieces_of query.now)) }
+/// A field of a query and its decoded value. Contracts see both.
+#[derive(Drop)]
+pub struct FieldValue {
+    field: QueryField,
+    value: Vec<u8>,
+}
+
+impl Model for FieldValue {
+    ghost use Rattle.http_front.specs.Query.{NamedValue};
+
+    ghost Value = { NamedValue };
+
+    ghost view = { λ v. (v.field, v.value.items) };
+}
+
+impl FieldValue {
+    /// Which field it is.
+    pub fn field(&self) -> QueryField
+        ensures { result ≡ self.now.0 }
+    {
+        self.field
+    }
+
+    /// Its value, without escapes.
+    pub fn value(&self) -> &[u8]
+        ensures { result.now ≡ self.now.1 }
+    {
+        self.value.as_slice()
+    }
+}
+
+/// The fields of a query, where each is one of the route and in its form, and none is repeated.
+#[tactic(auto, unfolding(crate::specs::Query::fields_in))]
+pub fn fields_in(
+    alloc: Global,
+    route: Route,
+    query: Option<&[u8]>,
+) -> Result<Option<Vec<FieldValue>>, Memory>
+    ensures fields { IfOk result (λ values. option_map (λ v. v.items) values ≡ fields_in route (option_copied query.entry)) }
+    ensures none { is_none (option_copied query.entry) ≡ true → IsOk result }
 {
+    match query {
+        Some(query) => fields_of(alloc, route, query),
+        None => Ok(Some(Vec::new(alloc))),
+    }
+}
+
+/// The fields that a text is.
+fn fields_of(alloc: Global, route: Route, query: &[u8]) -> Result<Option<Vec<FieldValue>>, Memory>
+    ensures { IfOk result (λ values. option_map (λ v. v.items) values ≡ fields_of route (pieces_of query.now)) }
+{
+    let mut values = Vec::new(alloc);
     let mut rest = query;
     loop {
         let (piece, behind) = cut_at(rest, b'&');
         let (name, value) = cut_in_two(piece, b'=');
-        if !is_field(alloc, route, name, value)? {
-            return Ok(false);
-        }
+        let Some(value) = read_field(alloc, route, name, value)? else {
+            return Ok(None);
+        };
+        values.push(value)?;
         let Some(others) = behind else {
-            return Ok(true);
+            return Ok(Some(values));
         };
         if is_among(name, others) {
-            return Ok(false);
+            return Ok(None);
         }
         rest = others;
     }
 }
 
-/// Whether the route has a field of this name, and the value is in its form.
-fn is_field(alloc: Global, route: Route, name: &[u8], value: &[u8]) -> Result<bool, Memory>
-    ensures { IfOk result (λ good. good ≡ (is_known route name.now && is_value route (decoded value.now))) }
+/// The field of the route of this name, where the value is in its form.
+fn read_field(
+    alloc: Global,
+    route: Route,
+    name: &[u8],
+    value: &[u8],
+) -> Result<Option<FieldValue>, Memory>
+    ensures { IfOk result (λ found. found ≡ valued (field_named route name.now) (decoded value.now)) }
 {
-    if !is_known(route, name) {
-        return Ok(false);
-    }
+    let Some(field) = field_named(route, name) else {
+        return Ok(None);
+    };
     let value = read_value(alloc, value)?;
-    Ok(is_value(route, &value))
-}
-
-/// Whether the route has a field of this name.
-fn is_known(route: Route, name: &[u8]) -> bool
-    ensures { result ≡ is_known route name.now }
-{
-    match route {
-        Route::Query => {
-            name == b"f".as_slice()
-                || name == b"o".as_slice()
-                || name == b"s".as_slice()
-                || name == b"n".as_slice()
-                || name == b"k".as_slice()
-        }
-        Route::Purges => name == b"from".as_slice(),
-        Route::Record | Route::Filter | Route::Match | Route::Stats => false,
+    if is_value(field, value.as_slice()) {
+        Ok(Some(FieldValue { field, value }))
+    } else {
+        Ok(None)
     }
 }
 
-/// Whether a value is in the form that the route's fields have.
-fn is_value(route: Route, value: &[u8]) -> bool
-    ensures { result ≡ is_value route value.now }
+/// The field of a route that has this name.
+fn field_named(route: Route, name: &[u8]) -> Option<QueryField>
+    ensures { result ≡ field_named route name.now }
 {
     match route {
-        Route::Purges => is_text(value) && is_start(number_of(value)),
-        Route::Record | Route::Query | Route::Filter | Route::Match | Route::Stats => is_text(
-            value,
-        ),
+        Route::Query => query_named(name),
+        Route::Purges if name == b"from".as_slice() => Some(QueryField::From),
+        _ => None,
+    }
+}
+
+/// The field of a query that has this name.
+fn query_named(name: &[u8]) -> Option<QueryField>
+    ensures { result ≡ field_named Query name.now }
+{
+    if name == b"f".as_slice() {
+        return Some(QueryField::Filter);
+    }
+    if name == b"o".as_slice() {
+        return Some(QueryField::Order);
+    }
+    if name == b"s".as_slice() {
+        return Some(QueryField::Skip);
+    }
+    if name == b"n".as_slice() {
+        return Some(QueryField::Take);
+    }
+    if name == b"k".as_slice() {
+        return Some(QueryField::Kind);
+    }
+    None
+}
+
+/// Whether a value is in the form that its field has.
+fn is_value(field: QueryField, value: &[u8]) -> bool
+    ensures { result ≡ is_value field value.now }
+{
+    match field {
+        QueryField::From => is_text(value) && is_start(number_of(value)),
+        _ => is_text(value),
     }
 }
 
@@ -117,17 +191,14 @@ fn name_of(piece: &[u8]) -> &[u8]
     cut_in_two(piece, b'=').0
 }
 
-/// A value with spaces for `+` and without its escapes. It is copied only where it has some.
-fn read_value(alloc: Global, text: &[u8]) -> Result<CowSlice<'_, u8>, Memory>
-    ensures { IfOk result (λ value. cow_slice_items value ≡ decoded text.now) }
+/// A value with spaces for `+` and without its escapes.
+fn read_value(alloc: Global, text: &[u8]) -> Result<Vec<u8>, Memory>
+    ensures { IfOk result (λ value. value.items ≡ decoded text.now) }
 {
-    if !text.contains(&b'+') {
-        return Ok(percent_decode(text).into_cow(alloc)?);
-    }
     let spaced = with_spaces(alloc, text)?;
     let mut value = Vec::with_capacity(alloc, spaced.len())?;
     percent_decode(&spaced).append_to(&mut value)?;
-    Ok(CowSlice::Owned(value))
+    Ok(value)
 }
 
 /// The text with spaces for `+`.

@@ -3,17 +3,16 @@
 //! A reply's head is written into a room that was made before the request was taken, so an accepted
 //! write is told whatever memory there is. The body follows it there where it fits, so that the sink is
 //! given the reply in one piece.
-ghost use Rattle.std.specs.Prelude.{◌≡◌, ℕ, ◌+◌, ◌≤◌, ◌++◌, List, [], length, take, MatchBool, IfOk};
-ghost use Rattle.http_front.specs.ReplyText.{date_field, lifetime_field, close_field, head_text, told_head, clock_of, body_text, IsHeadText};
-ghost use Rattle.http_front.specs.Date.{IsDateOf};
+ghost use Rattle.std.specs.Prelude.{◌≡◌, ℕ, ◌≤◌, ◌++◌, List, [], length, MatchBool, IfOk};
+ghost use Rattle.http_front.specs.ReplyText.{IsHeadText, head_of, body_of, clock_of};
 
 use crate::body::{NUMBERS_ROOM, body_of};
 use crate::date::DateText;
-use crate::head::{Head, allow_field};
-use crate::put::{put, put_field};
+use crate::head::{Head, put_head};
+use crate::put::put;
 use crate::shape::Shape;
 use crate::told::Told;
-use q_base::Memory;
+use q_base::{Memory, Moment};
 use std::alloc::Global;
 use std::marker::Model;
 
@@ -59,14 +58,13 @@ impl ReplyRoom {
         &self.bytes.as_slice()[..self.len]
     }
 
-    /// Writes the head of a reply in place of what is there. The body of the reply has so many bytes.
-    pub(crate) fn write_head(&mut self, shape: Shape, told: &Told, size: usize, close: bool)
-        ensures head { (page : List ℕ) → size ≡ length (body_text told.now page) → IsHeadText shape told.now page close self.new }
+    /// Writes a head with the date of a clock in place of what is there.
+    pub fn write_head(&mut self, head: &Head, clock: Moment)
+        ensures head { IsHeadText head.now clock self.new }
         ensures len { length self.new ≤ 2048 }
     {
-        self.date.turn_to(told.clock());
-        let head = Head::of(shape, told, size, close);
-        self.len = put_head(self.bytes.as_mut_slice(), &head, self.date.as_slice());
+        self.date.turn_to(clock);
+        self.len = put_head(self.bytes.as_mut_slice(), head, self.date.as_slice());
     }
 
     /// Writes a piece behind what is there, where there is room for it, and answers whether there was.
@@ -90,90 +88,12 @@ pub fn reply_text(
     close: bool,
     room: &mut ReplyRoom,
 ) -> usize
-    ensures head { IsHeadText shape told.now page.now close room.new }
+    ensures head { IsHeadText (head_of shape told.now (length (body_of told.now page.now)) close) (clock_of told.now) room.new }
     ensures len { result ≡ length room.new }
     ensures short { result ≤ 2048 }
 {
     let mut numbers = [0; NUMBERS_ROOM];
     let size = body_of(told, page, &mut numbers).len();
-    room.write_head(shape, told, size, close);
+    room.write_head(&Head::of(shape, told, size, close), told.clock());
     room.bytes().len()
-}
-
-/// Writes a head at the front of a room.
-#[tactic(auto, unfolding(crate::specs::ReplyText::head_text))]
-fn put_head(room: &mut [u8], head: &Head, date: &[u8]) -> usize
-    requires room { 2048 ≤ length room.old }
-    requires date { length date.now ≡ 29 }
-    ensures text { take result room.new ≡ head_text head.now date.now }
-    ensures end { result ≤ 2048 }
-{
-    let mut at = put(room, 0, head.status.line());
-    at = put_date(room, at, head.dated, date);
-    at = put(room, at, head.media.field());
-    at = put_field(
-        room,
-        at,
-        b"Content-Length: ",
-        Some(head.length as u64),
-        b"\r\n",
-    );
-    at = put_field(room, at, b"ETag: \"", head.tag, b"\"\r\n");
-    at = put_lifetime(room, at, head.ttl);
-    at = put(room, at, allow_field(head.allow));
-    at = put_field(room, at, b"Quaestor-Commit: ", head.commit, b"\r\n");
-    at = put_field(room, at, b"Quaestor-Version: ", head.version, b"\r\n");
-    at = put_field(room, at, b"Quaestor-Until: ", head.until, b"\r\n");
-    at = put_close(room, at, head.close);
-    put(room, at, b"\r\n")
-}
-
-/// Writes the date, where the reply has one.
-#[inline(always)]
-fn put_date(room: &mut [u8], at: usize, dated: bool, date: &[u8]) -> usize
-    requires room { at + 37 ≤ length room.old }
-    requires date { length date.now ≡ 29 }
-    ensures end { result ≤ at + 37 }
-    ensures text { take result room.new ≡ take at room.old ++ date_field dated date.now }
-{
-    if !dated {
-        return at;
-    }
-    let mut behind = put(room, at, b"Date: ");
-    behind = put(room, behind, date);
-    put(room, behind, b"\r\n")
-}
-
-/// Writes for how long the reply may be kept.
-#[inline(always)]
-fn put_lifetime(room: &mut [u8], at: usize, ttl: u32) -> usize
-    requires { at + 46 ≤ length room.old }
-    ensures end { result ≤ at + 46 }
-    ensures text { take result room.new ≡ take at room.old ++ lifetime_field ttl }
-{
-    if ttl == 0 {
-        put(room, at, b"Cache-Control: no-store\r\n")
-    } else {
-        put_field(
-            room,
-            at,
-            b"Cache-Control: max-age=",
-            Some(u64::from(ttl)),
-            b"\r\n",
-        )
-    }
-}
-
-/// Writes that the connection ends after the reply, where it does.
-#[inline(always)]
-fn put_close(room: &mut [u8], at: usize, close: bool) -> usize
-    requires { at + 19 ≤ length room.old }
-    ensures end { result ≤ at + 19 }
-    ensures text { take result room.new ≡ take at room.old ++ close_field close }
-{
-    if close {
-        put(room, at, b"Connection: close\r\n")
-    } else {
-        at
-    }
 }

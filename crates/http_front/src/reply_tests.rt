@@ -1,6 +1,6 @@
 //! Replies, to the byte.
-use crate::{ReplyRoom, Shape, Told, give_reply, reply_text, write_body};
-use http_message::{Allow, DocumentReason, Refused};
+use crate::{Allow, DocumentReason, Refused, ReplyRoom, Shape, Told, give_reply, reply_text, write_body};
+use http_message::FramingRefusal;
 use hub_model::{Answer, Found, Matched, Outcome, Stats, Written};
 use q_base::{Commit, Moment, SharedText};
 use q_outside::EndlessSink;
@@ -142,19 +142,19 @@ fn replies_have_their_texts(rt: HostRuntime) -> Result<(), Fail> {
         ),
         (
             PLAIN,
-            Told::Refusal(Refused::BodyTooLarge, clock),
+            Told::Refusal(Refused::Framing(FramingRefusal::BodyTooLarge), clock),
             true,
             "HTTP/1.1 413 Payload Too Large\r\nDate: Thu, 01 Jan 1970 00:01:40 GMT\r\nContent-Type: application/json\r\nContent-Length: 26\r\nCache-Control: no-store\r\nConnection: close\r\n\r\n{\"error\":\"body_too_large\"}",
         ),
         (
             PLAIN,
-            Told::Refusal(Refused::HeadTooLarge, clock),
+            Told::Refusal(Refused::Framing(FramingRefusal::HeadTooLarge), clock),
             true,
             "HTTP/1.1 431 Request Header Fields Too Large\r\nDate: Thu, 01 Jan 1970 00:01:40 GMT\r\nContent-Type: application/json\r\nContent-Length: 26\r\nCache-Control: no-store\r\nConnection: close\r\n\r\n{\"error\":\"head_too_large\"}",
         ),
         (
             PLAIN,
-            Told::Refusal(Refused::BadCoding, clock),
+            Told::Refusal(Refused::Framing(FramingRefusal::BadCoding), clock),
             true,
             "HTTP/1.1 501 Not Implemented\r\nDate: Thu, 01 Jan 1970 00:01:40 GMT\r\nContent-Type: application/json\r\nContent-Length: 22\r\nCache-Control: no-store\r\nConnection: close\r\n\r\n{\"error\":\"bad_coding\"}",
         ),

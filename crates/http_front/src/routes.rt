@@ -1,11 +1,19 @@
 //! Which route a path has.
-ghost use Rattle.std.specs.Prelude.{◌≡◌, OnOk};
-ghost use Rattle.http_front.specs.Routes.{IsTable, added, allows, method_of, methods_of, route_of};
+ghost use Rattle.std.specs.Prelude.{◌≡◌, OnOk, IfOk};
+ghost use Rattle.http_front.specs.Routes.{added, all_routes, allows, method_of, methods_of, route_of, served_of, serves};
+ghost use Rattle.http_front.specs.declared.routes.Route.TheVariants.{Record};
 
-use http_message::Allow;
+use crate::refused::Allow;
 use matchit::{InsertError, Router};
 use q_base::Memory;
 use std::alloc::Global;
+use std::marker::Model;
+
+/// What stands before the names in the path of a record.
+pub const RECORDS: &[u8] = b"/v1/d/";
+
+/// What stands before the name in the path of a query.
+pub const QUERIES: &[u8] = b"/v1/q/";
 
 /// What a path names.
 #[derive(Clone, Copy, Debug, PartialEq, Eq)]
@@ -82,16 +90,73 @@ impl Method {
     }
 }
 
-/// The routes, read once.
+/// The routes that are served. Every other path has none.
+#[derive(Clone, Copy, Debug, PartialEq, Eq)]
+pub struct Served {
+    pub records: bool,
+    pub queries: bool,
+    pub page: bool,
+    pub purges: bool,
+    pub matching: bool,
+    pub stats: bool,
+}
+
+/// All routes.
+pub const ALL_ROUTES: Served = Served {
+    records: true,
+    queries: true,
+    page: true,
+    purges: true,
+    matching: true,
+    stats: true,
+};
+
+impl Served {
+    /// Whether a route is served.
+    pub fn serves(self, route: Route) -> bool
+        ensures { result ≡ serves self route }
+    {
+        match route {
+            Route::Record => self.records,
+            Route::Query => self.queries,
+            Route::Filter => self.page,
+            Route::Purges => self.purges,
+            Route::Match => self.matching,
+            Route::Stats => self.stats,
+        }
+    }
+}
+
+/// The table of routes, read once, and which of them are served. Contracts see these.
 #[derive(Drop)]
 pub struct Routes {
     router: Router<Route>,
-    ghost whole: { IsTable router },
+    served: Served,
+}
+
+impl Model for Routes {
+    ghost use Rattle.http_front.specs.Routes.{IsTable};
+    ghost use Rattle.http_front.specs.declared.routes.Served.{Served};
+
+    ghost Value = { Served };
+
+    ghost view = { λ r. r.served };
+
+    ghost invariant = { λ r. IsTable r.router };
 }
 
 impl Routes {
     /// The routes of the server.
-    pub fn new(alloc: Global) -> Result<Routes, Memory> {
+    pub fn new(alloc: Global) -> Result<Routes, Memory>
+        ensures { IfOk result (λ routes. routes ≡ all_routes) }
+    {
+        Routes::of(alloc, ALL_ROUTES)
+    }
+
+    /// Some of them.
+    pub fn of(alloc: Global, served: Served) -> Result<Routes, Memory>
+        ensures { IfOk result (λ routes. routes ≡ served) }
+    {
         let mut router = Router::new(alloc);
         add(&mut router, "/v1/d/{collection}/{id}", Route::Record)?;
         add(&mut router, "/v1/q/{collection}", Route::Query)?;
@@ -99,11 +164,29 @@ impl Routes {
         add(&mut router, "/v1/purges", Route::Purges)?;
         add(&mut router, "/v1/match", Route::Match)?;
         add(&mut router, "/v1/stats", Route::Stats)?;
-        Ok(Routes { router })
+        Ok(Routes { router, served })
     }
 
-    /// The route of a path.
+    /// Whether records are served.
+    #[inline(always)]
+    pub fn serve_records(&self) -> bool
+        ensures { result ≡ serves self.now Record }
+    {
+        self.served.records
+    }
+
+    /// The route of a path, where it is served.
     pub fn route_of(&self, path: &[u8]) -> Option<Route>
+        ensures { result ≡ served_of self.now (route_of path.now) }
+    {
+        match self.found(path) {
+            Some(route) if self.served.serves(route) => Some(route),
+            _ => None,
+        }
+    }
+
+    /// The route of a path in the table.
+    fn found(&self, path: &[u8]) -> Option<Route>
         ensures { result ≡ route_of path.now }
     {
         let Ok(path) = str::from_utf8(path) else {

@@ -1,83 +1,103 @@
 //! The statuses of replies.
-ghost use Rattle.std.specs.Prelude.{◌≡◌, ◌≤◌, length};
-ghost use Rattle.http_front.specs.ReplyText.{status_line, refusal_status, write_status};
+ghost use Rattle.std.specs.Prelude.{◌≡◌, ◌<◌, ◌≤◌, length, take};
+ghost use Rattle.http_front.specs.Reply.{phrase_of, status_line};
+ghost use Rattle.http_front.specs.ReplyText.{refusal, write_status};
+ghost use Rattle.http_front.specs.declared.refused.Refused.TheVariants.{Framing};
 
-use http_message::Refused;
+use crate::put::{put, put_number};
+use crate::refused::Refused;
+use http_message::FramingRefusal;
+use http::StatusCode;
 use hub_model::Found;
 
-/// The status of a reply (RFC 9110, section 15).
-#[derive(Clone, Copy, Debug, PartialEq, Eq)]
-pub enum Status {
-    Okay,
-    Created,
-    BadRequest,
-    NotFound,
-    MethodNotAllowed,
-    LengthRequired,
-    PreconditionFailed,
-    PayloadTooLarge,
-    UnsupportedMediaType,
-    Unprocessable,
-    HeaderFieldsTooLarge,
-    NotImplemented,
-    Unavailable,
-    InsufficientStorage,
-}
+/// The room that a status line is written into.
+pub(crate) const STATUS_ROOM: usize = 63;
 
-impl Status {
-    /// The status line.
-    pub(crate) fn line(self) -> &'static [u8]
-        ensures line { result.now ≡ status_line self }
-        ensures short { length result.now ≤ 46 }
-    {
-        match self {
-            Status::Okay => b"HTTP/1.1 200 OK\r\n",
-            Status::Created => b"HTTP/1.1 201 Created\r\n",
-            Status::BadRequest => b"HTTP/1.1 400 Bad Request\r\n",
-            Status::NotFound => b"HTTP/1.1 404 Not Found\r\n",
-            Status::MethodNotAllowed => b"HTTP/1.1 405 Method Not Allowed\r\n",
-            Status::LengthRequired => b"HTTP/1.1 411 Length Required\r\n",
-            Status::PreconditionFailed => b"HTTP/1.1 412 Precondition Failed\r\n",
-            Status::PayloadTooLarge => b"HTTP/1.1 413 Payload Too Large\r\n",
-            Status::UnsupportedMediaType => b"HTTP/1.1 415 Unsupported Media Type\r\n",
-            Status::Unprocessable => b"HTTP/1.1 422 Unprocessable Entity\r\n",
-            Status::HeaderFieldsTooLarge => b"HTTP/1.1 431 Request Header Fields Too Large\r\n",
-            Status::NotImplemented => b"HTTP/1.1 501 Not Implemented\r\n",
-            Status::Unavailable => b"HTTP/1.1 503 Service Unavailable\r\n",
-            Status::InsufficientStorage => b"HTTP/1.1 507 Insufficient Storage\r\n",
-        }
+/// Writes the line of a status at the front of a room.
+#[tactic(auto, using(
+    crate::proofs::StatusLemmas::line_200,
+    crate::proofs::StatusLemmas::line_201,
+    crate::proofs::StatusLemmas::line_404
+))]
+#[inline(always)]
+pub(crate) fn put_status(room: &mut [u8], status: StatusCode) -> usize
+    requires { STATUS_ROOM ≤ length room.old }
+    ensures end { result ≤ STATUS_ROOM }
+    ensures text { take result room.new ≡ status_line status }
+{
+    match status {
+        StatusCode::OK => put(room, 0, b"HTTP/1.1 200 OK\r\n"),
+        StatusCode::CREATED => put(room, 0, b"HTTP/1.1 201 Created\r\n"),
+        StatusCode::NOT_FOUND => put(room, 0, b"HTTP/1.1 404 Not Found\r\n"),
+        _ => put_line(room, status),
     }
 }
 
+/// Writes the line of any status, with the phrase that the crate `http` gives to it.
+#[tactic(auto, using(crate::proofs::StatusLemmas::status_pieces))]
+#[inline(never)]
+fn put_line(room: &mut [u8], status: StatusCode) -> usize
+    requires { STATUS_ROOM ≤ length room.old }
+    ensures end { result ≤ STATUS_ROOM }
+    ensures text { take result room.new ≡ status_line status }
+{
+    let code = status.as_u16();
+    let phrase = phrase_of(status);
+    let mut at = put(room, 0, b"HTTP/1.1 ");
+    at = put_number(room, at, u64::from(code));
+    at = put(room, at, b" ");
+    at = put(room, at, phrase);
+    put(room, at, b"\r\n")
+}
+
 /// The status of a write that was accepted, by what it found.
-pub(crate) fn write_status(put: bool, before: Found) -> Status
+pub(crate) fn write_status(put: bool, before: Found) -> StatusCode
     ensures { result ≡ write_status put before }
 {
     match (put, before) {
-        (true, Found::Missing) => Status::Created,
-        (true, Found::At(_)) | (false, _) => Status::Okay,
+        (true, Found::Missing) => StatusCode::CREATED,
+        (true, Found::At(_)) | (false, _) => StatusCode::OK,
     }
 }
 
 /// The status of a refusal.
-pub(crate) fn refusal_status(refused: Refused) -> Status
-    ensures { result ≡ refusal_status refused }
+pub(crate) fn refusal_status(refused: Refused) -> StatusCode
+    ensures { result ≡ (refusal refused).status }
 {
     match refused {
-        Refused::BadHead => Status::BadRequest,
-        Refused::HeadTooLarge => Status::HeaderFieldsTooLarge,
-        Refused::BadLength => Status::BadRequest,
-        Refused::BadCoding => Status::NotImplemented,
-        Refused::BodyTooLarge => Status::PayloadTooLarge,
-        Refused::BadHost => Status::BadRequest,
-        Refused::BadTarget => Status::BadRequest,
-        Refused::NoRoute => Status::NotFound,
-        Refused::BadMethod(_) => Status::MethodNotAllowed,
-        Refused::NoLength => Status::LengthRequired,
-        Refused::BadEncoding => Status::UnsupportedMediaType,
-        Refused::BadTag => Status::BadRequest,
-        Refused::NotBuilt => Status::NotImplemented,
-        Refused::BadDocument(_) => Status::Unprocessable,
-        Refused::Memory => Status::Unavailable,
+        Refused::Framing(refused) => framing_status(refused),
+        Refused::BadHost | Refused::BadTarget | Refused::BadTag | Refused::BadFilter(_) => {
+            StatusCode::BAD_REQUEST
+        }
+        Refused::NoRoute => StatusCode::NOT_FOUND,
+        Refused::BadMethod(_) => StatusCode::METHOD_NOT_ALLOWED,
+        Refused::NoLength => StatusCode::LENGTH_REQUIRED,
+        Refused::BadEncoding => StatusCode::UNSUPPORTED_MEDIA_TYPE,
+        Refused::NotBuilt => StatusCode::NOT_IMPLEMENTED,
+        Refused::BadDocument(_) => StatusCode::UNPROCESSABLE_ENTITY,
+    }
+}
+
+/// The status of what cannot be framed.
+fn framing_status(refused: FramingRefusal) -> StatusCode
+    ensures { result ≡ (refusal (Framing refused)).status }
+{
+    match refused {
+        FramingRefusal::BadHead | FramingRefusal::BadLength => StatusCode::BAD_REQUEST,
+        FramingRefusal::HeadTooLarge => StatusCode::REQUEST_HEADER_FIELDS_TOO_LARGE,
+        FramingRefusal::BadCoding => StatusCode::NOT_IMPLEMENTED,
+        FramingRefusal::BodyTooLarge => StatusCode::PAYLOAD_TOO_LARGE,
+    }
+}
+
+/// The phrase of a status.
+fn phrase_of(status: StatusCode) -> &'static [u8]
+    requires { status < 1000 }
+    ensures phrase { result.now ≡ phrase_of status }
+    ensures short { length result.now ≤ 31 }
+{
+    match status.canonical_reason() {
+        Some(phrase) => phrase.as_bytes(),
+        None => b"<unknown status code>",
     }
 }

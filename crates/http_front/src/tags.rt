@@ -10,7 +10,7 @@ ghost use Rattle.http_front.specs.Tags.{commit_by, commits_in, inner, is_quoted,
 
 use crate::fields::value_at;
 use crate::number::number_of;
-use http_message::{Named, Refused, Request};
+use http_message::{Named, Request};
 use httparse::is_space_or_tab;
 use hub_model::{Commits, Tags};
 use q_base::{Commit, Memory};
@@ -25,6 +25,15 @@ pub enum Comparison {
     Weak,
 }
 
+/// Why a list of entity tags is refused.
+#[derive(Clone, Copy, Debug, PartialEq, Eq)]
+pub enum TagRefusal {
+    /// A member is no entity tag.
+    BadTag,
+    /// There was no memory.
+    Memory,
+}
+
 /// What the fields of this name say, where there are some.
 #[tactic(auto, unfolding(crate::specs::Tags::tags_in))]
 pub fn tags_in(
@@ -32,7 +41,7 @@ pub fn tags_in(
     request: &Request<'_>,
     name: &[u8],
     comparison: Comparison,
-) -> Result<Option<Tags>, Refused>
+) -> Result<Option<Tags>, TagRefusal>
     ensures { Answers (tags_in comparison (values name.now request.now.fields)) result }
 {
     match request.named(name) {
@@ -51,7 +60,7 @@ fn commits_in(
     request: &Request<'_>,
     name: &[u8],
     comparison: Comparison,
-) -> Result<Commits, Refused>
+) -> Result<Commits, TagRefusal>
     ensures { Answers (commits_in comparison (values name.now request.now.fields)) result }
 {
     let mut commits = Commits::new(alloc);
@@ -64,7 +73,7 @@ fn commits_in(
 }
 
 /// Adds the commits of a list.
-fn add_list(commits: &mut Commits, list: &[u8], comparison: Comparison) -> Result<(), Refused>
+fn add_list(commits: &mut Commits, list: &[u8], comparison: Comparison) -> Result<(), TagRefusal>
     requires { length commits.old ≤ 16 }
     ensures { Adds comparison (tags_of (members_of list.now)) commits.old commits.new result }
 {
@@ -80,7 +89,11 @@ fn add_list(commits: &mut Commits, list: &[u8], comparison: Comparison) -> Resul
 }
 
 /// Adds the commit that a member names, as far as there is room. An empty member is none.
-fn add_member(commits: &mut Commits, member: &[u8], comparison: Comparison) -> Result<(), Refused>
+fn add_member(
+    commits: &mut Commits,
+    member: &[u8],
+    comparison: Comparison,
+) -> Result<(), TagRefusal>
     requires { length commits.old ≤ 16 }
     ensures { Adds comparison (tags_of (filter (λ m. nat_lt 0 (length m)) (member.now ∷ []))) commits.old commits.new result }
 {
@@ -95,7 +108,7 @@ fn add_member(commits: &mut Commits, member: &[u8], comparison: Comparison) -> R
     }
     match commits.push(commit) {
         Ok(()) => Ok(()),
-        Err(Memory) => Err(Refused::Memory),
+        Err(Memory) => Err(TagRefusal::Memory),
     }
 }
 
@@ -117,12 +130,12 @@ fn cut_member(list: &[u8]) -> (&[u8], Option<&[u8]>)
 
 /// The commit that a member of a list names.
 #[tactic(auto, unfolding(crate::specs::Tags::tag_of))]
-fn commit_in(member: &[u8], comparison: Comparison) -> Result<Option<Commit>, Refused>
+fn commit_in(member: &[u8], comparison: Comparison) -> Result<Option<Commit>, TagRefusal>
     ensures { result ≡ commit_by comparison (tag_of member.now) }
 {
     let weak = member.starts_with(b"W/");
     let Some(text) = unquoted(if weak { &member[2..] } else { member }) else {
-        return Err(Refused::BadTag);
+        return Err(TagRefusal::BadTag);
     };
     if weak && comparison == Comparison::Strong {
         return Ok(None);

@@ -2,7 +2,7 @@
 ghost use Rattle.std.specs.Prelude.{◌≡◌};
 ghost use Rattle.http_front.specs.ReplyText.{written_clock, clock_of};
 
-use http_message::Refused;
+use crate::refused::Refused;
 use hub_model::{Answer, Matched, Stats, Written};
 use q_base::Moment;
 

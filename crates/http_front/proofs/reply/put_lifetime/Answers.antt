@@ -1,9 +1,0 @@
--- the lifetime is not 0
-use Rattle.std.proofs.Common.{ap, ◌∙◌, ◌++◌, take}
-use Rattle.http_front.proofs.ReplyLemmas.{lifetime_told}
-use Rattle.http_front.proofs.reply.put_lifetime.Goals as goal
-
-pub returns-else-ttl-eq0-clause-text : goal.returns-else-ttl-eq0-clause-text
-returns-else-ttl-eq0-clause-text c =
-    c.put_field.ensures.text
-    ∙ ap (λ t. take c.args.at c.args.room.now ++ t) (lifetime_told c.args.ttl _ c.if-ttl-eq0.false c.from.ensures)
