@@ -5,6 +5,7 @@ mod DigitLemmas
 mod FieldLemmas
 mod NumberLemmas
 mod FramingLemmas
+mod GiveLemmas
 mod HeadLines
 mod StatusLemmas
 mod PathLemmas

@@ -276,7 +276,6 @@ asked_at s m local answer hosted local_is e = rw (hosted, local_is) e
 pub early_at : (s : Served) (m : Message) (local : List ℕ) (early : Bool) → has_host m ≡ true
     → local_part m.target ≡ Some local
     → is_early_at m (path_of local) (query_of local) (served_of s (route_of (path_of local))) ≡ early → is_early s m ≡ early
-unfolding is_early
 early_at s m local early hosted local_is e = rw (hosted, local_is) e
 
 -- names as they stand, once their escapes are decoded

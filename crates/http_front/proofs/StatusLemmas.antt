@@ -23,6 +23,8 @@ pub line_404 : status_line 404 ≡ codes "HTTP/1.1 404 Not Found\r\n"
 unfolding status_line digits
 line_404 = refl
 
+pub ruleset known_lines = (line_200, line_201, line_404)
+
 -- the pieces of a line
 pub status_pieces : (n : ℕ)
     → status_line n ≡ codes "HTTP/1.1 " ++ decimal n ++ codes " " ++ phrase_of n ++ codes "\r\n"

@@ -60,5 +60,5 @@ is_early_in s m (Some local) =
 
 -- The Host, the target, the route or the method is refused; or a PUT of a record, whose names have no
 -- escape, for its length or its coding.
-unfoldable pub is_early : Served → Message → Bool
+abbrev pub is_early : Served → Message → Bool
 is_early s m = not (has_host m) || is_early_in s m (local_part m.target)

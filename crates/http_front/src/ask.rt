@@ -56,11 +56,7 @@ pub enum Ask {
 
 /// What a request asks, or the first reason why it is refused. A body is read in the room that is
 /// lent. A record whose names have no escape takes no look at the table of routes.
-#[tactic(auto, unfolding(
-    crate::specs::Asks::ask_of,
-    crate::specs::Early::is_early,
-    crate::specs::Target::path_of
-))]
+#[tactic(auto, unfolding(crate::specs::Asks::ask_of, crate::specs::Target::path_of))]
 pub fn ask_of(
     alloc: Global,
     request: &Request<'_>,

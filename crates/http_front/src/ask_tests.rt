@@ -1,6 +1,9 @@
 //! What no clause says: that a request is read into what it asks where there is memory.
 
-use crate::{Allow, Ask, DocumentReason, Refused, Routes, ask_of};
+use crate::{
+    ALL_ROUTES, Allow, Ask, DocumentReason, QueryField, Refused, Route, Routes, Served, ask_of,
+    fields_in,
+};
 use http_message::{RequestRoom, next_request};
 use hub_model::{Condition, Tags};
 use q_base::Memory;
@@ -143,5 +146,36 @@ fn each_call_is_asked(rt: HostRuntime) -> Result<(), Fail> {
     assert!(rt; matches!(&matched, Ok(Ask::MatchAll)));
     let stats = asked(alloc, b"GET /v1/stats HTTP/1.1\r\nHost: a\r\n\r\n")?;
     assert!(rt; matches!(&stats, Ok(Ask::Stats { head: false })));
+    Ok(())
+}
+
+#[test]
+fn the_fields_of_a_query_are_decoded(rt: HostRuntime) -> Result<(), Fail> {
+    let query = b"f=a+%3D+1&o=%2Dyear".as_slice();
+    let Some(values) = fields_in(rt.alloc(), Route::Query, Some(query))? else {
+        assert!(rt; false);
+        return Ok(());
+    };
+    assert_eq!(rt; values.len(), 2);
+    assert_eq!(rt; values[0].field(), QueryField::Filter);
+    assert_eq!(rt; values[0].value(), b"a = 1".as_slice());
+    assert_eq!(rt; values[1].field(), QueryField::Order);
+    assert_eq!(rt; values[1].value(), b"-year".as_slice());
+    Ok(())
+}
+
+#[test]
+fn a_part_of_the_routes_is_served(rt: HostRuntime) -> Result<(), Fail> {
+    let alloc = rt.alloc();
+    let routes = Routes::of(
+        alloc,
+        Served {
+            records: false,
+            ..ALL_ROUTES
+        },
+    )?;
+    let room = room_of(alloc, b"GET /v1/d/shop/p1 HTTP/1.1\r\nHost: a\r\n\r\n")?;
+    let asked = ask_of(alloc, &room.request(), &routes, &mut ReadRoom::new(alloc))?;
+    assert!(rt; matches!(&asked, Err(Refused::NoRoute)));
     Ok(())
 }

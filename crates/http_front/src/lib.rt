@@ -35,11 +35,9 @@ pub use laws::{
     one_reply_is_read, paths_of_records_have_two_names, replies_are_framed, replies_have_one_text,
     replies_read_back,
 };
-pub use query::{FieldValue, fields_in};
 pub use pieces::{Body, Bytes, Parts, give_pieces};
-pub use refused::{
-    Allow, DocumentReason, FilterReason, FilterRefusal, QueryField, Refused,
-};
+pub use query::{FieldValue, fields_in};
+pub use refused::{Allow, DocumentReason, FilterReason, FilterRefusal, QueryField, Refused};
 pub use reply::{REPLY_ROOM, ReplyRoom, reply_text};
 pub use routes::{ALL_ROUTES, Route, Routes, Served};
 pub use shape::Shape;

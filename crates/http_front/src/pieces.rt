@@ -34,6 +34,7 @@ impl<'a> Body for Bytes<'a> {
 }
 
 /// A body of parts, one behind the other.
+#[derive(Drop)]
 pub struct Parts {
     /// The parts.
     pub parts: Vec<Text>,

@@ -1,8 +1,12 @@
 //! Replies, to the byte.
-use crate::{Allow, DocumentReason, Refused, ReplyRoom, Shape, Told, give_reply, reply_text, write_body};
+use crate::{
+    Allow, DocumentReason, Head, Parts, Refused, ReplyRoom, Shape, Told, give_pieces, give_reply,
+    reply_text, write_body,
+};
+use http::StatusCode;
 use http_message::FramingRefusal;
 use hub_model::{Answer, Found, Matched, Outcome, Stats, Written};
-use q_base::{Commit, Moment, SharedText};
+use q_base::{Commit, Moment, SharedText, Text};
 use q_outside::EndlessSink;
 use std::test::Fail;
 
@@ -194,5 +198,34 @@ fn head_is_answered_without_the_body(rt: HostRuntime) -> Result<(), Fail> {
     assert_eq!(rt; reply_text(PLAIN, &told, b"", false, &mut room), READ.len());
     assert_eq!(rt; room.bytes(), READ.as_bytes());
     assert!(rt; write_body(PLAIN, &told, b"", &mut sink).is_ok());
+    Ok(())
+}
+
+#[test]
+fn a_head_of_any_status_is_printed(rt: HostRuntime) -> Result<(), Fail> {
+    let unchanged = Head {
+        media: None,
+        length: None,
+        tag: Some(1),
+        ttl: 60,
+        ..Head::plain(StatusCode::NOT_MODIFIED, 0, false)
+    };
+    let mut room = ReplyRoom::new(rt.alloc())?;
+    room.write_head(&unchanged, Moment::of(100));
+    assert_eq!(rt;
+        room.bytes(),
+        b"HTTP/1.1 304 Not Modified\r\nDate: Thu, 01 Jan 1970 00:01:40 GMT\r\nETag: \"1\"\r\nCache-Control: max-age=60\r\n\r\n".as_slice()
+    );
+    let mut parts = Vec::new(rt.alloc());
+    parts.push(Text::of(b"{\"error\":".to_vec(rt.alloc())?))?;
+    parts.push(Text::of(b"\"origin\"}".to_vec(rt.alloc())?))?;
+    let body = Parts { parts };
+    let head = Head::plain(StatusCode::BAD_GATEWAY, 18, true);
+    let mut sink = EndlessSink;
+    assert!(rt; give_pieces(&mut sink, &mut room, &head, Moment::of(100), &body, false).is_ok());
+    assert_eq!(rt;
+        room.bytes(),
+        b"HTTP/1.1 502 Bad Gateway\r\nDate: Thu, 01 Jan 1970 00:01:40 GMT\r\nContent-Type: application/json\r\nContent-Length: 18\r\nCache-Control: no-store\r\nConnection: close\r\n\r\n".as_slice()
+    );
     Ok(())
 }

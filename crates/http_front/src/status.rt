@@ -6,19 +6,15 @@ ghost use Rattle.http_front.specs.declared.refused.Refused.TheVariants.{Framing}
 
 use crate::put::{put, put_number};
 use crate::refused::Refused;
-use http_message::FramingRefusal;
 use http::StatusCode;
+use http_message::FramingRefusal;
 use hub_model::Found;
 
 /// The room that a status line is written into.
 pub(crate) const STATUS_ROOM: usize = 63;
 
 /// Writes the line of a status at the front of a room.
-#[tactic(auto, using(
-    crate::proofs::StatusLemmas::line_200,
-    crate::proofs::StatusLemmas::line_201,
-    crate::proofs::StatusLemmas::line_404
-))]
+#[tactic(auto, using(crate::proofs::StatusLemmas::known_lines))]
 #[inline(always)]
 pub(crate) fn put_status(room: &mut [u8], status: StatusCode) -> usize
     requires { STATUS_ROOM ≤ length room.old }
