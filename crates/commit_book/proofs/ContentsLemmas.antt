@@ -1,13 +1,16 @@
 -- What an addition answers and leaves.
-use Rattle.std.proofs.Common.{◌≡◌, ℕ, List, ◌+◌, ◌≤◌, true, false, [], ◌∷◌, ◌++◌, Option, Some, None, IfSome, option_map, length, nat_le, sym, ap, ◌∙◌, subst, arith}
+use Rattle.std.proofs.Common.{◌≡◌, ℕ, List, ◌+◌, ◌≤◌, Bool, true, false, IsErr, if◌then◌else◌, [], ◌∷◌, ◌++◌, Option, Some, None, IfSome, option_map, length, nat_le, sym, ap, ◌∙◌, subst, arith}
 use Rattle.std.specs.Option.{option_map_or}
-use Rattle.std.specs.declared.result.Result.TheVariants.{Ok}
+use Rattle.std.specs.declared.result.Result.{Result}
+use Rattle.std.specs.declared.result.Result.TheVariants.{Ok, Err}
 use Rattle.std.proofs.lemmas.Bool.{le-leb}
 use Rattle.commit_book.specs.declared.change.Change.{Change}
-use Rattle.commit_book.specs.Contents.{Contents, added, is_reserved, with_commit}
+use Rattle.commit_book.specs.declared.refusal.BookRefusal.{BookRefusal}
+use Rattle.commit_book.specs.declared.refusal.BookRefusal.TheVariants.{Full}
+use Rattle.commit_book.specs.Contents.{Contents, added, judged, is_reserved, with_commit}
 use Rattle.commit_book.specs.Names.{Names}
 use Rattle.commit_book.specs.declared.row.Reserved.{Reserved}
-use Rattle.commit_book.specs.Journal.{cost_of, kept}
+use Rattle.commit_book.specs.Journal.{cost_of, kept, kept_with}
 use Rattle.commit_book.specs.Same.{same_change}
 use Rattle.commit_book.proofs.GrowLemmas.{kept_more}
 use Rattle.commit_book.proofs.SameLemmas.{same_is, same_itself}
@@ -47,3 +50,16 @@ seen_added capacity journal items reserved left were names old r change view the
     let longer : items ≡ old.journal ++ change ∷ [] = more ∙ ap (λ (b : Contents). b.journal ++ r.row ∷ []) view ∙ ap (λ (c : Change). old.journal ++ c ∷ []) row in
     let none : option_map (λ (x : Reserved). x.row) left ≡ None = ap (option_map (λ (x : Reserved). x.row)) gone in
     λ i. record { capacity = limit i; journal = longer i; reserved = none i; names = names }
+
+-- nothing is told of a change that can be reserved
+abbrev no_answer : Result (Unit {0}) BookRefusal
+no_answer = Ok tt
+
+-- a change that is above the capacity is refused so by an addition where it is by a reservation
+pub full_added : (book : Contents) (change : Change) (e : BookRefusal) → IsErr (added book change) → (IsErr (judged book change) → Err e ≡ judged book change) → Err e ≡ added book change
+full_added book change e err told = by (nat_le (kept_with book.journal change) book.capacity) err told
+  where
+    by : (b : Bool) → IsErr (if b then Ok (length book.journal + 1) else Err (Full (kept_with book.journal change))) → (IsErr (if b then no_answer else Err (Full (kept_with book.journal change))) → Err e ≡ (if b then no_answer else Err (Full (kept_with book.journal change)))) →
+        Err e ≡ (if b then Ok (length book.journal + 1) else Err (Full (kept_with book.journal change)))
+    by true err told = absurd (let h = err in cc)
+    by false err told = (let is = told err in let same : e ≡ Full (kept_with book.journal change) = cc in ap Err same)

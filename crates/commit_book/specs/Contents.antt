@@ -5,7 +5,7 @@ use Rattle.std.specs.declared.result.Result.{Result}
 use Rattle.std.specs.declared.result.Result.TheVariants.{Ok, Err}
 use Rattle.commit_book.specs.declared.change.Change.{Change}
 use Rattle.commit_book.specs.declared.refusal.BookRefusal.{BookRefusal}
-use Rattle.commit_book.specs.declared.refusal.BookRefusal.TheVariants.{Full}
+use Rattle.commit_book.specs.declared.refusal.BookRefusal.TheVariants.{Full, Memory}
 use Rattle.commit_book.specs.Journal.{kept_with}
 use Rattle.commit_book.specs.Names.{Names}
 use Rattle.commit_book.specs.Same.{same_change}
@@ -28,6 +28,10 @@ judged book change = if nat_le (kept_with book.journal change) book.capacity the
 -- the number of the change as a commit, or the bytes that it would lead to where these are above the capacity
 abbrev pub added : Contents → Change → Result ℕ BookRefusal
 added book change = if nat_le (kept_with book.journal change) book.capacity then Ok (length book.journal + 1) else Err (Full (kept_with book.journal change))
+
+-- why a change is refused for whose text there is no memory
+abbrev pub refusal_of : Contents → Change → BookRefusal
+refusal_of book change = if nat_le (kept_with book.journal change) book.capacity then Memory else Full (kept_with book.journal change)
 
 -- there is room for this change
 abbrev pub is_reserved : Contents → Change → Bool

@@ -1,8 +1,8 @@
 //! The book: its rows, and what finds them.
-ghost use Rattle.std.specs.Prelude.{◌≡◌, ◌⊎◌, ◌+◌, ◌≤◌, ◌^◌, Some, Err, IsOk, IsSome, IfOk, OnOk, OnErr, length, slice_get, option_map, is_some, ◌<◌, ℕ};
+ghost use Rattle.std.specs.Prelude.{◌≡◌, ◌⊎◌, ◌+◌, ◌≤◌, ◌^◌, Some, Err, IsOk, IsErr, IsSome, IfOk, OnOk, OnErr, length, slice_get, option_map, is_some, ◌<◌, ℕ};
 ghost use Rattle.commit_book.specs.declared.change.Change.{Change as AChange};
 ghost use Rattle.commit_book.specs.declared.refusal.BookRefusal.TheVariants.{Memory as NoMemory};
-ghost use Rattle.commit_book.specs.Contents.{empty_book, judged, added, is_reserved, with_commit};
+ghost use Rattle.commit_book.specs.Contents.{empty_book, judged, added, refusal_of, is_reserved, with_commit};
 ghost use Rattle.commit_book.specs.CommitRows.{commit_row, commit_rows};
 ghost use Rattle.commit_book.specs.Documents.{docs, HasDocuments};
 ghost use Rattle.commit_book.specs.Index.{put_of};
@@ -77,10 +77,14 @@ impl Book {
     /// that was reserved before.
     pub fn reserve(&mut self, change: &Change) -> Result<(), BookRefusal>
         ensures told { (result ≡ Err NoMemory) ⊎ (result ≡ judged self.old change.now) }
+        ensures full { IsErr (judged self.old change.now) → result ≡ judged self.old change.now }
         ensures after { OnOk result (self.new ≡ record self.old { reserved = Some change.now }) }
         ensures err { OnErr result (self.new ≡ self.old) }
     {
-        let text = text_of(self.alloc, change)?;
+        let text = match text_of(self.alloc, change) {
+            Ok(text) => text,
+            Err(Memory) => return Err(self.refusal_of(change)),
+        };
         let bytes = self.bytes + cost_of(change, &text);
         if bytes > self.capacity {
             return Err(BookRefusal::Full { bytes });
@@ -90,6 +94,19 @@ impl Book {
         let place = place_in(&mut self.collections, &change.collection, &change.id)?;
         self.reserved = Some(Reserved { row, place });
         Ok(())
+    }
+
+    /// Why a change is refused for whose text there is no memory: that it is above the capacity, if it is.
+    #[cold]
+    fn refusal_of(&self, change: &Change) -> BookRefusal
+        ensures { result ≡ refusal_of self.now change.now }
+    {
+        let bytes = self.bytes + change.cost();
+        if bytes > self.capacity {
+            BookRefusal::Full { bytes }
+        } else {
+            BookRefusal::Memory
+        }
     }
 
     /// Adds the change that was reserved, as the next commit. It takes no memory.
@@ -122,6 +139,7 @@ impl Book {
     /// Adds a change as the next commit. It takes no memory where the change was reserved.
     pub fn add(&mut self, change: &Change) -> Result<Commit, BookRefusal>
         ensures told { (result ≡ Err NoMemory) ⊎ (result ≡ added self.old change.now) }
+        ensures full { IsErr (added self.old change.now) → result ≡ added self.old change.now }
         ensures after { OnOk result (self.new ≡ with_commit self.old change.now self.new.names) }
         ensures names { OnOk result (AreNamesOf self.new.journal self.new.names) }
         ensures reserved { self.old.reserved ≡ Some change.now → IsOk result }

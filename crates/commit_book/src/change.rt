@@ -1,12 +1,12 @@
 //! Changes of the store, and what a commit made of its record.
-ghost use Rattle.std.specs.Prelude.{◌≡◌, IfOk};
+ghost use Rattle.std.specs.Prelude.{◌≡◌, ◌≤◌, ◌+◌, ◌^◌, IfOk};
 ghost use Rattle.commit_book.specs.Journal.{cost_of};
 ghost use Rattle.commit_book.specs.Same.{same_document, same_change};
 
-use crate::row::{cost_of, text_of};
-use q_base::{Commit, Memory, Name};
+use crate::row::cost_with;
+use q_base::{Commit, Name};
 use q_doc::Doc;
-use std::alloc::{AllocError, Global};
+use std::alloc::AllocError;
 
 /// What a write does to a record: it puts a document, or deletes.
 #[derive(Drop)]
@@ -28,12 +28,19 @@ pub struct CommitRow {
 }
 
 impl Change {
-    /// What the change takes of a capacity, in bytes. It prints the document.
-    pub fn cost(&self, alloc: Global) -> Result<u64, Memory>
-        ensures { IfOk result (λ bytes. bytes ≡ cost_of self.now) }
+    /// What the change takes of a capacity, in bytes. It takes no memory, and as long as printing.
+    pub fn cost(&self) -> u64
+        ensures cost { result ≡ cost_of self.now }
+        ensures most { result ≤ 2 ^ 63 + 192 }
     {
-        let text = text_of(alloc, self)?;
-        Ok(cost_of(self, &text))
+        match &self.document {
+            Some(document) => {
+                // Its root tells that its text is not too long.
+                let _root = document.root();
+                cost_with(self, document.printed_len())
+            }
+            None => cost_with(self, 0),
+        }
     }
 }
 

@@ -1,6 +1,6 @@
 //! The rows of a book.
-ghost use Rattle.std.specs.Prelude.{◌≡◌, ◌≤◌, ◌^◌, ◌+◌, IfOk, is_some, option_map};
-ghost use Rattle.commit_book.specs.Journal.{text_of, cost_of};
+ghost use Rattle.std.specs.Prelude.{◌≡◌, ◌<◌, ◌≤◌, ◌^◌, ◌+◌, length, IfOk, is_some, option_map};
+ghost use Rattle.commit_book.specs.Journal.{text_of, cost_of, row_bytes};
 
 use crate::change::Change;
 use crate::index::Place;
@@ -113,6 +113,15 @@ pub fn cost_of(change: &Change, text: &[u8]) -> u64
     ensures cost { result ≡ cost_of change.now }
     ensures most { result ≤ 2 ^ 63 + 192 }
 {
+    cost_with(change, text.len())
+}
+
+/// What a change takes of the capacity, in bytes, with a text of so many.
+pub fn cost_with(change: &Change, size: usize) -> u64
+    requires { size < 2 ^ 63 }
+    ensures cost { result ≡ row_bytes + length change.now.collection + length change.now.id + size }
+    ensures most { result ≤ 2 ^ 63 + 192 }
+{
     let names = change.collection.as_slice().len() + change.id.as_slice().len();
-    (ROW_BYTES + names + text.len()) as u64
+    (ROW_BYTES + names + size) as u64
 }

@@ -1,4 +1,5 @@
-//! What no clause says: the worked case of the capacity, and that calls succeed where there is memory.
+//! What no clause says: the worked case of the capacity, that calls succeed where there is memory, and
+//! which take none.
 
 use crate::{Book, BookRefusal, Change};
 use q_base::Name;
@@ -57,7 +58,7 @@ fn a_change_above_the_capacity_is_refused(rt: HostRuntime) -> Result<(), Fail> {
     assert_eq!(rt; add(alloc, &mut book, b"p2", b"{\"a\":1}")?, 3);
     let short = change(alloc, b"p2", b"{\"a\":1}")?;
     assert!(rt; is_full(&mut book, &short, 65_837));
-    assert_eq!(rt; short.cost(alloc)?, 77);
+    assert_eq!(rt; short.cost(), 77);
     assert_eq!(rt; book.count(), 3);
     Ok(())
 }
@@ -105,5 +106,25 @@ fn lists_are_made_where_there_is_memory(rt: HostRuntime) -> Result<(), Fail> {
     assert_eq!(rt; documents.len(), 2);
     let commits = book.commits(0, last)?;
     assert_eq!(rt; commits.len() as u64, last);
+    Ok(())
+}
+
+/// The last allocation is refused where it is the first one behind the set-up: the calls between take
+/// no memory.
+#[test]
+fn look_ups_and_reserved_changes_take_no_memory(rt: HostRuntime) -> Result<(), Fail> {
+    let alloc = rt.alloc();
+    let shop = Name::read(alloc, b"shop")?;
+    let id = Name::read(alloc, b"p2")?;
+    let mut book = four_commits(alloc)?;
+    let change = change(alloc, b"p3", b"{\"a\":5}")?;
+    book.reserve(&change)?;
+    let commit = book.add(&change)?;
+    let last = book.count();
+    let found = book.document_at(last, &shop, &id).is_some()
+        && book.text_at(last, &shop, &id).is_some();
+    assert!(rt; found && commit == 5 && book.altered(5).is_some() && change.cost() == 77);
+    let next = Vec::<u8>::with_capacity(alloc, 1);
+    assert!(rt; next.is_ok(), "the next allocation was refused");
     Ok(())
 }

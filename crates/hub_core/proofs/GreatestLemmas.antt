@@ -61,47 +61,12 @@ best-all u p (x ∷ xs) (suc k) d low hit =
     let more = best-cons u p x xs in
     omega (arith, rest, more)
 
--- a weaker test
-pub best-weaker : {X : Type 0} (u : X → ℕ) (p q : X → Bool) (xs : List X) → All (λ x. p x ≡ true → q x ≡ true) xs → best u p xs ≤ best u q xs
-best-weaker u p q xs all = best-le u p (best u q xs) xs (λ k d low hit. best-all u q xs k d low (all k d low hit))
-
--- tests that agree
-pub best-agree : {X : Type 0} (u : X → ℕ) (p q : X → Bool) (xs : List X) → All (λ x. p x ≡ q x) xs → best u p xs ≡ best u q xs
-best-agree u p q xs all =
-    let there = best-weaker u p q xs (λ k d low hit. sym (all k d low) ∙ hit) in
-    let back = best-weaker u q p xs (λ k d low hit. all k d low ∙ hit) in
-    omega (arith, there, back)
-
 -- the order does not matter
 pub best-permuted : {X : Type 0} (u : X → ℕ) (p : X → Bool) (xs ys : List X) → IsPermutation xs ys → best u p ys ≡ best u p xs
 best-permuted u p xs ys perm =
     let there = best-le u p (best u p xs) ys (All-permutation (λ x. p x ≡ true → u x ≤ best u p xs) xs ys perm (best-all u p xs)) in
     let back = best-le u p (best u p ys) xs (All-permutation (λ x. p x ≡ true → u x ≤ best u p ys) ys xs (IsPermutation-sym xs ys perm) (best-all u p ys)) in
     omega (arith, there, back)
-
--- of those above a number
-pub best-later : {X : Type 0} (u : X → ℕ) (p : X → Bool) (c : ℕ) (xs : List X) → best u p (filter (λ x. nat_lt c (u x)) xs) ≡ (if nat_lt c (best u p xs) then best u p xs else 0)
-best-later u p c [] = rw (le-ltb c 0 (omega arith)) refl
-best-later u p c (x ∷ xs) =
-    let rest = best-later u p c xs in
-    let more = best-cons u p x xs in
-    elim (cases_lt c (u x)) [
-      | inl late ↦ (
-          let first = best-cons u p x (filter (λ y. nat_lt c (u y)) xs) in
-          rw (lt-ltb c (u x) late) (first ∙ ap (λ (n : ℕ). max (if p x then u x else 0) n) rest ∙ kept (p x) (u x) (best u p xs) late ∙ ap (λ (n : ℕ). if nat_lt c n then n else 0) (sym more)))
-      | inr past ↦ rw (le-ltb c (u x) past) (rest ∙ lost (p x) (u x) (best u p xs) past ∙ ap (λ (n : ℕ). if nat_lt c n then n else 0) (sym more))
-    ]
-  where
-    above : (n : ℕ) → ((if nat_lt c n then n else 0) ≡ n) × (c < n) ⊎ ((if nat_lt c n then n else 0) ≡ 0) × (n ≤ c)
-    above n = elim (cases_lt c n) [ inl late ↦ inl (rw (lt-ltb c n late) refl, late) | inr past ↦ inr (rw (le-ltb c n past) refl, past) ]
-
-    kept : (b : Bool) (n m : ℕ) → c < n → max (if b then n else 0) (if nat_lt c m then m else 0) ≡ (if nat_lt c (max (if b then n else 0) m) then max (if b then n else 0) m else 0)
-    kept true n m late = elim (above m) [ inl h ↦ elim (above (max n m)) [ inl k ↦ omega (arith, h, k, late) | inr k ↦ absurd (omega (arith, k, late)) ] | inr h ↦ elim (above (max n m)) [ inl k ↦ omega (arith, h, k, late) | inr k ↦ absurd (omega (arith, k, late)) ] ]
-    kept false n m late = elim (above m) [ inl h ↦ elim (above (max 0 m)) [ inl k ↦ omega (arith, h, k, late) | inr k ↦ omega (arith, h, k) ] | inr h ↦ elim (above (max 0 m)) [ inl k ↦ omega (arith, h, k) | inr k ↦ omega (arith, h, k) ] ]
-
-    lost : (b : Bool) (n m : ℕ) → n ≤ c → (if nat_lt c m then m else 0) ≡ (if nat_lt c (max (if b then n else 0) m) then max (if b then n else 0) m else 0)
-    lost true n m past = elim (above m) [ inl h ↦ elim (above (max n m)) [ inl k ↦ omega (arith, h, k, past) | inr k ↦ absurd (omega (arith, h, k)) ] | inr h ↦ elim (above (max n m)) [ inl k ↦ absurd (omega (arith, h, k, past)) | inr k ↦ omega (arith, h, k) ] ]
-    lost false n m past = elim (above m) [ inl h ↦ elim (above (max 0 m)) [ inl k ↦ omega (arith, h, k) | inr k ↦ absurd (omega (arith, h, k)) ] | inr h ↦ elim (above (max 0 m)) [ inl k ↦ absurd (omega (arith, h, k)) | inr k ↦ omega (arith, h, k) ] ]
 
 -- one passes where the greatest is above what all are above
 pub any-best : {X : Type 0} (u : X → ℕ) (p : X → Bool) (c : ℕ) (xs : List X) → All (λ x. c < u x) xs → list_any p xs ≡ nat_lt c (best u p xs)

@@ -45,15 +45,6 @@ hub-passed book front h new s moment at passes =
       marks = marks-later h.outdated new.outdated new.clock moment s at.marks passes.outdated now;
     }
 
-pub lean-passed : (book : Contents) (front : ℕ) (h new : Handed) (moment : ℕ) → IsLean (hub_of book front h) → Passes moment h new → IsLean (hub_of book front new)
-lean-passed book front h new moment lean passes = record {
-  change = lean.change;
-  names = lean.names;
-  idle = passes.idle;
-  ready = ap (λ (x : Handed). x.ready) passes.rest ∙ lean.ready;
-  markable = ap (λ (x : Handed). x.markable) passes.rest ∙ lean.markable;
-}
-
 pub setting-passed : (h new : Handed) (moment : ℕ) → Passes moment h new → new.setting ≡ h.setting
 setting-passed h new moment passes = ap (λ (x : Handed). x.setting) passes.rest
 
@@ -68,15 +59,6 @@ hub-written book more front h s change at within longer =
       copies = at.copies;
       marks = marks-written h.outdated change s at.marks low;
     }
-
-pub lean-written : (book more : Contents) (front : ℕ) (h : Handed) → IsLean (hub_of book front h) → more.reserved ≡ None → AreNamesOf more.journal more.names → IsLean (hub_of more front h)
-lean-written book more front h lean none names = record {
-  change = none;
-  names = names;
-  idle = lean.idle;
-  ready = lean.ready;
-  markable = lean.markable;
-}
 
 -- with the copy of a read
 pub hub-read : (book : Contents) (front : ℕ) (h new : Handed) (s : State) (key : KeyShape) (g : Setting) (at ttl : ℕ) → IsAt (hub_of book front h) s → front ≤ at → h.setting ≡ g → ttl ≡ lifetime h key →

@@ -47,19 +47,6 @@ sound-more g issued new_issued filter copy sound late clocks with room =
       backed = λ key. (let before = sound.backed key in let after = backed-more copy issued.held new_issued.held key same in omega (arith, before, after));
     }
 
--- with other room
-pub sound-same : (g : Setting) (issued new_issued : Issued) (filter : Filter) → new_issued.clock ≡ issued.clock → new_issued.held ≡ issued.held → IsSound g issued filter → IsSound g new_issued filter
-sound-same g issued new_issued filter clocks held sound = record {
-  limits = sound.limits;
-  log2_bits = sound.log2_bits;
-  hashes = sound.hashes;
-  few = subst (λ (xs : List Copy). active_keys xs ≤ g.active) (sym held) sound.few;
-  late = λ key test until is. (let h = sound.late key test until (ap (latest_where key test) (sym held) ∙ is) in omega (arith, h, clocks));
-  once = sound.once;
-  later = subst (λ (n : ℕ). All (λ e. n < e.1) filter.held) (sym clocks) sound.later;
-  backed = λ key. (let h = sound.backed key in let same = ap (λ (xs : List Copy). last_until xs key) held in omega (arith, h, same));
-}
-
 -- the marked keys are active
 marked-active : (g : Setting) (issued : Issued) (filter : Filter) → IsSound g issued filter → (key : KeyShape) → list_any (λ e. same_key key e.0) filter.held ≡ true → is_active issued.held key ≡ true
 marked-active g issued filter sound key there =

@@ -1,5 +1,5 @@
 -- The steps of a write.
-use Rattle.std.proofs.Common.{◌≡◌, ◌⊎◌, ℕ, ◌+◌, Bool, true, false, ◌&&◌, List, [], ◌∷◌, ◌++◌, length, Result, Ok, Err, nat_le, if◌then◌else◌, refl, sym, ap, ap₂, ◌∙◌, inl, inr}
+use Rattle.std.proofs.Common.{◌≡◌, ◌⊎◌, ℕ, ◌+◌, Bool, true, false, ◌&&◌, List, [], ◌∷◌, ◌++◌, length, Result, Ok, Err, nat_le, if◌then◌else◌, refl, sym, ap, ap₂, ◌∙◌, subst, IsErr, inl, inr}
 use Rattle.commit_book.specs.declared.change.Change.{Change}
 use Rattle.commit_book.specs.declared.refusal.BookRefusal.{BookRefusal}
 use Rattle.commit_book.specs.declared.refusal.BookRefusal.TheVariants.{Full, Memory}
@@ -9,7 +9,7 @@ use Rattle.hub_model.specs.declared.entry.Condition.{Condition}
 use Rattle.hub_model.specs.declared.entry.Found.{Found}
 use Rattle.hub_model.specs.Setting.{Setting}
 use Rattle.hub_model.specs.State.{State}
-use Rattle.hub_model.specs.Step.{found_of, found_now, is_met, wrote}
+use Rattle.hub_model.specs.Step.{found_of, found_now, is_accepted, is_met, wrote}
 
 -- ---- what the book answers
 
@@ -46,6 +46,21 @@ added-full book change bytes result full told = by (nat_le (kept_with book.journ
         cc
     by false h = h
 
+-- there was room where memory was wanting
+pub added-memory : (book : Contents) (change : Change) (result : Result ℕ BookRefusal) → result ≡ Err Memory → (IsErr (added book change) → result ≡ added book change) → nat_le (kept_with book.journal change) book.capacity ≡ true
+added-memory book change result wanting full = by (nat_le (kept_with book.journal change) book.capacity) refl
+  where
+    refused : Full (kept_with book.journal change) ≡ Memory → ⊥
+    refused e = cc
+
+    by : (b : Bool) → nat_le (kept_with book.journal change) book.capacity ≡ b → nat_le (kept_with book.journal change) book.capacity ≡ true
+    by true h = h
+    by false h =
+        let is : added book change ≡ Err (Full (kept_with book.journal change)) = ap (λ (b : Bool). if b then Ok (length book.journal + 1) else Err (Full (kept_with book.journal change))) h in
+        let answer : result ≡ added book change = full (subst IsErr (sym is) refl) in
+        let wrong : Full (kept_with book.journal change) ≡ Memory = cc in
+        absurd (refused wrong)
+
 -- ---- what a write leaves
 
 -- of a journal that is the state's
@@ -58,6 +73,12 @@ met-now journal s change condition found commits b same found_is count met = ap�
 -- with the change there is room in the state where there is in the book
 room-now : (g : Setting) (journal : List Change) (s : State) (change : Change) (capacity : ℕ) (b : Bool) → journal ≡ s.journal → capacity ≡ g.capacity → nat_le (kept_with journal change) capacity ≡ b → nat_le (kept_with s.journal change) g.capacity ≡ b
 room-now g journal s change capacity b same limit room = ap₂ (λ (xs : List Change) (n : ℕ). nat_le (kept_with xs change) n) (sym same) (sym limit) ∙ room
+
+-- so the state accepts it
+pub accepted-now : (g : Setting) (journal : List Change) (s : State) (change : Change) (condition : Condition) (found : Found) (commits capacity : ℕ) → journal ≡ s.journal → found ≡ found_of (document_at journal (length journal) change.collection change.id) → commits ≡ length journal →
+    is_met condition found commits ≡ true → capacity ≡ g.capacity → nat_le (kept_with journal change) capacity ≡ true → is_accepted g s change condition ≡ true
+accepted-now g journal s change condition found commits capacity same is count met limit room =
+    ap₂ (λ (a b : Bool). a && b) (met-now journal s change condition found commits true same (found-now journal s change found same is) count met) (room-now g journal s change capacity true same limit room)
 
 -- the state behind a write, by whether it is accepted
 left : Change → State → Bool → State

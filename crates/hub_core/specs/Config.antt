@@ -1,8 +1,29 @@
 -- Which numbers are a configuration.
 use Rattle.std.specs.Prelude.{ℕ, Bool, ◌||◌, nat_lt, if◌then◌else◌, Result, Ok, Err}
 use Rattle.hub_model.specs.Setting.{Setting}
+use Rattle.query_normal.specs.Pages.{least_log2_bits, most_log2_bits, fewest_hashes, most_hashes}
 use Rattle.hub_core.specs.declared.config.ConfigRefusal.{ConfigRefusal}
 use Rattle.hub_core.specs.declared.config.ConfigRefusal.TheVariants.{BadBits, BadHashes, BadTtl, BadActive, BadCapacity}
+
+-- the least lifetime, in seconds; the limits of a page's numbers are the pages' own
+abbrev pub least_ttl : ℕ
+least_ttl = 1
+
+-- the greatest lifetime, in seconds
+abbrev pub most_ttl : ℕ
+most_ttl = 31536000
+
+-- so many keys may be active at most
+abbrev pub most_active : ℕ
+most_active = 1000000
+
+-- the least capacity, in bytes
+abbrev pub least_capacity : ℕ
+least_capacity = 65792
+
+-- the greatest capacity, in bytes
+abbrev pub most_capacity : ℕ
+most_capacity = 134217728
 
 -- the number is below the one or above the other
 abbrev pub is_outside : ℕ → ℕ → ℕ → Bool
@@ -11,10 +32,10 @@ is_outside low high n = nat_lt n low || nat_lt high n
 -- the configuration of these numbers, or the first that is outside its limits
 abbrev pub configured : Setting → Result Setting ConfigRefusal
 configured g =
-    if is_outside 10 22 g.log2_bits then Err (BadBits g.log2_bits)
-    else (if is_outside 1 16 g.hashes then Err (BadHashes g.hashes)
-    else (if nat_lt g.ttl_low 1 || nat_lt g.ttl_high g.ttl_low || nat_lt 31536000 g.ttl_high
+    if is_outside least_log2_bits most_log2_bits g.log2_bits then Err (BadBits g.log2_bits)
+    else (if is_outside fewest_hashes most_hashes g.hashes then Err (BadHashes g.hashes)
+    else (if nat_lt g.ttl_low least_ttl || nat_lt g.ttl_high g.ttl_low || nat_lt most_ttl g.ttl_high
     then Err (BadTtl g.ttl_low g.ttl_high)
-    else (if nat_lt 1000000 g.active then Err (BadActive g.active)
-    else (if is_outside 65792 134217728 g.capacity then Err (BadCapacity g.capacity)
+    else (if nat_lt most_active g.active then Err (BadActive g.active)
+    else (if is_outside least_capacity most_capacity g.capacity then Err (BadCapacity g.capacity)
     else Ok g))))

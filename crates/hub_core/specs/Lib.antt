@@ -1,4 +1,5 @@
 pub mod Config
+pub mod ConfigRefusal
 pub mod Handed
 pub mod Marks
 pub mod Room

@@ -7,6 +7,33 @@ use std::error::Error;
 use std::fmt;
 use std::marker::Model;
 
+/// The logarithm of the number of the filter's bits is at least this.
+const LEAST_LOG2_BITS: u8 = 10;
+
+/// And at most this.
+const MOST_LOG2_BITS: u8 = 22;
+
+/// A key has at least so many positions.
+const FEWEST_HASHES: u8 = 1;
+
+/// And at most so many.
+const MOST_HASHES: u8 = 16;
+
+/// The least lifetime, in seconds.
+const LEAST_TTL: u32 = 1;
+
+/// The greatest lifetime, in seconds: a year.
+const MOST_TTL: u32 = 31_536_000;
+
+/// At most so many keys are active at once.
+const MOST_ACTIVE: u32 = 1_000_000;
+
+/// The least capacity, in bytes, which every document fits.
+const LEAST_CAPACITY: u64 = 65_792;
+
+/// The greatest capacity, in bytes.
+const MOST_CAPACITY: u64 = 134_217_728;
+
 /// The limits and defaults of one hub. Contracts see them as a `Setting`.
 #[derive(Clone, Debug, Drop)]
 pub struct Config {
@@ -58,6 +85,11 @@ pub enum ConfigRefusal {
 }
 
 impl fmt::Display for ConfigRefusal {
+    ghost use Rattle.std.specs.Prelude.{Some};
+    ghost use Rattle.hub_core.specs.ConfigRefusal.{sentence};
+
+    ghost output = { λ e. Some (sentence e) };
+
     fn fmt<W: fmt::Write>(&self, f: &mut fmt::Formatter<W>) -> fmt::Result {
         match self {
             ConfigRefusal::BadBits { found } => {
@@ -101,22 +133,22 @@ impl Config {
           capacity = capacity;
         }) }
     {
-        if log2_bits < 10 || log2_bits > 22 {
+        if log2_bits < LEAST_LOG2_BITS || log2_bits > MOST_LOG2_BITS {
             return Err(ConfigRefusal::BadBits { found: log2_bits });
         }
-        if hashes < 1 || hashes > 16 {
+        if hashes < FEWEST_HASHES || hashes > MOST_HASHES {
             return Err(ConfigRefusal::BadHashes { found: hashes });
         }
-        if ttl_low < 1 || ttl_low > ttl_high || ttl_high > 31_536_000 {
+        if ttl_low < LEAST_TTL || ttl_low > ttl_high || ttl_high > MOST_TTL {
             return Err(ConfigRefusal::BadTtl {
                 low: ttl_low,
                 high: ttl_high,
             });
         }
-        if active > 1_000_000 {
+        if active > MOST_ACTIVE {
             return Err(ConfigRefusal::BadActive { found: active });
         }
-        if capacity < 65_792 || capacity > 134_217_728 {
+        if capacity < LEAST_CAPACITY || capacity > MOST_CAPACITY {
             return Err(ConfigRefusal::BadCapacity { found: capacity });
         }
         Ok(Config {

@@ -1,12 +1,12 @@
 //! The hub.
-ghost use Rattle.std.specs.Prelude.{◌≡◌, ◌<◌, ◌≤◌, ◌++◌, ◌∷◌, [], length, option_map, Some, IfOk, OnOk, OnErr};
+ghost use Rattle.std.specs.Prelude.{◌≡◌, ◌<◌, ◌≤◌, ◌++◌, ◌∷◌, [], length, option_map, Some, true, IfOk, OnOk, OnErr};
 ghost use Rattle.hub_model.specs.declared.entry.Entry.TheVariants.{Write, Read, Match, Fetch, Tick};
 ghost use Rattle.commit_book.specs.Journal.{document_at};
 ghost use Rattle.hub_model.specs.Journal.{result_at};
 ghost use Rattle.hub_model.specs.Record.{is_recorded, page_of, record_of};
 ghost use Rattle.hub_model.specs.Reply.{outcome_of, wrote, read, matched, fetched, counted, reply_in};
 ghost use Rattle.hub_model.specs.State.{State, start};
-ghost use Rattle.hub_model.specs.Step.{found_of, after, after_all};
+ghost use Rattle.hub_model.specs.Step.{found_of, is_accepted, after, after_all};
 ghost use Rattle.hub_model.specs.Helps.{helps_of};
 ghost use Rattle.hub_core.specs.Room.{IsRoomFor};
 ghost use Rattle.hub_core.specs.Handed.{lifetime, Passes};
@@ -77,6 +77,7 @@ impl Hub {
     ) -> Result<Written, Memory>
         // What Ok means.
         ensures told { IfOk result (λ w. (s : State) → IsAt self.old s → wrote w ≡ reply_in self.old.setting (after_all self.old.setting s (helps_of self.old.setting s (Write moment change.now condition.now))) (Write moment change.now condition.now)) }
+        ensures accepted { OnErr result ((s : State) → IsAt self.old s → is_accepted self.old.setting s change.now condition.now ≡ true) }
         ensures after { OnOk result ((s : State) → IsAt self.old s → IsAt self.new (after_all self.old.setting s (helps_of self.old.setting s (Write moment change.now condition.now) ++ Write moment change.now condition.now ∷ []))) }
 
         // What stays.

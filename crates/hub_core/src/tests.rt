@@ -1,9 +1,9 @@
-//! What no clause says: the words of refusals, that calls succeed where there is memory, and worked
+//! What no clause says: that calls succeed where there is memory, which take none, and worked
 //! histories, whose answers come from outside.
 ghost use Rattle.std.specs.Prelude.{◌≡◌};
 ghost use Rattle.hub_core.specs.Room.{IsRoomFor};
 
-use crate::{Config, ConfigRefusal, Hub, PageRoom};
+use crate::{Config, Hub, PageRoom};
 use flat_snapshot::{set_bit, write_head};
 use hub_model::{Change, Commits, Condition, Found, Outcome, Tags, Written};
 use q_base::{Moment, Name};
@@ -300,32 +300,27 @@ fn writes_are_judged_by_what_they_find_and_take(rt: HostRuntime) -> Result<(), F
     Ok(())
 }
 
+/// The last allocation is refused where it is the first one behind the set-up: the calls between take
+/// no memory.
 #[test]
-fn refusals_are_said_in_words(rt: HostRuntime) -> Result<(), Fail> {
-    let cases = [
-        (
-            ConfigRefusal::BadBits { found: 9 },
-            "the filter has 2^10 to 2^22 bits, not 2^9",
-        ),
-        (
-            ConfigRefusal::BadHashes { found: 17 },
-            "the filter has 1 to 16 hashes, not 17",
-        ),
-        (
-            ConfigRefusal::BadTtl { low: 2, high: 1 },
-            "lifetimes are 1 to 31536000 seconds, the least first, not 2 and 1",
-        ),
-        (
-            ConfigRefusal::BadActive { found: 1_000_001 },
-            "at most 1000000 keys are active, not 1000001",
-        ),
-        (
-            ConfigRefusal::BadCapacity { found: 65_791 },
-            "the capacity is 65792 to 134217728 bytes, not 65791",
-        ),
-    ];
-    for (refusal, want) in cases {
-        assert_eq!(rt; refusal.to_string(rt.alloc())?.as_str(), want);
+fn fetch_tick_and_holds_take_no_memory(rt: HostRuntime) -> Result<(), Fail> {
+    let alloc = rt.alloc();
+    let config = Config::new(10, 6, 1, 60, 10_000, 65_792)?;
+    let mut room = PageRoom::new(alloc, &config)?;
+    let mut hub = Hub::new(alloc, config)?;
+    let key = key(alloc)?;
+    let change = change_to(alloc, br#"{"a":1}"#)?;
+    hub.write(Moment::of(1), &change, &Condition::Always)?;
+    hub.read(Moment::of(1), &key, &Tags::Any)?;
+    hub.write(Moment::of(1), &change, &Condition::Always)?;
+    if hub.front() < 2 && 2 <= hub.commits() {
+        hub.match_to(Moment::of(1), 2)?;
     }
+    hub.fetch(Moment::of(60), &mut room);
+    let held = hub.holds(&key) && hub.record_count() == 1;
+    let stats = hub.tick(Moment::of(61));
+    assert!(rt; held && !hub.holds(&key) && stats.commits == 2);
+    let next = Vec::<u8>::with_capacity(alloc, 1);
+    assert!(rt; next.is_ok(), "the next allocation was refused");
     Ok(())
 }

@@ -1,6 +1,7 @@
-use Rattle.std.proofs.Common.{◌≡◌, ◌+◌, length, true, inr, sym, ap, ◌∙◌}
+use Rattle.std.proofs.Common.{◌≡◌, ◌+◌, Err, length, true, inr, sym, ap, ◌∙◌}
+use Rattle.std.proofs.lemmas.Result.{err_from_is_err_and}
 use Rattle.commit_book.specs.Contents.{Contents, is_reserved, with_commit}
-use Rattle.commit_book.proofs.ContentsLemmas.{reserved_is, is_reserved_from, told_added}
+use Rattle.commit_book.proofs.ContentsLemmas.{reserved_is, is_reserved_from, told_added, full_added}
 use Rattle.commit_book.proofs.book.Book.add.Goals as goal
 use Rattle.commit_book.proofs.book.Book.add.Goals.{then-not-is_reserved+in_ok-reserve, else-not-is_reserved}
 
@@ -34,3 +35,12 @@ returns-clause-after c = (whole c).0
 -- it has its place, since the sum is within the capacity
 pub returns-clause-told : goal.returns-clause-told
 returns-clause-told c = inr (told_added c.args.self.now c.add_reserved.new.self c.args.change.now c.add_reserved.result (whole c).0 c.add_reserved.ensures.fits (whole c).1)
+
+-- and is not above the capacity
+pub returns-clause-full : goal.returns-clause-full
+returns-clause-full c = λ err. told_added c.args.self.now c.add_reserved.new.self c.args.change.now c.add_reserved.result (whole c).0 c.add_reserved.ensures.fits (whole c).1
+
+pub returns-in_err-reserve-clause-full : goal.returns-in_err-reserve-clause-full
+returns-in_err-reserve-clause-full c = λ err. (
+    let p = err_from_is_err_and c.from_residual.result c.from_residual.ensures.1 in
+    p.1 ∙ ap Err p.2 ∙ full_added c.args.self.now c.args.change.now c.in_err-reserve.field-0.0 err c.in_err-reserve.ensures.full)

@@ -5,7 +5,7 @@ use Rattle.hub_model.specs.State.{State, at_moment}
 use Rattle.hub_model.specs.Step.{wrote}
 use Rattle.hub_core.specs.Standing.{HubView, IsAt, hub_of}
 use Rattle.hub_core.proofs.HubLemmas.{hub-passed, hub-written}
-use Rattle.hub_core.proofs.WriteLemmas.{added-ok, added-full, leaves-unmet, leaves-full, leaves-done}
+use Rattle.hub_core.proofs.WriteLemmas.{added-ok, added-full, leaves-unmet, leaves-full, leaves-done, added-memory, accepted-now}
 use Rattle.hub_core.proofs.hub.Hub.write.Goals as goal
 
 pub returns-then-not-is_met-clause-after : goal.returns-then-not-is_met-clause-after
@@ -49,3 +49,13 @@ returns-in-Err-Full-clause-after c = λ s at.
     (leaves-full c.args.self.now.setting book.journal (at_moment s c.args.moment) c.args.change.now c.args.condition.now c.found-before.result c.count.result book.capacity moved.book.rows c.found-before.ensures c.count.ensures.count
     (sym c.is_met.ensures ∙ c.if-not-is_met.false) limit answer)
     moved)
+
+-- memory is wanting only for a write that is accepted
+pub returns-in-Err-Memory-clause-accepted : goal.returns-in-Err-Memory-clause-accepted
+returns-in-Err-Memory-clause-accepted c = λ s at.
+    let book = c.self.inside.book in
+    let rows : book.journal ≡ s.journal = ap (λ (h : HubView). h.rows) c.self.view_is ∙ at.book.rows in
+    let limit : book.capacity ≡ c.args.self.now.setting.capacity = c.self.invariant.capacity ∙ ap (λ (h : HubView). h.setting.capacity) c.self.view_is in
+    accepted-now c.args.self.now.setting book.journal s c.args.change.now c.args.condition.now c.found-before.result c.count.result book.capacity rows c.found-before.ensures c.count.ensures.count
+    (sym c.is_met.ensures ∙ c.if-not-is_met.false) limit
+    (added-memory book c.args.change.now (Err c.in-Err-Memory.field-0) (ap Err c.in-Err-Memory.field-0-is) c.in-Err-Memory.ensures.full)
