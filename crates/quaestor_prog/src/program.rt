@@ -27,12 +27,12 @@ pub fn run<S: Source, K: Sink, C: Clock>(
     clock: &mut C,
 ) -> Status
     ensures pipe { (at : Option ℕ) → IsPipe (map string_bytes words.now) at
-        → IsRun (record { left = S.left source.old; held = K.held sink.old; faults_in = S.faults source.old; faults_out = K.faults sink.old })
-        (record { left = S.left source.new; held = K.held sink.new; faults_in = S.faults source.new; faults_out = K.faults sink.new })
+        → IsRun (record { source = S.at source.old; sink = K.at sink.old })
+        (record { source = S.at source.new; sink = K.at sink.new })
         (AreTimed C.tells clock.old clock.new at) result }
     ensures usage { ((at : Option ℕ) → IsPipe (map string_bytes words.now) at → ⊥)
-        → IsRefused (record { left = S.left source.old; held = K.held sink.old; faults_in = S.faults source.old; faults_out = K.faults sink.old })
-        (record { left = S.left source.new; held = K.held sink.new; faults_in = S.faults source.new; faults_out = K.faults sink.new })
+        → IsRefused (record { source = S.at source.old; sink = K.at sink.old })
+        (record { source = S.at source.new; sink = K.at sink.new })
         (AreTimed C.tells clock.old clock.new None) result }
 {
     match read_words(words) {
@@ -49,8 +49,8 @@ fn pipe_at<S: Source, K: Sink, C: Clock>(
     sink: &mut K,
     clock: &mut C,
 ) -> Status
-    ensures { IsRun (record { left = S.left source.old; held = K.held sink.old; faults_in = S.faults source.old; faults_out = K.faults sink.old })
-        (record { left = S.left source.new; held = K.held sink.new; faults_in = S.faults source.new; faults_out = K.faults sink.new })
+    ensures { IsRun (record { source = S.at source.old; sink = K.at sink.old })
+        (record { source = S.at source.new; sink = K.at sink.new })
         (AreTimed C.tells clock.old clock.new at) result }
 {
     match at {
@@ -62,15 +62,15 @@ fn pipe_at<S: Source, K: Sink, C: Clock>(
     }
 }
 
-/// Serves one connection over a store that begins empty.
+/// Serves one connection over a store that begins empty, and ends the sink.
 fn pipe<S: Source, K: Sink, C: Clock>(
     alloc: Global,
     source: &mut S,
     sink: &mut K,
     clock: &mut C,
 ) -> Status
-    ensures { IsRun (record { left = S.left source.old; held = K.held sink.old; faults_in = S.faults source.old; faults_out = K.faults sink.old })
-        (record { left = S.left source.new; held = K.held sink.new; faults_in = S.faults source.new; faults_out = K.faults sink.new })
+    ensures { IsRun (record { source = S.at source.old; sink = K.at sink.old })
+        (record { source = S.at source.new; sink = K.at sink.new })
         (λ ms. Ticks C.tells clock.old ms clock.new) result }
 {
     let config = Config::default();
@@ -83,16 +83,19 @@ fn pipe<S: Source, K: Sink, C: Clock>(
         Err(_) => return Status::Memory,
     };
     let served = serve_connection(alloc, &mut desk, source, sink, clock, &mut room);
+    sink.end();
     // The process ends next, and gives the store's memory back at once.
     let _left = ManuallyDrop::new(desk);
     Status::of(served.why)
 }
 
-/// Writes the usage line.
+/// Writes the usage line, and ends the sink.
 fn refuse<K: Sink>(sink: &mut K) -> Status
-    ensures { IsToldUsage (K.held sink.old) (K.held sink.new) (K.faults sink.old) (K.faults sink.new) result }
+    ensures { IsToldUsage (K.at sink.old) (K.at sink.new) result }
 {
-    match give_all(sink, USAGE) {
+    let given = give_all(sink, USAGE);
+    sink.end();
+    match given {
         Ok(()) => Status::Words,
         Err(_) => Status::WriteFault,
     }

@@ -1,14 +1,15 @@
 //! The program over bytes in memory: its texts, its status, and each place where the outside fails.
-ghost use Rattle.std.specs.Prelude.{◌≡◌, ◌<◌};
+ghost use Rattle.std.specs.Prelude.{◌≡◌, ◌<◌, None};
 
 use crate::worked::{
     CLOSED, CONTINUE, ELSEWHERE, EMPTY, FILTER, FOUND, GET, GIVEN, LAST, MATCH, MATCHED, NO_ROUTE,
-    NO_STORE, PAGE_HEAD, PLACES, PUT, PUT_AGAIN, PUT_EXPECTING, STORED, STORED_AGAIN, USAGE,
+    NO_ROUTE_LAST, NO_STORE, PAGE_HEAD, PLACES, PUT, PUT_AGAIN, PUT_EXPECTING, STORED,
+    STORED_AGAIN, USAGE,
 };
 use crate::{Status, run};
 use itoa::Buffer;
 use q_base::{Memory, Moment};
-use q_outside::{FixedClock, ListSink, ListSource, Script};
+use q_outside::{Failed, FixedClock, ListSink, ListSource, Script, Sink};
 use std::alloc::Global;
 use std::marker::Brand;
 use std::process::Abort;
@@ -343,15 +344,56 @@ fn words_are_taken_or_refused(rt: HostRuntime) -> Result<(), Fail> {
 
 #[test]
 fn ten_thousand_requests_are_the_limit(rt: HostRuntime) -> Result<(), Fail> {
-    for (requests, answered, status) in [
-        (9_999, 9_999, Status::Done),
-        (10_001, 10_000, Status::RequestLimit),
+    for (requests, others, last, status) in [
+        (9_999, 9_998, NO_ROUTE, Status::Done),
+        (10_000, 9_999, NO_ROUTE_LAST, Status::RequestLimit),
+        (10_001, 9_999, NO_ROUTE_LAST, Status::RequestLimit),
     ] {
         let input = repeated(rt.alloc(), ELSEWHERE, requests)?;
-        let replies = repeated(rt.alloc(), NO_ROUTE, answered)?;
+        let mut replies = repeated(rt.alloc(), NO_ROUTE, others)?;
+        replies.extend_from_slice(last)?;
         let outcome = pipe_over(rt.alloc(), &input, calls_of(WHOLE), AMPLE, calls_of(WHOLE))?;
         assert_eq!(rt; outcome.status, status, "at {requests}");
         assert!(rt; outcome.written == replies, "at {requests}");
+    }
+    Ok(())
+}
+
+/// A sink that counts how often it was ended, and whether anything was given behind that.
+#[derive(Drop)]
+struct Ended {
+    ends: u64,
+    late: bool,
+}
+
+impl Sink for Ended {
+    ghost at = { λ _. record { bytes = None; faults = 0 } };
+
+    fn give(&mut self, bytes: &[u8]) -> Result<usize, Failed> {
+        self.late = self.late || self.ends > 0;
+        Ok(bytes.len())
+    }
+
+    fn end(&mut self) {
+        self.ends = self.ends.saturating_add(1);
+    }
+}
+
+#[test]
+fn the_sink_is_ended_once_behind_all_that_is_given(rt: HostRuntime) -> Result<(), Fail> {
+    for (at, line) in [["pipe"].as_slice(), &["serve"]].into_iter().enumerate() {
+        let words = words_of(rt.alloc(), line)?;
+        let bytes = joined(rt.alloc(), PUT, GET)?;
+        let mut source = ListSource::of(bytes, script_of(rt.alloc(), calls_of(WHOLE))?);
+        let mut sink = Ended {
+            ends: 0,
+            late: false,
+        };
+        let mut clock = FixedClock {
+            at: Moment::of(GIVEN),
+        };
+        let _status = run(rt.alloc(), &words, &mut source, &mut sink, &mut clock);
+        assert_eq!(rt; (sink.ends, sink.late), (1, false), "at {at}");
     }
     Ok(())
 }

@@ -47,6 +47,10 @@ pub const ELSEWHERE: &[u8] = b"GET /v2 HTTP/1.1\r\nHost: a\r\n\r\n";
 pub const NO_ROUTE: &[u8] =
     b"HTTP/1.1 404 Not Found\r\nDate: Thu, 01 Jan 1970 00:01:40 GMT\r\nContent-Type: application/json\r\nContent-Length: 20\r\nCache-Control: no-store\r\n\r\n{\"error\":\"no_route\"}";
 
+/// The same as the last reply of a connection.
+pub const NO_ROUTE_LAST: &[u8] =
+    b"HTTP/1.1 404 Not Found\r\nDate: Thu, 01 Jan 1970 00:01:40 GMT\r\nContent-Type: application/json\r\nContent-Length: 20\r\nCache-Control: no-store\r\nConnection: close\r\n\r\n{\"error\":\"no_route\"}";
+
 /// The moment of the given clock, the greatest.
 pub const GIVEN: u64 = 253_402_300_799;
 

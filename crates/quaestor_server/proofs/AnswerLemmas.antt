@@ -1,27 +1,33 @@
 -- A desk is made ready, and then answers.
-use Rattle.std.proofs.Common.{◌≡◌, ℕ, List, ◌++◌, length, nat_lt, Result, Ok, refl, sym, subst, inl, inr}
+use Rattle.std.proofs.Common.{◌≡◌, ℕ, List, ◌++◌, length, nat_lt, Result, Ok, IfOk, refl, sym, subst, inl, inr}
 use Rattle.std.proofs.lemmas.Bool.{cases_Bool}
+use Rattle.http_front.specs.Asks.{ask_of}
+use Rattle.http_front.specs.Routes.{all_routes}
 use Rattle.http_front.specs.declared.ask.Ask.{Ask}
 use Rattle.http_front.specs.declared.ask.Ask.TheVariants.{MatchAll}
+use Rattle.http_front.specs.declared.refused.Refused.{Refused}
+use Rattle.http_front.specs.declared.routes.Served.{Served}
 use Rattle.http_front.specs.declared.told.Told.{Told}
 use Rattle.http_front.specs.declared.told.Told.TheVariants.{Match}
-use Rattle.http_message.specs.declared.refused.Refused.{Refused}
+use Rattle.http_message.specs.Message.{Message}
+use Rattle.hub_core.specs.Room.{RoomView, IsRoomFor}
 use Rattle.hub_desk.specs.Desk.{matching, MatchesAll}
 use Rattle.hub_model.specs.declared.entry.Entry.{Entry}
 use Rattle.hub_model.specs.declared.entry.Matched.{Matched}
 use Rattle.hub_model.specs.Desk.{Learns}
+use Rattle.hub_model.specs.Legal.{IsLegal}
 use Rattle.hub_model.specs.Setting.{Setting}
 use Rattle.hub_model.specs.State.{State}
 use Rattle.hub_model.specs.Step.{state_of}
 use Rattle.q_base.specs.declared.memory.Memory.{Memory as NoMemory}
-use Rattle.quaestor_server.specs.Answer.{IsMade, serves, fails, IsAnswer, served, failed}
+use Rattle.quaestor_server.specs.Answer.{IsMade, made, wanted, IsAnswer, serves, fails}
 use Rattle.quaestor_server.specs.Ask.{IsFresh}
 use Rattle.quaestor_server.proofs.PrefixLemmas.{learns-makes, learns-learns, fresh_before}
 
 -- what a ready desk answered is answered
-answered-ready : (g : Setting) (old mid new : List Entry) (mine mine_mid mine_new : List (ℕ × Entry)) (moment : ℕ) (asked : Result Ask Refused) (read : Result (Result Ask Refused) NoMemory) (told : Told) (page : List ℕ) → read ≡ Ok asked → Learns g old mid mine mine_mid → IsMade g mid new mine_mid mine_new moment asked told page → IsAnswer g old new mine mine_new moment read told page
-answered-ready g old mid new mine mine_mid mine_new moment asked read told page read_is l (serves s) =
-    served asked read_is (record {
+answered_ready : (g : Setting) (old mid new : List Entry) (mine mine_mid mine_new : List (ℕ × Entry)) (moment : ℕ) (asked : Result Ask Refused) (told : Told) (page : List ℕ) → Learns g old mid mine mine_mid → IsMade g mid new mine_mid mine_new moment asked told page → IsAnswer g old new mine mine_new moment asked told page
+answered_ready g old mid new mine mine_mid mine_new moment asked told page l (made s) =
+    serves (record {
       entry = s.entry;
       replied = s.replied;
       made = learns-makes g old mid new mine mine_mid mine_new s.entry s.replied l s.made;
@@ -29,13 +35,26 @@ answered-ready g old mid new mine mine_mid mine_new moment asked read told page 
       fresh = fresh_before g old mid s.entry l.grew s.fresh;
       told_is = s.told_is;
     })
-answered-ready g old mid new mine mine_mid mine_new moment asked read told page read_is l (fails f) =
-    failed (record { learns = learns-learns g old mid new mine mine_mid mine_new l f.learns; told_is = f.told_is })
+answered_ready g old mid new mine mine_mid mine_new moment asked told page l (wanted w f) =
+    fails (record { learns = learns-learns g old mid new mine mine_mid mine_new l f.learns; told_is = f.told_is })
 
--- a desk that is made ready keeps its configuration, and then answers
-pub answered-then : (g g' : Setting) (old mid new : List Entry) (mine mine_mid mine_new : List (ℕ × Entry)) (moment : ℕ) (asked : Result Ask Refused) (read : Result (Result Ask Refused) NoMemory) (told : Told) (page : List ℕ) → read ≡ Ok asked → g' ≡ g → Learns g old mid mine mine_mid → IsMade g' mid new mine_mid mine_new moment asked told page → IsAnswer g old new mine mine_new moment read told page
-answered-then g g' old mid new mine mine_mid mine_new moment asked read told page read_is same l m =
-    answered-ready g old mid new mine mine_mid mine_new moment asked read told page read_is l (subst (λ (x : Setting). IsMade x mid new mine_mid mine_new moment asked told page) same m)
+-- a desk that is made ready keeps its configuration, and then answers what was read
+pub answered_then : (g g' : Setting) (old mid new : List Entry) (mine mine_mid mine_new : List (ℕ × Entry)) (moment : ℕ) (read : Result (Result Ask Refused) NoMemory) (known asked : Result Ask Refused) (told : Told) (page : List ℕ) → read ≡ Ok known → IfOk read (λ k. k ≡ asked) → g' ≡ g → Learns g old mid mine mine_mid → IsMade g' mid new mine_mid mine_new moment known told page → IsAnswer g old new mine mine_new moment asked told page
+answered_then g g' old mid new mine mine_mid mine_new moment read known asked told page read_is asks same l m =
+    let known_is : known ≡ asked = subst (λ (r : Result (Result Ask Refused) NoMemory). IfOk r (λ k. k ≡ asked)) read_is asks in
+    answered_ready g old mid new mine mine_mid mine_new moment asked told page l
+    (subst (λ (x : Setting). IsMade x mid new mine_mid mine_new moment asked told page) same
+    (subst (λ (a : Result Ask Refused). IsMade g' mid new mine_mid mine_new moment a told page) known_is m))
+
+-- an answer leaves a legal history, and the room as it was made
+pub can_still : (g g' : Setting) (old new : List Entry) (mine mine_new : List (ℕ × Entry)) (moment : ℕ) (asked : Result Ask Refused) (told : Told) (page : List ℕ) (room : RoomView) → g' ≡ g → IsLegal g old → IsAnswer g old new mine mine_new moment asked told page → IsRoomFor g room → IsLegal g' new × IsRoomFor g' room
+can_still g g' old new mine mine_new moment asked told page room same legal answer fits =
+    let left : IsLegal g new = elim answer [ serves s ↦ s.made.legal | fails f ↦ f.learns.legal legal ] in
+    subst (λ (x : Setting). IsLegal x new × IsRoomFor x room) (sym same) (left, fits)
+
+-- what was read by all routes
+pub read_all : (routes : Served) (m : Message) (read : Result (Result Ask Refused) NoMemory) → routes ≡ all_routes → IfOk read (λ asked. asked ≡ ask_of routes m) → IfOk read (λ asked. asked ≡ ask_of all_routes m)
+read_all routes m read same asks = subst (λ (r : Served). IfOk read (λ asked. asked ≡ ask_of r m)) same asks
 
 -- a match of all commits reads nothing
 fresh_matching : (g : Setting) (old : List Entry) (s : State) (moment : ℕ) (e : Entry) → e ≡ matching s moment → IsFresh g old e
@@ -45,9 +64,9 @@ fresh_matching g old s moment e is = subst (λ (x : Entry). IsFresh g old x) (sy
 ])
 
 -- a desk that matched all commits served that ask
-pub made-match : (g : Setting) (old new : List Entry) (mine mine_new : List (ℕ × Entry)) (moment : ℕ) (asked : Result Ask Refused) (match : Matched) (page : List ℕ) → asked ≡ Ok MatchAll → MatchesAll g old new mine mine_new moment match → IsMade g old new mine mine_new moment asked (Match match) page
-made-match g old new mine mine_new moment asked match page asked_is m =
-    subst (λ (a : Result Ask Refused). IsMade g old new mine mine_new moment a (Match match) page) (sym asked_is) (serves (record {
+pub made_match : (g : Setting) (old new : List Entry) (mine mine_new : List (ℕ × Entry)) (moment : ℕ) (asked : Result Ask Refused) (match : Matched) (page : List ℕ) → asked ≡ Ok MatchAll → MatchesAll g old new mine mine_new moment match → IsMade g old new mine mine_new moment asked (Match match) page
+made_match g old new mine mine_new moment asked match page asked_is m =
+    subst (λ (a : Result Ask Refused). IsMade g old new mine mine_new moment a (Match match) page) (sym asked_is) (made (record {
       entry = m.entry;
       replied = m.replied;
       made = m.made;

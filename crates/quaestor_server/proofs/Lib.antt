@@ -1,5 +1,6 @@
 mod AnswerLemmas
-mod EndLemmas
+mod OneTalkLemmas
 mod PrefixLemmas
-mod ProgressLemmas
-mod TurnLemmas
+mod TalkLemmas
+mod TextLemmas
+mod WellLemmas

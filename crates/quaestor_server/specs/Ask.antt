@@ -1,15 +1,16 @@
 -- What the items of a connection ask of the store, and what they are told.
-use Rattle.std.specs.Prelude.{◌≡◌, ℕ, ◌≤◌, false, if◌then◌else◌, List, length, Option, Some, None, Result, Ok, Err}
+use Rattle.std.specs.Prelude.{◌≡◌, ℕ, ◌≤◌, false, List, length, Result, Ok, Err}
 use Rattle.flat_snapshot.specs.PageText.{page_text}
 use Rattle.http_front.specs.Asks.{ask_of, shape_of}
+use Rattle.http_front.specs.Routes.{all_routes}
 use Rattle.http_front.specs.declared.ask.Ask.{Ask}
 use Rattle.http_front.specs.declared.ask.Ask.TheVariants.{Write, Read, MatchAll, Fetch, Stats}
+use Rattle.http_front.specs.declared.refused.Refused.{Refused}
+use Rattle.http_front.specs.declared.refused.Refused.TheVariants.{Framing}
 use Rattle.http_front.specs.declared.shape.Shape.{Shape}
 use Rattle.http_front.specs.declared.told.Told.{Told}
 use Rattle.http_front.specs.declared.told.Told.TheVariants as tells
 use Rattle.http_message.specs.Item.{Item, request, unframed}
-use Rattle.http_message.specs.Message.{asks_to_close}
-use Rattle.http_message.specs.declared.refused.Refused.{Refused}
 use Rattle.hub_desk.specs.Desk.{matching, IsFrontOf}
 use Rattle.hub_model.specs.declared.entry.Entry.{Entry}
 use Rattle.hub_model.specs.declared.entry.Entry.TheVariants as entries
@@ -18,23 +19,16 @@ use Rattle.hub_model.specs.Reply.{Replied, wrote, read, fetched, counted}
 use Rattle.hub_model.specs.Setting.{Setting}
 use Rattle.hub_model.specs.State.{State}
 use Rattle.hub_model.specs.Step.{state_of}
-use Rattle.q_outside.specs.declared.served.Why.{Why}
-use Rattle.q_outside.specs.declared.served.Why.TheVariants.{BadFraming, CloseAsked}
 
 -- what an item asks, or why it is refused
 abbrev pub asked_by : Item → Result Ask Refused
-asked_by (request m) = ask_of m
-asked_by (unframed refused called head) = Err refused
+asked_by (request m) = ask_of all_routes m
+asked_by (unframed refused called head) = Err (Framing refused)
 
 -- what the reply to an item looks like
 abbrev pub shape_by : Item → Shape
 shape_by (request m) = shape_of m
 shape_by (unframed refused called head) = record { put = false; head = head }
-
--- how the connection ends after an item whose first byte is at this place, where it does
-abbrev pub end_by : ℕ → Item → Option Why
-end_by place (request m) = if asks_to_close m then Some CloseAsked else None
-end_by place (unframed refused called head) = Some (BadFraming place)
 
 -- the entry is the one that is asked for, at this moment, behind a state; a refusal asks for a tick
 abbrev pub IsEntryOf : Result Ask Refused → ℕ → State → Entry → Type 0
@@ -57,8 +51,14 @@ IsToldOf _ _ told page = ⊥
 
 -- a read is not of a commit before those that were known
 abbrev pub IsFresh : Setting → List Entry → Entry → Type 0
-IsFresh g known (entries.Write moment change condition) = Unit {0}
 IsFresh g known (entries.Read moment key tags at) = length (state_of g known).journal ≤ at
-IsFresh g known (entries.Match moment to) = Unit {0}
-IsFresh g known (entries.Fetch moment) = Unit {0}
-IsFresh g known (entries.Tick moment) = Unit {0}
+IsFresh g known e = Unit {0}
+
+-- the entry of this ask may want memory: that of a write, a read or a match, and no other
+abbrev pub MayWant : Result Ask Refused → Type 0
+MayWant (Ok (Write change condition)) = Unit {0}
+MayWant (Ok (Read key tags head)) = Unit {0}
+MayWant (Ok MatchAll) = Unit {0}
+MayWant (Ok (Fetch head)) = ⊥
+MayWant (Ok (Stats head)) = ⊥
+MayWant (Err refused) = ⊥

@@ -1,8 +1,10 @@
 pub mod Answer
 pub mod Ask
-pub mod Connection
-pub mod EndLaw
-pub mod Round
+pub mod Conversation
+pub mod OneTalk
+pub mod WellServed
+pub use Rattle.dialogue.specs.Dialogue
+pub use Rattle.dialogue.specs.EndLaw
 pub use Rattle.hub_core.specs.Config
 pub use Rattle.hub_core.specs.Room
 pub use Rattle.hub_core.specs.Standing

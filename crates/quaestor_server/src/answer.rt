@@ -1,10 +1,11 @@
 //! How a desk answers one item.
-ghost use Rattle.std.specs.Prelude.{◌≡◌};
+ghost use Rattle.std.specs.Prelude.{◌≡◌, IfOk, Result};
+ghost use Rattle.http_front.specs.declared.ask.Ask.{Ask as AnAsk};
+ghost use Rattle.http_front.specs.declared.refused.Refused.{Refused as ARefusal};
 ghost use Rattle.hub_core.specs.Room.{IsRoomFor};
 ghost use Rattle.quaestor_server.specs.Answer.{IsAnswer, IsMade, fetched_bytes};
 
-use http_front::{Ask, Told};
-use http_message::Refused;
+use http_front::{Ask, Refused, Told};
 use hub_core::PageRoom;
 use hub_desk::Desk;
 use q_base::{Memory, Moment};
@@ -18,7 +19,7 @@ pub(crate) fn answer<D: Desk>(
     read: Result<Result<Ask, Refused>, Memory>,
 ) -> Told
     requires room { IsRoomFor (D.setting desk.old) pages.old }
-    ensures answer { IsAnswer (D.setting desk.old) (D.seen desk.old) (D.seen desk.new) (D.mine desk.old) (D.mine desk.new) moment read result (fetched_bytes pages.new) }
+    ensures answer { (asked : Result AnAsk ARefusal) → IfOk read (λ known. known ≡ asked) → IsAnswer (D.setting desk.old) (D.seen desk.old) (D.seen desk.new) (D.mine desk.old) (D.mine desk.new) moment asked result (fetched_bytes pages.new) }
     ensures room { IsRoomFor (D.setting desk.old) pages.new }
     ensures anchor { D.anchor desk.new ≡ D.anchor desk.old }
     ensures setting { D.setting desk.new ≡ D.setting desk.old }
@@ -32,7 +33,8 @@ pub(crate) fn answer<D: Desk>(
     }
 }
 
-/// Makes the entry that was asked for at a desk that is ready. A refusal has an entry too.
+/// Makes the entry that was asked for at a desk that is ready. A refusal has an entry too, and is
+/// told whatever memory there is.
 fn make<D: Desk>(
     desk: &mut D,
     pages: &mut PageRoom,

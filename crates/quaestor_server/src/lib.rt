@@ -2,17 +2,22 @@
 #![tactic(auto)]
 
 mod answer;
-mod asked;
 mod connection;
 mod laws;
-mod step;
+mod talker;
 
-pub use connection::{REQUEST_LIMIT, Room, serve_connection};
-pub use http_front::{Ask, ReplyRoom, Routes, Shape, Told};
-pub use http_message::{Allow, DocumentReason, Refused};
+pub use connection::{Room, serve_connection};
+pub use dialogue::{
+    REQUEST_LIMIT, bytes_tell_the_items, end_is_told_by_the_bytes, one_end_is_told,
+};
+pub use http_front::{Allow, Ask, DocumentReason, Refused, ReplyRoom, Routes, Shape, Told};
+pub use http_message::FramingRefusal;
 pub use hub_core::{Config, ConfigRefusal, Hub, PageRoom};
 pub use hub_desk::{Desk, Owned};
 pub use hub_model::{
     Answer, Change, Condition, Entry, Found, Matched, Outcome, Stats, Tags, Written,
 };
-pub use laws::{end_is_told_by_the_bytes, one_end_is_told};
+pub use laws::{
+    bytes_and_moments_tell_the_texts, own_entries_stand, owned_histories_are_alone,
+    well_served_stays,
+};

@@ -5,4 +5,5 @@ use Rattle.quaestor_prog.proofs.program.pipe.Goals as goal
 
 pub returns : goal.returns
 returns g c =
-    piped _ _ c.serve_connection-served.new.desk.entries _ _ _ _ _ _ (c.in-Ok-new.ensures.setting ∙ c.default-config.ensures) c.in-Ok-new.ensures.empty c.serve_connection-served.ensures.conversation c.of.ensures
+    piped _ _ c.serve_connection-served.new.desk.entries _ _ _ _ _ _ _ (c.in-Ok-new.ensures.setting ∙ c.default-config.ensures) c.in-Ok-new.ensures.empty c.end.ensures
+    c.serve_connection-served.ensures.legal c.serve_connection-served.ensures.conversation c.of.ensures

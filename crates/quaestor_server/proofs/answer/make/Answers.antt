@@ -1,7 +1,7 @@
 -- what was matched by one entry is served
 use Rattle.std.proofs.Common.{Ok, ap, ◌∙◌}
-use Rattle.quaestor_server.proofs.AnswerLemmas.{made-match}
+use Rattle.quaestor_server.proofs.AnswerLemmas.{made_match}
 use Rattle.quaestor_server.proofs.answer.make.Goals as goal
 
 pub returns-in-Ok-match_all-clause-answer : goal.returns-in-Ok-match_all-clause-answer
-returns-in-Ok-match_all-clause-answer g c = made-match _ _ _ _ _ _ _ _ _ (c.in-Ok-MatchAll.is ∙ ap Ok c.in-Ok-MatchAll.field-0-is) c.in-Ok-match_all.ensures.made
+returns-in-Ok-match_all-clause-answer g c = made_match _ _ _ _ _ _ _ _ _ (c.in-Ok-MatchAll.is ∙ ap Ok c.in-Ok-MatchAll.field-0-is) c.in-Ok-match_all.ensures.made
