@@ -7,8 +7,8 @@ check: ## proves what changed, every crate, lowest first
 	rt all check
 fmt: ## lays out every crate
 	@for crate in $(CRATES); do (cd crates/$$crate && rt fmt) || exit 1; done
-lint: ## tests the style that rt does not
-	@sh tools/lint.sh
+lint: ## tests the style that rt does not, and that what the documents name is there
+	@sh tools/lint.sh && sh tools/words.sh
 edits: ## tries the must-fail edits; CRATE=name for one crate
 	rt must-fail $(CRATE)
 plant: named ## lists wrong bodies that the contracts of CRATE=name let through

@@ -1,8 +1,9 @@
 #!/bin/sh
 # Tests that what the documents name is there: `sh tools/words.sh`, or `make lint`. Each word in
-# backquotes of docs/PROVED.md and docs/MODEL.md that looks like a name of ours (a function, a
-# clause, a definition, a type or a variant) must be declared in crates/, and each path of theirs must
-# be a file. It prints a line for each that is not, and its status is 1 where it printed any.
+# backquotes of docs/PROVED.md, docs/MODEL.md and docs/ARCHITECTURE.md that looks like a name of ours
+# (a function, a clause, a definition, a type or a variant) must be declared in crates/, and each path
+# must be a file or the end of one. It prints a line for each that is not, and its status is 1 where it
+# printed any.
 cd "$(dirname "$0")/.." || exit 2
 LC_ALL=C; export LC_ALL
 known=$(mktemp) || exit 2
@@ -20,12 +21,13 @@ trap 'rm -f "$known"' EXIT
     sed 's/#.*//' crates.txt | tr ':' ' ' | tr ' ' '\n'
 } | sort -u > "$known"
 
-found=$(for page in docs/PROVED.md docs/MODEL.md; do
+found=$(for page in docs/PROVED.md docs/MODEL.md docs/ARCHITECTURE.md; do
     grep -oE '`[^`]+`' "$page" | tr -d '`' | sort -u | while read -r text; do
         case "$text" in
-            *.antt | *.rt | *.md | *.sh) file=${text#crates/}
-                [ -e "$text" ] || [ -e "crates/$file" ] || [ -n "$(find crates -name "$text" -print -quit)" ] || echo "$page: no file $text" ;;
-            *[!A-Za-z0-9_:.]* | *[0-9].* | impl | '') ;;
+            *.antt | *.rt | *.md | *.sh)
+                [ -e "$text" ] || [ -n "$(find crates -path "*/${text#crates/}" -print -quit)" ] || echo "$page: no file $text" ;;
+            crates.txt | HANDLES | Makefile) [ -e "$text" ] || echo "$page: no file $text" ;;
+            *[!A-Za-z0-9_:.]* | *[0-9].* | impl | Display | '') ;;
             *)  for word in $(printf '%s' "$text" | tr ':.' '  '); do
                     case "$word" in [A-Za-z_]*) grep -qxF -- "$word" "$known" || echo "$page: nothing is named $word ($text)" ;; esac
                 done ;;
