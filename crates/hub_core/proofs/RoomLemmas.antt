@@ -6,7 +6,7 @@ use Rattle.query_normal.proofs.BitLemmas.{length-flat_bits}
 use Rattle.flat_snapshot.specs.PageText.{page_text, page_with, head_text, bytes_of}
 use Rattle.flat_snapshot.proofs.ByteLemmas.{bytes_of-flat_bits}
 use Rattle.flat_snapshot.proofs.WriteLemmas.{length-head_text, after_head, length-page_text}
-use Rattle.expiring_filter.proofs.HeldLemmas.{whole_written}
+use Rattle.expiring_filter.proofs.CountLemmas.{whole_written}
 use Rattle.hub_core.specs.declared.room.Numbers.{Numbers}
 use Rattle.hub_core.specs.Room.{IsKept, page_in}
 
@@ -14,7 +14,7 @@ use Rattle.hub_core.specs.Room.{IsKept, page_in}
 pub filled : (lent room after text : List ℕ) (len n : ℕ) → lent ≡ room → length lent ≡ len → length after ≡ length lent → length room ≤ n → after ≡ text ++ drop n lent →
     take len (after ++ drop (length after) room) ≡ text
 filled lent room after text len n value long same full written =
-    whole_written after room len (same ∙ ap length value) (sym long ∙ ap length value)
+    whole_written room lent after len value long same
     ∙ written
     ∙ ap (λ (xs : List ℕ). text ++ xs) (drop_of_length-le lent (let size = ap length value in omega (arith, size, full)))
     ∙ append-nil text

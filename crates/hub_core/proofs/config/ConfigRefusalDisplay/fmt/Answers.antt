@@ -5,4 +5,4 @@ use Rattle.hub_core.specs.ConfigRefusal.{sentence}
 use Rattle.hub_core.proofs.config.ConfigRefusalDisplay.fmt.Goals as goal
 
 pub returns-in-BadTtl-clause-writes : goal.returns-in-BadTtl-clause-writes
-returns-in-BadTtl-clause-writes g c = λ plain ok. has_written_of_eq _ _ _ _ _ (sym (ap sentence c.in-BadTtl.is)) (c.write.ensures.writes plain ok)
+returns-in-BadTtl-clause-writes g c = λ plain ok. has_written_of_eq _ _ _ _ _ (sym (ap sentence c.in-BadTtl.is)) (c.write-in-BadTtl.ensures.writes plain ok)

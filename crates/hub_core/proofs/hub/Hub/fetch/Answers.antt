@@ -5,7 +5,7 @@ use Rattle.hub_model.specs.Reply.{fetched}
 use Rattle.hub_model.specs.State.{at_moment}
 use Rattle.hub_core.specs.Room.{RoomView}
 use Rattle.hub_core.specs.Standing.{HubView, IsAt}
-use Rattle.hub_core.proofs.HubLemmas.{hub-passed, lean-passed, setting-passed, page-at}
+use Rattle.hub_core.proofs.HubLemmas.{hub-passed, setting-passed, page-at}
 use Rattle.hub_core.proofs.hub.Hub.fetch.Goals as goal
 
 -- the hub when its clock has moved
