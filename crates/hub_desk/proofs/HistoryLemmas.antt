@@ -1,7 +1,6 @@
 -- What one entry more does to a history.
 use Rattle.std.proofs.Common.{◌≡◌, ◌↔◌, ℕ, true, false, nat_lt, lt-ltb, le-ltb, Some, ◌+◌, ◌<◌, ◌≤◌, List, [], ◌∷◌, ◌++◌, length, refl, sym, ap, ◌∙◌, append-nil, arith, subst}
 use Rattle.std.specs.List.{enumerate_from}
-use Rattle.commit_book.specs.declared.change.Change.{Change}
 use Rattle.hub_model.specs.declared.entry.Entry.{Entry}
 use Rattle.hub_model.specs.declared.entry.Matched.{Matched}
 use Rattle.hub_model.specs.declared.entry.Stats.{Stats}
@@ -12,8 +11,8 @@ use Rattle.hub_model.specs.Reply.{Replied, matched, counted, reply, reply_in}
 use Rattle.hub_model.specs.Setting.{Setting}
 use Rattle.hub_model.specs.Record.{page_of}
 use Rattle.hub_desk.specs.Desk.{matching, MatchesAll, Fetches, IsNoted}
-use Rattle.hub_core.specs.Room.{Fetched}
-use Rattle.hub_core.specs.Standing.{HubValue, IsAt, Stands}
+use Rattle.hub_core.specs.Room.{RoomView}
+use Rattle.hub_core.specs.Standing.{HubView, IsAt, Represents}
 use Rattle.hub_model.specs.State.{State, start}
 use Rattle.hub_model.specs.Step.{after, after_all, state_of}
 
@@ -36,7 +35,7 @@ noted old new es state legal stored =
     }
 
 -- the hub after entries that may follow stands for the longer history
-pub stands-more : (h new : HubValue) (history longer es : List Entry) → Stands h history → IsLegalFrom h.setting (state_of h.setting history) es → new.setting ≡ h.setting → IsAt new (after_all h.setting (state_of h.setting history) es) → IsNoted history longer es → Stands new longer
+pub stands-more : (h new : HubView) (history longer es : List Entry) → Represents h history → IsLegalFrom h.setting (state_of h.setting history) es → new.setting ≡ h.setting → IsAt new (after_all h.setting (state_of h.setting history) es) → IsNoted history longer es → Represents new longer
 stands-more h new history longer es stands may setting at n =
     let there : after_all h.setting (state_of h.setting history) es ≡ state_of h.setting longer = sym (n.state h.setting) in
     record {
@@ -45,7 +44,7 @@ stands-more h new history longer es stands may setting at n =
     }
 
 -- what the hub told is the reply at the entry's place
-pub replied_there : (g : Setting) (h : HubValue) (history : List Entry) (e : Entry) (told : Replied) → g ≡ h.setting → told ≡ reply_in h.setting (state_of h.setting history) e → told ≡ reply g (history ++ []) e
+pub replied_there : (g : Setting) (h : HubView) (history : List Entry) (e : Entry) (told : Replied) → g ≡ h.setting → told ≡ reply_in h.setting (state_of h.setting history) e → told ≡ reply g (history ++ []) e
 unfolding reply
 replied_there g h history e told setting told_is =
     let nothing : history ++ [] ≡ history = append-nil history in
@@ -65,7 +64,7 @@ mine_there seen longer history e seen_is longer_is =
     cc
 
 -- what the hub told is the reply at the entry's place, which only this desk can have filled
-abbrev pub made : (g : Setting) (seen longer : List Entry) (h : HubValue) (history : List Entry) (e : Entry) (told : Replied) → g ≡ h.setting → seen ≡ history → Stands h history → MayFollow h.setting (state_of h.setting history) e → IsNoted history longer (e ∷ []) → told ≡ reply_in h.setting (state_of h.setting history) e → Makes g seen longer (enumerate_from 0 seen) (enumerate_from 0 longer) e told
+abbrev pub made : (g : Setting) (seen longer : List Entry) (h : HubView) (history : List Entry) (e : Entry) (told : Replied) → g ≡ h.setting → seen ≡ history → Represents h history → MayFollow h.setting (state_of h.setting history) e → IsNoted history longer (e ∷ []) → told ≡ reply_in h.setting (state_of h.setting history) e → Makes g seen longer (enumerate_from 0 seen) (enumerate_from 0 longer) e told
 made g seen longer h history e told setting seen_is stands may n told_is =
     record {
       before = history;
@@ -83,43 +82,43 @@ pub learnt : (g : Setting) (seen : List Entry) (mine : List (ℕ × Entry)) → 
 learnt g seen mine = record { grew = ([], append-nil seen); legal = λ h. h; mine = refl }
 
 -- a read of the last commit may follow, as the front is not above it
-pub may_read : (h : HubValue) (history : List Entry) (at : ℕ) → Stands h history → (state_of h.setting history).front ≤ length (state_of h.setting history).journal → at ≡ length h.journal → ((state_of h.setting history).front ≤ at) × (at ≤ length (state_of h.setting history).journal)
+pub may_read : (h : HubView) (history : List Entry) (at : ℕ) → Represents h history → (state_of h.setting history).front ≤ length (state_of h.setting history).journal → at ≡ h.commits → ((state_of h.setting history).front ≤ at) × (at ≤ length (state_of h.setting history).journal)
 may_read h history at stands within last =
-    let same : length h.journal ≡ length (state_of h.setting history).journal = ap (λ (l : List Change). length l) stands.state.journal in
+    let same : h.commits ≡ length (state_of h.setting history).journal = stands.state.book.commits in
     (omega (arith, within, same, last), omega (arith, same, last))
 
 -- a match of all commits may follow where the front is behind
-pub may_match : (h : HubValue) (history : List Entry) (front to : ℕ) → Stands h history → front ≡ h.front → to ≡ length h.journal → front < to → ((state_of h.setting history).front < to) × (to ≤ length (state_of h.setting history).journal)
+pub may_match : (h : HubView) (history : List Entry) (front to : ℕ) → Represents h history → front ≡ h.front → to ≡ h.commits → front < to → ((state_of h.setting history).front < to) × (to ≤ length (state_of h.setting history).journal)
 may_match h history front to stands front_is to_is behind =
-    let same : length h.journal ≡ length (state_of h.setting history).journal = ap (λ (l : List Change). length l) stands.state.journal in
-    let there : h.front ≡ (state_of h.setting history).front = stands.state.front in
+    let same : h.commits ≡ length (state_of h.setting history).journal = stands.state.book.commits in
+    let there : h.front ≡ (state_of h.setting history).front = stands.state.time.front in
     (omega (arith, front_is, behind, there), omega (arith, to_is, same))
 
 -- where the front is behind, all commits are matched by a match
-match_behind : (g : Setting) (h : HubValue) (history : List Entry) (moment front to : ℕ) → g ≡ h.setting → Stands h history → front ≡ h.front → to ≡ length h.journal → front < to → Match moment to ≡ matching (state_of g (history ++ [])) moment
+match_behind : (g : Setting) (h : HubView) (history : List Entry) (moment front to : ℕ) → g ≡ h.setting → Represents h history → front ≡ h.front → to ≡ h.commits → front < to → Match moment to ≡ matching (state_of g (history ++ [])) moment
 match_behind g h history moment front to setting stands front_is to_is behind =
     let s : State = state_of h.setting history in
     let nothing : history ++ [] ≡ history = append-nil history in
     let there : state_of g (history ++ []) ≡ s = cc in
-    let commits : length h.journal ≡ length s.journal = ap (λ (l : List Change). length l) stands.state.journal in
+    let commits : h.commits ≡ length s.journal = stands.state.book.commits in
     let up : to ≡ length s.journal = to_is ∙ commits in
-    let test : nat_lt s.front (length s.journal) ≡ true = let f = stands.state.front in lt-ltb s.front (length s.journal) (omega (arith, behind, up, front_is, f)) in
+    let test : nat_lt s.front (length s.journal) ≡ true = let f = stands.state.time.front in lt-ltb s.front (length s.journal) (omega (arith, behind, up, front_is, f)) in
     let here : matching s moment ≡ Match moment (length s.journal) = rw test refl in
     ap (λ (n : ℕ). Match moment n) up ∙ sym here ∙ ap (λ (x : State). matching x moment) (sym there)
 
 -- where the front is the last commit, a tick is all
-tick_there : (g : Setting) (h : HubValue) (history : List Entry) (moment front to : ℕ) → g ≡ h.setting → Stands h history → front ≡ h.front → to ≡ length h.journal → to ≤ front → Tick moment ≡ matching (state_of g (history ++ [])) moment
+tick_there : (g : Setting) (h : HubView) (history : List Entry) (moment front to : ℕ) → g ≡ h.setting → Represents h history → front ≡ h.front → to ≡ h.commits → to ≤ front → Tick moment ≡ matching (state_of g (history ++ [])) moment
 tick_there g h history moment front to setting stands front_is to_is ahead =
     let s : State = state_of h.setting history in
     let nothing : history ++ [] ≡ history = append-nil history in
     let there : state_of g (history ++ []) ≡ s = cc in
-    let commits : length h.journal ≡ length s.journal = ap (λ (l : List Change). length l) stands.state.journal in
-    let test : nat_lt s.front (length s.journal) ≡ false = let f = stands.state.front in le-ltb s.front (length s.journal) (omega (arith, ahead, commits, to_is, front_is, f)) in
+    let commits : h.commits ≡ length s.journal = stands.state.book.commits in
+    let test : nat_lt s.front (length s.journal) ≡ false = let f = stands.state.time.front in le-ltb s.front (length s.journal) (omega (arith, ahead, commits, to_is, front_is, f)) in
     let here : matching s moment ≡ Tick moment = rw test refl in
     sym here ∙ ap (λ (x : State). matching x moment) (sym there)
 
 -- the desk matched all commits by a match
-pub matched_all : (g : Setting) (seen longer : List Entry) (h : HubValue) (history : List Entry) (moment front to : ℕ) (told : Matched) → g ≡ h.setting → seen ≡ history → Stands h history → front ≡ h.front → to ≡ length h.journal → front < to → IsNoted history longer (Match moment to ∷ []) → matched told ≡ reply_in h.setting (state_of h.setting history) (Match moment to) → MatchesAll g seen longer (enumerate_from 0 seen) (enumerate_from 0 longer) moment told
+pub matched_all : (g : Setting) (seen longer : List Entry) (h : HubView) (history : List Entry) (moment front to : ℕ) (told : Matched) → g ≡ h.setting → seen ≡ history → Represents h history → front ≡ h.front → to ≡ h.commits → front < to → IsNoted history longer (Match moment to ∷ []) → matched told ≡ reply_in h.setting (state_of h.setting history) (Match moment to) → MatchesAll g seen longer (enumerate_from 0 seen) (enumerate_from 0 longer) moment told
 matched_all g seen longer h history moment front to told setting seen_is stands front_is to_is behind n told_is =
     record {
       entry = Match moment to;
@@ -130,7 +129,7 @@ matched_all g seen longer h history moment front to told setting seen_is stands 
     }
 
 -- the desk matched all commits by a tick
-pub ticked_all : (g : Setting) (seen longer : List Entry) (h : HubValue) (history : List Entry) (moment front to : ℕ) (stats : Stats) → g ≡ h.setting → seen ≡ history → Stands h history → front ≡ h.front → to ≡ length h.journal → to ≤ front → IsNoted history longer (Tick moment ∷ []) → counted stats ≡ reply_in h.setting (state_of h.setting history) (Tick moment) → MatchesAll g seen longer (enumerate_from 0 seen) (enumerate_from 0 longer) moment (record { front = stats.front; clock = stats.clock })
+pub ticked_all : (g : Setting) (seen longer : List Entry) (h : HubView) (history : List Entry) (moment front to : ℕ) (stats : Stats) → g ≡ h.setting → seen ≡ history → Represents h history → front ≡ h.front → to ≡ h.commits → to ≤ front → IsNoted history longer (Tick moment ∷ []) → counted stats ≡ reply_in h.setting (state_of h.setting history) (Tick moment) → MatchesAll g seen longer (enumerate_from 0 seen) (enumerate_from 0 longer) moment (record { front = stats.front; clock = stats.clock })
 ticked_all g seen longer h history moment front to stats setting seen_is stands front_is to_is ahead n told_is =
     record {
       entry = Tick moment;
@@ -141,7 +140,7 @@ ticked_all g seen longer h history moment front to stats setting seen_is stands 
     }
 
 -- the desk fetched the page into the room
-pub fetched_page : (g : Setting) (seen longer : List Entry) (h : HubValue) (history : List Entry) (moment : ℕ) (room : Fetched) → g ≡ h.setting → seen ≡ history → Stands h history → IsNoted history longer (Fetch moment ∷ []) → room.page ≡ Some (page_of h.setting (after h.setting (state_of h.setting history) (Fetch moment))) → Fetches g seen longer (enumerate_from 0 seen) (enumerate_from 0 longer) moment room
+pub fetched_page : (g : Setting) (seen longer : List Entry) (h : HubView) (history : List Entry) (moment : ℕ) (room : RoomView) → g ≡ h.setting → seen ≡ history → Represents h history → IsNoted history longer (Fetch moment ∷ []) → room.page ≡ Some (page_of h.setting (after h.setting (state_of h.setting history) (Fetch moment))) → Fetches g seen longer (enumerate_from 0 seen) (enumerate_from 0 longer) moment room
 fetched_page g seen longer h history moment room setting seen_is stands n held =
     record {
       page = page_of h.setting (after h.setting (state_of h.setting history) (Fetch moment));
@@ -150,7 +149,7 @@ fetched_page g seen longer h history moment room setting seen_is stands n held =
     }
 
 -- a new hub stands for no entry
-pub new_stands : (h : HubValue) (history : List Entry) → IsAt h start → ((g : Setting) → state_of g [] ≡ start) → ((g : Setting) → IsLegal g []) → history ≡ [] → Stands h history
+pub new_stands : (h : HubView) (history : List Entry) → IsAt h start → ((g : Setting) → state_of g [] ≡ start) → ((g : Setting) → IsLegal g []) → history ≡ [] → Represents h history
 new_stands h history begins state_none legal_none none =
     let nothing : state_of h.setting [] ≡ start = state_none h.setting in
     let state : start ≡ state_of h.setting history = cc in

@@ -1,6 +1,6 @@
 -- What the calls of a desk do that match all commits or fetch a page; and what contracts see of a desk that owns its hub.
 use Rattle.std.specs.Prelude.{◌≡◌, ℕ, ◌++◌, nat_lt, if◌then◌else◌, List, length, Some}
-use Rattle.hub_core.specs.Room.{Fetched}
+use Rattle.hub_core.specs.Room.{RoomView}
 use Rattle.hub_model.specs.declared.entry.Entry.{Entry}
 use Rattle.hub_model.specs.declared.entry.Entry.TheVariants.{Match, Fetch, Tick}
 use Rattle.hub_model.specs.declared.entry.Matched.{Matched}
@@ -31,7 +31,7 @@ pub record MatchesAll (g : Setting) (old new : List Entry) (mine_old mine_new : 
   pub told_is : IsFrontOf replied told
 
 -- The desk has made the entry that fetches a page, and the room holds the page that was told.
-pub record Fetches (g : Setting) (old new : List Entry) (mine_old mine_new : List (ℕ × Entry)) (moment : ℕ) (room : Fetched) : Type 0 where
+pub record Fetches (g : Setting) (old new : List Entry) (mine_old mine_new : List (ℕ × Entry)) (moment : ℕ) (room : RoomView) : Type 0 where
   pub page : Page
   pub held : room.page ≡ Some page
   pub made : Makes g old new mine_old mine_new (Fetch moment) (fetched page)

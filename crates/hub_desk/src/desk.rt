@@ -1,12 +1,12 @@
 //! The store as a connection sees it: calls that make entries of one history.
-ghost use Rattle.std.specs.Prelude.{◌≡◌, ℕ, ◌≤◌, List, length, IfOk, OnOk, OnErr};
+ghost use Rattle.std.specs.Prelude.{◌≡◌, ℕ, ◌≤◌, true, List, length, IfOk, OnOk, OnErr};
 ghost use Rattle.hub_core.specs.Room.{IsRoomFor};
 ghost use Rattle.hub_model.specs.declared.entry.Entry.{Entry as AnEntry};
 ghost use Rattle.hub_model.specs.declared.entry.Entry.TheVariants.{Write, Read, Tick};
 ghost use Rattle.hub_model.specs.Desk.{Makes, Learns};
 ghost use Rattle.hub_model.specs.Reply.{wrote, read, counted};
 ghost use Rattle.hub_model.specs.Setting.{Setting};
-ghost use Rattle.hub_model.specs.Step.{state_of};
+ghost use Rattle.hub_model.specs.Step.{is_accepted, state_of};
 ghost use Rattle.hub_desk.specs.Desk.{MatchesAll, Fetches};
 
 use hub_core::PageRoom;
@@ -46,7 +46,8 @@ pub trait Desk {
         ensures anchor { anchor self.new ≡ anchor self.old }
         ensures setting { setting self.new ≡ setting self.old };
 
-    /// Writes: one entry, behind those that have to stand ahead of it.
+    /// Writes: one entry, behind those that have to stand ahead of it. Memory is wanting only for a
+    /// write that would be accepted: what refuses one is told without.
     fn write(
         &mut self,
         moment: Moment,
@@ -56,6 +57,7 @@ pub trait Desk {
         requires { is_ready self.old }
         ensures made { IfOk result (λ w. Makes (setting self.old) (seen self.old) (seen self.new) (mine self.old) (mine self.new) (Write moment change condition) (wrote w)) }
         ensures memory { OnErr result (Learns (setting self.old) (seen self.old) (seen self.new) (mine self.old) (mine self.new)) }
+        ensures accepted { OnErr result (is_accepted (setting self.old) (state_of (setting self.old) (seen self.new)) change condition ≡ true) }
         ensures again { OnErr result (is_ready self.new) }
         ensures anchor { anchor self.new ≡ anchor self.old }
         ensures setting { setting self.new ≡ setting self.old };

@@ -1,7 +1,7 @@
 //! A desk that owns its hub, and keeps the list of its entries.
 ghost use Rattle.std.specs.Prelude.{◌≡◌, ◌+◌, ◌<◌, ◌≤◌, [], ◌∷◌, length, vec_len, vec_capacity, IfOk};
 ghost use Rattle.std.specs.List.{enumerate_from};
-ghost use Rattle.hub_core.specs.Standing.{Stands};
+ghost use Rattle.hub_core.specs.Standing.{Represents};
 ghost use Rattle.hub_desk.specs.Desk.{IsNoted, most_entries};
 
 use crate::desk::Desk;
@@ -29,7 +29,7 @@ impl Model for Owned {
     ghost use Rattle.std.specs.Coded.{codes};
     ghost use Rattle.q_doc.specs.Code.{tree_code};
     ghost use Rattle.hub_desk.specs.Desk.{Kept};
-    ghost use Rattle.hub_core.specs.Standing.{Stands};
+    ghost use Rattle.hub_core.specs.Standing.{Represents};
 
     ghost Value = { Kept };
 
@@ -41,7 +41,7 @@ impl Model for Owned {
       room = vec_capacity o.entries;
     } };
 
-    ghost invariant = { λ o. Stands o.hub o.entries.items };
+    ghost invariant = { λ o. Represents o.hub o.entries.items };
 }
 
 impl Owned {
@@ -62,7 +62,7 @@ impl Owned {
     /// The hub, which stands for the history.
     pub fn hub(&self) -> &Hub
         ensures setting { result.now.setting ≡ self.now.setting }
-        ensures stands { Stands result.now self.now.entries }
+        ensures stands { Represents result.now self.now.entries }
     {
         &self.hub
     }
