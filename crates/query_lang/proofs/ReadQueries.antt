@@ -18,7 +18,8 @@ use Rattle.query_lang.specs.Bytes.{is_blank, is_word_byte}
 use Rattle.query_lang.specs.FilterText.{IsFilterText}
 use Rattle.query_lang.specs.Grammar.{Segment, bare, in_quotes, path_tokens, path_keys, segment_token, segment_key, Value, text_value, number_value, truth_value, null_value, value_token, value_tree, more_values, value_tokens, FilterTree, alternatives, OrTail, no_or, or_and, AndTree, conjuncts, AndTail, no_and, and_not, NotTree, negation, one, Atom, nested, always, never, existing, comparing, listing, holding, filter_tokens, or_tokens, and_tokens, further_tokens, not_tokens, atom_tokens, all_of, any_of, filter_meaning, or_meanings, and_meaning, further_meanings, not_meaning, atom_meaning, FilterFits, OrsFit, AndFits, FurtherFit, NotFits, AtomFits, Item, item_tokens, more_items, order_tokens, direction_tokens, item_meaning, order_meaning, ItemsFit}
 use Rattle.query_lang.specs.Lexing.{fits}
-use Rattle.query_lang.specs.Limits.{most_segments, usual_take}
+use Rattle.q_doc.specs.Limits.{most_segments}
+use Rattle.query_lang.specs.Limits.{usual_take}
 use Rattle.query_lang.specs.OrderReading.{read_order}
 use Rattle.query_lang.specs.OrderText.{IsOrderText}
 use Rattle.query_lang.specs.Queries.{filter_field, number_field}

@@ -13,7 +13,8 @@ use Rattle.query_lang.specs.declared.operands.Join.{Join}
 use Rattle.query_lang.specs.declared.operands.Join.TheVariants as join
 use Rattle.query_lang.specs.declared.filter_reader.FilterReader.{FilterReader}
 use Rattle.query_core.specs.Limits.{most_leaves, most_height}
-use Rattle.query_lang.specs.Limits.{most_segments, most_open}
+use Rattle.q_doc.specs.Limits.{most_segments}
+use Rattle.query_lang.specs.Limits.{most_open}
 use Rattle.query_lang.specs.declared.refusal.Cause.{Cause}
 use Rattle.query_lang.specs.declared.refusal.Cause.TheVariants as cause
 use Rattle.query_lang.specs.declared.token.Reserved.TheVariants.{And, Or, Not, In, Has, Exists, True, False, Null}

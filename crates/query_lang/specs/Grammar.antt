@@ -20,7 +20,8 @@ use Rattle.query_core.specs.Filters.{Filter, constant, compared, listed, having,
 use Rattle.query_core.specs.Window.{Order}
 use Rattle.query_lang.specs.declared.token.Reserved.TheVariants.{And, Or, Not, In, Has, Exists, True, False, Null, Asc, Desc}
 use Rattle.query_lang.specs.declared.token.Sign.TheVariants.{Compare, Open, Close, OpenList, CloseList, Comma, Dot}
-use Rattle.query_lang.specs.Limits.{most_segments, most_open}
+use Rattle.q_doc.specs.Limits.{most_segments}
+use Rattle.query_lang.specs.Limits.{most_open}
 use Rattle.query_lang.specs.Tokens.{Token, word, name, quoted, number, sign}
 
 -- ---- segments, paths and values

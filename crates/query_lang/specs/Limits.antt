@@ -1,10 +1,6 @@
 -- The limits of texts, beside those of queries.
 use Rattle.std.specs.Prelude.{ℕ}
 
--- the most segments of a path
-abbrev pub most_segments : ℕ
-most_segments = 8
-
 -- the most open parentheses
 abbrev pub most_open : ℕ
 most_open = 64

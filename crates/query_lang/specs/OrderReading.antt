@@ -5,7 +5,7 @@ use Rattle.query_lang.specs.declared.order_reader.OrderPending.{OrderPending}
 use Rattle.query_lang.specs.declared.order_reader.OrderPending.TheVariants as pending
 use Rattle.query_lang.specs.declared.order_reader.OrderReader.{OrderReader}
 use Rattle.query_core.specs.Limits.{most_paths}
-use Rattle.query_lang.specs.Limits.{most_segments}
+use Rattle.q_doc.specs.Limits.{most_segments}
 use Rattle.query_lang.specs.declared.refusal.Cause.{Cause}
 use Rattle.query_lang.specs.declared.refusal.Cause.TheVariants as cause
 use Rattle.query_lang.specs.declared.refusal.QueryRefusal.{QueryRefusal}

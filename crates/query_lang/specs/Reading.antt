@@ -59,7 +59,7 @@ abbrev pub after_token : {S A : Type 0} → (S → Result A QueryRefusal) → �
 after_token more field place (Ok s) = more s
 after_token more field place (Err cause) = Err (refused field place cause)
 
--- Reads the tokens of a text of this length, behind what was read. What no continuation can mend is refused: a token
+-- Reads the tokens of a text of this length, behind what was read. What may not stand is refused: a token
 -- where it begins, a text that ends inside a token at its end, and a byte that a text in quotes cannot have at that byte;
 -- where no such token may stand, at its beginning.
 abbrev pub run : {S A : Type 0} → Rules S A → ℕ → S → Tokens → Result A QueryRefusal

@@ -1,7 +1,8 @@
 //! The limits of the language.
 ghost use Rattle.std.specs.Prelude.{◌≡◌};
 ghost use Rattle.query_core.specs.Limits.{most_leaves, most_height, most_paths, most_skip, most_take};
-ghost use Rattle.query_lang.specs.Limits.{most_segments, most_open, usual_take};
+ghost use Rattle.q_doc.specs.Limits.{most_segments};
+ghost use Rattle.query_lang.specs.Limits.{most_open, usual_take};
 
 use q_doc::MAX_SEGMENTS;
 

@@ -12,7 +12,7 @@ pub enum QueryRefusal {
     /// The text is not in the grammar.
     Syntax {
         field: u8,
-        /// The byte where the first token begins that no continuation can mend, or the text's length.
+        /// The byte where that begins which may not stand there, or the text's length.
         place: usize,
     },
     /// A number has leading zeros, is `-0`, does not fit 64 bits, or is outside its field's limits.

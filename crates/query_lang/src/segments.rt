@@ -1,7 +1,7 @@
 //! The parts of an atom while they are read.
 ghost use Rattle.std.specs.Prelude.{◌≡◌, ◌+◌, ◌<◌, ◌≤◌, length, [], ◌∷◌, ◌++◌, OnOk, IfOk};
 ghost use Rattle.q_doc.specs.PathLength.{IsPath};
-ghost use Rattle.query_lang.specs.Limits.{most_segments};
+ghost use Rattle.q_doc.specs.Limits.{most_segments};
 
 use q_doc::{Node, Path, Text};
 use std::alloc::{AllocError, Global};
