@@ -65,6 +65,11 @@ fn a_page_is_written_and_read_where_there_is_memory(rt: HostRuntime) -> Result<(
     assert_eq!(rt; page.front(), 1);
     assert_eq!(rt; page.commits(), 2);
     assert_eq!(rt; page.moment(), Moment::of(100));
+    // A run in which this allocation is refused shows that the calls behind the last reading take none.
+    assert!(rt;
+        Vec::<u8>::with_capacity(rt.alloc(), 1).is_ok(),
+        "the next allocation was refused"
+    );
     Ok(())
 }
 

@@ -1,0 +1,35 @@
+#!/bin/sh
+# Shows that calls take no memory: `sh tools/no_memory.sh CRATE TEST`. The test does all that may
+# take memory with `?`, then the calls, and ends with an allocation of which it asserts that it
+# succeeds. Of all allocations in turn one is refused. The last that ends the test with want of
+# memory is sought; were the calls to take none, the next refused one is that of the assertion.
+crate=${1:?a crate}
+name=${2:?a test}
+cd "$(dirname "$0")/../crates/$crate" || exit 2
+
+# How the test ends where this allocation fails.
+ended() {
+    rt try --test --fail-alloc "$1" 2>&1 | awk -v name="tests::$name" '
+        $1 == "test" && $2 ~ /::/ { here = ($2 == name); if (here && $NF == "ok") { print "passed"; exit } next }
+        here && /error: Memory/ { print "refused"; exit }
+        here && /the next allocation was refused/ { print "asserted"; exit }'
+}
+
+low=0
+high=64
+while how=$(ended $high) && [ "$how" = refused ]; do
+    low=$high
+    high=$((high * 2))
+done
+while [ $((high - low)) -gt 1 ]; do
+    middle=$(((low + high) / 2))
+    at=$(ended $middle)
+    if [ "$at" = refused ]; then
+        low=$middle
+    else
+        high=$middle
+        how=$at
+    fi
+done
+echo "$crate: $name: $low allocations before the calls; the next refused one: $how"
+[ "$how" = asserted ]
