@@ -1,11 +1,11 @@
 -- Two connections over one history of their own, at the same bytes and moments.
-use Rattle.std.proofs.Common.{◌≡◌, ℕ, ◌+◌, ◌≤◌, ◌++◌, Bool, true, false, List, [], ◌∷◌, length, map, Result, Ok, Err, All, refl, sym, ap, ◌∙◌, subst, arith, append_assoc, append-nil, length-append}
+use Rattle.std.proofs.Common.{◌≡◌, ℕ, ◌+◌, ◌≤◌, ◌++◌, Bool, List, [], ◌∷◌, length, map, Result, Ok, Err, refl, sym, ap, ◌∙◌, subst, arith, append_assoc, append-nil, length-append}
 use Rattle.std.specs.List.{enumerate_from}
 use Rattle.std.proofs.lemmas.List.{append_cancel_left}
 use Rattle.dialogue.specs.Dialogue.{Sides, Exchange, Answered, Dialogue, pieces, is_last}
 use Rattle.dialogue.specs.EndLaw.{SameItems}
 use Rattle.http_front.specs.ReadBack.{RepliesHaveOneText}
-use Rattle.http_front.specs.ReplyText.{IsReplyText, body_of}
+use Rattle.http_front.specs.ReplyText.{body_of}
 use Rattle.http_front.specs.declared.ask.Ask.{Ask}
 use Rattle.http_front.specs.declared.ask.Ask.TheVariants as asks
 use Rattle.http_front.specs.declared.refused.Refused.{Refused}

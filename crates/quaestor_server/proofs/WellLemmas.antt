@@ -1,5 +1,5 @@
 -- What stays true of a connection in a longer history.
-use Rattle.std.proofs.Common.{◌≡◌, ℕ, ◌+◌, ◌++◌, Bool, List, [], ◌∷◌, length, All, refl, sym, ap, ◌∙◌, subst, arith, append_assoc, append-nil, length-append}
+use Rattle.std.proofs.Common.{◌≡◌, ℕ, ◌+◌, ◌++◌, Bool, List, [], ◌∷◌, length, All, refl, sym, ap, ◌∙◌, subst, append_assoc, length-append}
 use Rattle.std.specs.List.{enumerate_from}
 use Rattle.std.proofs.lemmas.List.Elements.{All-nil, All-cons, All-append}
 use Rattle.dialogue.specs.Dialogue.{Sides, Exchange, Answered}
@@ -9,10 +9,10 @@ use Rattle.hub_model.specs.Desk.{IsPrefix, Makes}
 use Rattle.hub_model.specs.Reply.{Replied}
 use Rattle.hub_model.specs.Setting.{Setting}
 use Rattle.q_outside.specs.declared.served.Served.{Served}
-use Rattle.quaestor_server.specs.Answer.{IsAnswer, serves, fails}
+use Rattle.quaestor_server.specs.Answer.{serves, fails}
 use Rattle.quaestor_server.specs.Conversation.{Standing, Replies}
 use Rattle.quaestor_server.specs.WellServed.{WellServed, IsAt}
-use Rattle.quaestor_server.proofs.PrefixLemmas.{prefix_trans, prefix_front}
+use Rattle.quaestor_server.proofs.PrefixLemmas.{prefix_trans}
 
 -- a connection that was well served stays so
 pub well_stays : (g : Setting) (history longer : List Entry) (moments : List ℕ) (entered : List Bool) (before after : Sides) (own : List (ℕ × Entry)) (served : Served) → IsPrefix history longer → WellServed g history moments entered before after own served → WellServed g longer moments entered before after own served

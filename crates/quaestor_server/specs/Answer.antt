@@ -34,7 +34,7 @@ pub record Fails (g : Setting) (old new : List Entry) (mine_old mine_new : List 
 -- How a desk that is ready answers: it serves what is asked, or fails where the entry may want memory.
 pub data IsMade (g : Setting) (old new : List Entry) (mine_old mine_new : List (ℕ × Entry)) (moment : ℕ) (asked : Result Ask Refused) (told : Told) (page : List ℕ) : Type 0 where
   made : Serves g old new mine_old mine_new moment asked told page → IsMade g old new mine_old mine_new moment asked told page
-  wanted : MayWant asked → Fails g old new mine_old mine_new told → IsMade g old new mine_old mine_new moment asked told page
+  wanted : MayWant g new asked → Fails g old new mine_old mine_new told → IsMade g old new mine_old mine_new moment asked told page
 
 -- How a desk answers: it serves what is asked, or fails.
 pub data IsAnswer (g : Setting) (old new : List Entry) (mine_old mine_new : List (ℕ × Entry)) (moment : ℕ) (asked : Result Ask Refused) (told : Told) (page : List ℕ) : Type 0 where

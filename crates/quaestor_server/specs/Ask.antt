@@ -1,5 +1,5 @@
 -- What the items of a connection ask of the store, and what they are told.
-use Rattle.std.specs.Prelude.{◌≡◌, ℕ, ◌≤◌, false, List, length, Result, Ok, Err}
+use Rattle.std.specs.Prelude.{◌≡◌, ℕ, ◌≤◌, true, false, List, length, Result, Ok, Err}
 use Rattle.flat_snapshot.specs.PageText.{page_text}
 use Rattle.http_front.specs.Asks.{ask_of, shape_of}
 use Rattle.http_front.specs.Routes.{all_routes}
@@ -18,7 +18,7 @@ use Rattle.hub_model.specs.declared.entry.Matched.{Matched}
 use Rattle.hub_model.specs.Reply.{Replied, wrote, read, fetched, counted}
 use Rattle.hub_model.specs.Setting.{Setting}
 use Rattle.hub_model.specs.State.{State}
-use Rattle.hub_model.specs.Step.{state_of}
+use Rattle.hub_model.specs.Step.{is_accepted, state_of}
 
 -- what an item asks, or why it is refused
 abbrev pub asked_by : Item → Result Ask Refused
@@ -54,11 +54,11 @@ abbrev pub IsFresh : Setting → List Entry → Entry → Type 0
 IsFresh g known (entries.Read moment key tags at) = length (state_of g known).journal ≤ at
 IsFresh g known e = Unit {0}
 
--- the entry of this ask may want memory: that of a write, a read or a match, and no other
-abbrev pub MayWant : Result Ask Refused → Type 0
-MayWant (Ok (Write change condition)) = Unit {0}
-MayWant (Ok (Read key tags head)) = Unit {0}
-MayWant (Ok MatchAll) = Unit {0}
-MayWant (Ok (Fetch head)) = ⊥
-MayWant (Ok (Stats head)) = ⊥
-MayWant (Err refused) = ⊥
+-- the entry of this ask may want memory, behind a history: that of a write that would be accepted, of a read or of a match, and no other
+abbrev pub MayWant : Setting → List Entry → Result Ask Refused → Type 0
+MayWant g known (Ok (Write change condition)) = is_accepted g (state_of g known) change condition ≡ true
+MayWant g known (Ok (Read key tags head)) = Unit {0}
+MayWant g known (Ok MatchAll) = Unit {0}
+MayWant g known (Ok (Fetch head)) = ⊥
+MayWant g known (Ok (Stats head)) = ⊥
+MayWant g known (Err refused) = ⊥

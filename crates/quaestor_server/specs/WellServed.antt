@@ -5,7 +5,7 @@ use Rattle.hub_model.specs.declared.entry.Entry.{Entry}
 use Rattle.hub_model.specs.Desk.{IsPrefix}
 use Rattle.hub_model.specs.Setting.{Setting}
 use Rattle.q_outside.specs.declared.served.Served.{Served}
-use Rattle.quaestor_server.specs.Conversation.{Standing, Replies}
+use Rattle.quaestor_server.specs.Conversation.{Replies}
 
 -- A connection whose own entries are these, each with its place, was served over a beginning of the history.
 pub record WellServed (g : Setting) (history : List Entry) (moments : List ℕ) (entered : List Bool) (before after : Sides) (own : List (ℕ × Entry)) (served : Served) : Type 0 where
