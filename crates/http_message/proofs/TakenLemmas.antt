@@ -14,7 +14,7 @@ use Rattle.http_message.specs.Input.{IsStopped, IsIdle}
 use Rattle.http_message.specs.Item.{Item, request, unframed, continues, is_head, IsFramed, sized, chunked, broken, framed, IsCut, IsOpen, no_text, cut_short}
 use Rattle.http_message.specs.Message.{Message, message_of, message_in}
 use Rattle.http_message.specs.Next.{Waits}
-use Rattle.http_message.specs.Room.{message_kept, held_of, IsKept, IsRoom}
+use Rattle.http_message.specs.Room.{held_of}
 use Rattle.http_message.specs.Stopped.{taken_by}
 use Rattle.http_message.specs.Taken.{Held, IsTaken, TakesItem, Halts, Breaks, WaitsForNone, continue_where, continue_text}
 use Rattle.http_message.specs.Text.{Unfinished, front_of, lead_length, is_blank}
@@ -22,7 +22,6 @@ use Rattle.http_message.specs.declared.coding.Coded.{Coded}
 use Rattle.http_message.specs.declared.coding.Coded.TheVariants as coded
 use Rattle.http_message.specs.declared.framing.Framing.TheVariants.{Sized, Chunked}
 use Rattle.http_message.specs.declared.headed.Framed.{Framed as FramedHead}
-use Rattle.http_message.specs.declared.kept.Kept.{Kept}
 use Rattle.http_message.specs.declared.refusal.FramingRefusal.{FramingRefusal}
 use Rattle.http_message.specs.declared.stopped.Stopped.{Stopped}
 use Rattle.http_message.specs.declared.stopped.Stopped.TheVariants.{InputEnd, Truncated, ReadFault, WriteFault}
@@ -31,7 +30,7 @@ use Rattle.http_message.proofs.BlankLemmas.{text_not_blank}
 use Rattle.http_message.proofs.CodingLemmas.{coding_within}
 use Rattle.http_message.proofs.HeadLemmas.{message_at}
 use Rattle.http_message.proofs.ItemLemmas.{item_behind, framed_continues}
-use Rattle.http_message.specs.Limits.{head_limit, field_room, trailer_room, body_limit}
+use Rattle.http_message.specs.Limits.{body_limit}
 use Rattle.http_message.proofs.SplitLemmas.{decoded_done, broken_done, open_no_item}
 
 -- a body of a stated length that came whole, or is cut short
@@ -250,20 +249,6 @@ pub taken_seen : (source source' sink sink' : End) (seen room room' : Held) (ans
 taken_seen source source' sink sink' seen room room' answer same is =
     let P : Held → Type 0 = λ r. IsTaken source source' sink sink' r room' answer in subst P same is
 
--- buffers that are written back have what was written
-pub taken_written :
-    (source source' sink sink' : End) (room : Held) (input : List ℕ) (place : ℕ)
-    (text written : List ℕ) (spans laid : List HeaderSpan) (body filled : List ℕ) (kept : Kept) (answer : Taken)
-    → text ≡ written → spans ≡ laid → body ≡ filled
-    → IsTaken source source' sink sink' room (held_of input place (message_kept written laid filled kept)) answer
-    → IsTaken source source' sink sink' room (held_of input place (message_kept text spans body kept)) answer
-taken_written source source' sink sink' room input place text written spans laid body filled kept answer a b c is =
-    let P : Message → Type 0 = λ m. IsTaken source source' sink sink' room (held_of input place m) answer in
-    let same : message_kept written laid filled kept ≡ message_kept text spans body kept =
-    ap (λ (xs : List ℕ). message_kept xs laid filled kept) (sym a) ∙ ap (λ (xs : List HeaderSpan). message_kept text xs filled kept) (sym b)
-    ∙ ap (λ (xs : List ℕ). message_kept text spans xs kept) (sym c) in
-    subst P same is
-
 -- where no item is taken, nothing is said of the room after the call
 pub taken_stopped : (source source' sink sink' : End) (room room' other : Held) (stopped : Stopped)
     → IsTaken source source' sink sink' room room' (taken_by stopped) → IsTaken source source' sink sink' room other (taken_by stopped)
@@ -271,19 +256,3 @@ taken_stopped source source' sink sink' room room' other InputEnd is = is
 taken_stopped source source' sink sink' room room' other Truncated is = is
 taken_stopped source source' sink sink' room room' other ReadFault is = is
 taken_stopped source source' sink sink' room room' other WriteFault is = is
-
--- and they have their sizes
-pub room_written : (text written : List ℕ) (spans laid spare : List HeaderSpan) (body filled : List ℕ) (kept : Kept)
-    → text ≡ written → spans ≡ laid → body ≡ filled → length written ≡ head_limit → length laid ≡ field_room
-    → length spare ≡ trailer_room → length filled ≡ body_limit → IsKept written laid filled kept → IsRoom text spans spare body kept
-room_written text written spans laid spare body filled kept a b c long wide some full is =
-    let P : List ℕ → Type 0 = λ xs. IsKept xs spans body kept in
-    let Q : List HeaderSpan → Type 0 = λ xs. IsKept written xs body kept in
-    let R : List ℕ → Type 0 = λ xs. IsKept written laid xs kept in
-    record {
-      text_size = ap length a ∙ long;
-      spans_size = ap length b ∙ wide;
-      spare_size = some;
-      body_size = ap length c ∙ full;
-      is_kept = subst P (sym a) (subst Q (sym b) (subst R (sym c) is));
-    }

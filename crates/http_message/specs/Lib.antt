@@ -1,4 +1,5 @@
 pub mod Bodied
+pub mod Buffers
 pub mod Coded
 pub mod Coding
 pub mod Fields

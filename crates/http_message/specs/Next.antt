@@ -1,7 +1,7 @@
 -- What taking the next item answers, and when it waits for more bytes.
 use Rattle.std.specs.Prelude.{◌≡◌, ◌⊎◌, ℕ, Bool, List, Result, Ok, Err}
-use Rattle.httparse.specs.declared.spans.HeaderSpan.{HeaderSpan}
 use Rattle.q_outside.specs.Told.{End}
+use Rattle.http_message.specs.Buffers.{Contents}
 use Rattle.http_message.specs.Item.{IsOpen}
 use Rattle.http_message.specs.Room.{IsKept, message_kept, held_of}
 use Rattle.http_message.specs.Stopped.{taken_by}
@@ -9,12 +9,12 @@ use Rattle.http_message.specs.Taken.{Held, IsTaken}
 use Rattle.http_message.specs.declared.next.Next.{Next}
 use Rattle.http_message.specs.declared.stopped.Stopped.{Stopped}
 
--- the answer, with what is held then and the buffers of the last request
-abbrev pub IsNext : (source source' sink sink' : End) → (room : Held) → (held' text : List ℕ) → List HeaderSpan → (body : List ℕ) → Result Next Stopped → Type 0
-IsNext source source' sink sink' room held' text spans body (Ok next) =
-    IsTaken source source' sink sink' room (held_of held' next.place (message_kept text spans body next.kept)) next.taken
-    × IsKept text spans body next.kept
-IsNext source source' sink sink' room held' text spans body (Err stopped) =
+-- the answer, with what the buffers hold then
+abbrev pub IsNext : (source source' sink sink' : End) → (room : Held) → (buffers' : Contents) → Result Next Stopped → Type 0
+IsNext source source' sink sink' room buffers' (Ok next) =
+    IsTaken source source' sink sink' room (held_of buffers'.bytes next.place (message_kept buffers' next.kept)) next.taken
+    × IsKept buffers' next.kept
+IsNext source source' sink sink' room buffers' (Err stopped) =
     IsTaken source source' sink sink' room room (taken_by stopped)
 
 -- nothing is taken from the source, or no item is whole in the bytes that are held

@@ -2,6 +2,7 @@
 #![tactic(auto)]
 
 mod body;
+mod buffers;
 mod chunk;
 mod coding;
 mod fields;

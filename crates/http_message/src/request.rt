@@ -5,13 +5,14 @@ ghost use Rattle.http_message.specs.Bodied.{IsBody};
 ghost use Rattle.http_message.specs.Headed.{HasRoom};
 ghost use Rattle.http_message.specs.Input.{Reads};
 ghost use Rattle.http_message.specs.Item.{IsCut};
-ghost use Rattle.http_message.specs.Limits.{head_limit, field_room, trailer_room, body_limit};
+ghost use Rattle.http_message.specs.Limits.{trailer_room, body_limit};
 ghost use Rattle.http_message.specs.Message.{Message};
 ghost use Rattle.http_message.specs.Next.{IsNext, Waits};
 ghost use Rattle.http_message.specs.Room.{held_of};
 ghost use Rattle.http_message.specs.Taken.{item_limit, continue_text, continue_where};
 
 use crate::body::take_exact;
+use crate::buffers::Buffers;
 use crate::coding::{Coded, take_coded};
 use crate::framing::Framing;
 use crate::headed::{Headed, next_head};
@@ -26,26 +27,24 @@ use q_outside::{Failed, Sink, Source, give_all};
 /// What begins the text of an item that calls for it (RFC 9110, section 15.2.1).
 const CONTINUE: &[u8] = b"HTTP/1.1 100 Continue\r\n\r\n";
 
-/// Takes the next item, which begins at this place. Its head's text, its fields' places and its body
-/// are put to the front of the rooms for them.
+/// Takes the next item, which begins at this place, into the buffers.
 pub fn next_in<S: Source, K: Sink>(
     source: &mut S,
     sink: &mut K,
-    input: &mut Input,
-    text: &mut [u8],
-    spans: &mut [HeaderSpan],
-    spare: &mut [HeaderSpan],
-    body: &mut [u8],
+    buffers: &mut Buffers,
     place: usize,
 ) -> Result<Next, Stopped>
-    requires text { length text.old ≡ head_limit }
-    requires spans { length spans.old ≡ field_room }
-    requires spare { length spare.old ≡ trailer_room }
-    requires body { length body.old ≡ body_limit }
-    requires place { place + item_limit < 2 ^ 64 }
-    ensures next { (message : Message) → IsNext (S.at source.old) (S.at source.new) (K.at sink.old) (K.at sink.new) (held_of input.old place message) input.new text.new spans.new body.new result }
-    ensures waits { Waits (S.at source.old) (S.at source.new) input.old }
+    requires { place + item_limit < 2 ^ 64 }
+    ensures next { (message : Message) → IsNext (S.at source.old) (S.at source.new) (K.at sink.old) (K.at sink.new) (held_of buffers.old.bytes place message) buffers.new result }
+    ensures waits { Waits (S.at source.old) (S.at source.new) buffers.old.bytes }
 {
+    let Buffers {
+        input,
+        text,
+        spans,
+        spare,
+        body,
+    } = buffers;
     let head = match next_head(source, input, text, spans)? {
         Headed::Bad { refused, used } => {
             return Ok(Next::unframed(refused, place, place + used, false));
@@ -54,20 +53,21 @@ pub fn next_in<S: Source, K: Sink>(
     };
     give_continue(sink, head.calls)?;
     let behind = place + head.used;
-    match take_body(source, input, head.framing, body, spare)? {
-        Coded::Whole { size, used } => Ok(Next {
-            taken: Taken::Request { place },
-            place: behind + used,
-            kept: Kept {
-                text: head.text,
-                parts: head.parts,
-                body: size,
-            },
-        }),
+    let (size, used) = match take_body(source, input, head.framing, body, spare)? {
+        Coded::Whole { size, used } => (size, used),
         Coded::Broken { refused, used } => {
-            Ok(Next::unframed(refused, place, behind + used, head.head))
+            return Ok(Next::unframed(refused, place, behind + used, head.head));
         }
-    }
+    };
+    Ok(Next {
+        taken: Taken::Request { place },
+        place: behind + used,
+        kept: Kept {
+            text: head.text,
+            parts: head.parts,
+            body: size,
+        },
+    })
 }
 
 /// Gives `100 Continue` where it is called for.

@@ -1,14 +1,12 @@
 //! The room for a connection's requests, and the requests that are taken into it.
-ghost use Rattle.std.specs.Prelude.{◌≡◌, ◌+◌, ◌<◌, ◌≤◌, ◌^◌, [], IfOk};
+ghost use Rattle.std.specs.Prelude.{◌≡◌, ◌+◌, ◌<◌, ◌^◌, [], IfOk};
 ghost use Rattle.http_message.specs.Taken.{IsTaken, WaitsForNone, item_limit};
 
-use crate::input::Input;
+use crate::buffers::Buffers;
 use crate::kept::Kept;
-use crate::limits::{BODY_LIMIT, FIELD_ROOM, HEAD_LIMIT, TRAILER_ROOM};
 use crate::message::Request;
 use crate::request::next_in;
 use crate::taken::Taken;
-use httparse::spans::{EMPTY_HEADER_SPAN, HeaderSpan};
 use q_base::Memory;
 use q_outside::{Sink, Source};
 use std::alloc::Global;
@@ -18,24 +16,20 @@ use std::marker::Model;
 /// used yet, and the last request. All memory is taken by `new`.
 #[derive(Drop)]
 pub struct RequestRoom {
-    input: Input,
-    text: Vec<u8>,
-    spans: Vec<HeaderSpan>,
-    spare: Vec<HeaderSpan>,
-    body: Vec<u8>,
+    buffers: Buffers,
     kept: Kept,
     place: usize,
 }
 
 impl Model for RequestRoom {
-    ghost use Rattle.http_message.specs.Room.{IsRoom, message_kept, held_of};
+    ghost use Rattle.http_message.specs.Room.{IsKept, message_kept, held_of};
     ghost use Rattle.http_message.specs.Taken.{Held};
 
     ghost Value = { Held };
 
-    ghost view = { λ r. held_of r.input r.place (message_kept r.text.items r.spans.items r.body.items r.kept) };
+    ghost view = { λ r. held_of r.buffers.bytes r.place (message_kept r.buffers r.kept) };
 
-    ghost invariant = { λ r. IsRoom r.text.items r.spans.items r.spare.items r.body.items r.kept };
+    ghost invariant = { λ r. IsKept r.buffers r.kept };
 }
 
 impl RequestRoom {
@@ -43,17 +37,9 @@ impl RequestRoom {
     pub fn new(alloc: Global) -> Result<RequestRoom, Memory>
         ensures { IfOk result (λ room. (room.bytes ≡ []) × (room.place ≡ 0)) }
     {
-        let input = Input::new(alloc)?;
-        let text = vec![in alloc; 0; HEAD_LIMIT]?;
-        let spans = vec![in alloc; EMPTY_HEADER_SPAN; FIELD_ROOM]?;
-        let spare = vec![in alloc; EMPTY_HEADER_SPAN; TRAILER_ROOM]?;
-        let body = vec![in alloc; 0; BODY_LIMIT]?;
+        let buffers = Buffers::new(alloc)?;
         Ok(RequestRoom {
-            input,
-            text,
-            spans,
-            spare,
-            body,
+            buffers,
             kept: Kept::NONE,
             place: 0,
         })
@@ -63,12 +49,7 @@ impl RequestRoom {
     pub fn request(&self) -> Request<'_>
         ensures { result ≡ self.now.message }
     {
-        Request {
-            text: &self.text[..self.kept.text],
-            spans: &self.spans,
-            parts: self.kept.parts,
-            body: &self.body[..self.kept.body],
-        }
+        self.buffers.request(self.kept)
     }
 
     /// Drops what is left of a former connection.
@@ -76,7 +57,7 @@ impl RequestRoom {
         ensures bytes { self.new.bytes ≡ [] }
         ensures place { self.new.place ≡ 0 }
     {
-        self.input.clear();
+        self.buffers.clear();
         self.place = 0;
     }
 }
@@ -93,16 +74,7 @@ pub fn next_request<S: Source, K: Sink>(
     ensures taken { IsTaken (S.at source.old) (S.at source.new) (K.at sink.old) (K.at sink.new) room.old room.new result }
     ensures waits { WaitsForNone (S.at source.old) (S.at source.new) room.old.bytes }
 {
-    match next_in(
-        source,
-        sink,
-        &mut room.input,
-        &mut room.text,
-        &mut room.spans,
-        &mut room.spare,
-        &mut room.body,
-        room.place,
-    ) {
+    match next_in(source, sink, &mut room.buffers, room.place) {
         Ok(next) => {
             room.place = next.place;
             room.kept = next.kept;

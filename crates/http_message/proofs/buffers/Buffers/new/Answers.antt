@@ -1,5 +1,5 @@
-use Rattle.std.proofs.Common.{rules, arith}
-use Rattle.http_message.proofs.room.RequestRoom.new.Goals as goal
+use Rattle.std.proofs.Common.{arith}
+use Rattle.http_message.proofs.buffers.Buffers.new.Goals as goal
 
 pub invariant_of-result : goal.invariant_of-result
 invariant_of-result c = record {
@@ -7,5 +7,4 @@ invariant_of-result c = record {
   spans_size = omega (arith, c.in_ok-spans.ensures.len, c.in_ok-spans.spans.ok.0);
   spare_size = omega (arith, c.in_ok-spare.ensures.len, c.in_ok-spare.spare.ok.0);
   body_size = omega (arith, c.in_ok-body.ensures.len, c.in_ok-body.body.ok.0);
-  is_kept = search rules;
 }
