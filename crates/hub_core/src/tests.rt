@@ -300,6 +300,18 @@ fn writes_are_judged_by_what_they_find_and_take(rt: HostRuntime) -> Result<(), F
     Ok(())
 }
 
+/// Matches all commits, where the front is behind.
+fn match_all(hub: &mut Hub) -> Result<(), Fail>
+    ensures { hub.new.setting ≡ hub.old.setting }
+{
+    let to = hub.commits();
+    if hub.front() >= to {
+        return Ok(());
+    }
+    hub.match_to(Moment::of(1), to)?;
+    Ok(())
+}
+
 /// The last allocation is refused where it is the first one behind the set-up: the calls between take
 /// no memory.
 #[test]
@@ -313,9 +325,7 @@ fn fetch_tick_and_holds_take_no_memory(rt: HostRuntime) -> Result<(), Fail> {
     hub.write(Moment::of(1), &change, &Condition::Always)?;
     hub.read(Moment::of(1), &key, &Tags::Any)?;
     hub.write(Moment::of(1), &change, &Condition::Always)?;
-    if hub.front() < 2 && 2 <= hub.commits() {
-        hub.match_to(Moment::of(1), 2)?;
-    }
+    match_all(&mut hub)?;
     hub.fetch(Moment::of(60), &mut room);
     let held = hub.holds(&key) && hub.record_count() == 1;
     let stats = hub.tick(Moment::of(61));
