@@ -103,7 +103,7 @@ impl Copies {
     pub fn has_room(&self, key: &Key) -> bool
         ensures { result ≡ has_room self.now key.now }
     {
-        self.issued.active(key) || self.issued.active_count() < self.config.active()
+        self.issued.active_count() < self.config.active() || self.issued.active(key)
     }
 
     /// Hands out a copy of a key for a lifetime, and none where that is 0. The key is not ready any

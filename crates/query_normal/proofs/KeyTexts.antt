@@ -59,3 +59,16 @@ key_text-injective (Record c i) (Record d j) p q e =
     let cut : c ++ 47 ∷ i ≡ d ++ 47 ∷ j = sym (append_assoc c (47 ∷ []) i) ∙ tails ∙ append_assoc d (47 ∷ []) j in
     let parts = parts_unique c d i j (no_slash c p.0) (no_slash d q.0) cut in
     ap₂ Record parts.0 parts.1
+
+-- tests of facts that follow of each other answer alike
+pub alike : {P Q : Type 0} (x y : Bool) → Decides x P → Decides y Q → (P → Q) → (Q → P) → x ≡ y
+alike true true d e to back = refl
+alike true false d e to back = sym (e.1 (to (d.0 refl)))
+alike false true d e to back = d.1 (back (e.0 refl))
+alike false false d e to back = refl
+
+-- to compare the texts of keys is to compare the keys
+pub same_text-same_key : (a b : KeyShape) → IsKey a → IsKey b → bytes_eq (key_text a) (key_text b) ≡ same_key a b
+same_text-same_key a b p q =
+    alike (bytes_eq (key_text a) (key_text b)) (same_key a b) (bytes_eq-Decides (key_text a) (key_text b)) (same_key-Decides a b)
+    (key_text-injective a b p q) (ap key_text)

@@ -41,8 +41,9 @@ impl Model for Shared {
     ghost invariant = { λ s. record { text : s.text.items ≡ key_text s.shape; valid : IsKey s.shape } };
 }
 
-/// A key, which keeps its text. Contracts see its shape: keys are compared by their shapes, and hashed
-/// by their texts. A copy shares what the key keeps, so that it takes no memory.
+/// A key, which keeps its text. Contracts see its shape: keys are compared by their shapes, those of
+/// records by their texts, which tell their names, and hashed by their texts. A copy shares what the
+/// key keeps, so that it takes no memory.
 #[derive(Debug, Drop)]
 pub struct Key {
     shared: Arc<Shared>,
@@ -178,7 +179,10 @@ impl PartialEq for Key {
     ghost laws = { partial_equiv_from_equiv same_key_equiv };
 
     fn eq(&self, other: &Key) -> bool {
-        self.shape() == other.shape()
+        match (self.shape(), other.shape()) {
+            // The texts of two keys of records are one comparison, and tell their names.
+            (KeyShape::Record { .. }, KeyShape::Record { .. }) => self.text() == other.text(),
+        }
     }
 }
 
