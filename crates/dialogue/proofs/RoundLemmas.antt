@@ -1,5 +1,6 @@
 -- One turn of a connection, of what its calls say.
 use Rattle.std.proofs.Common.{◌≡◌, ℕ, ◌<◌, ◌++◌, ◌||◌, Bool, true, List, length, Option, Some, None, Result, Ok, Err, refl, sym, ap, ◌∙◌, subst, arith}
+use Rattle.std.specs.Option.{is_some}
 use Rattle.http_message.specs.Item.{Item, request, unframed, IsItem, closes, continues}
 use Rattle.http_message.specs.Message.{Message}
 use Rattle.http_message.specs.declared.refusal.FramingRefusal.{FramingRefusal}
@@ -11,6 +12,7 @@ use Rattle.q_outside.proofs.Chain.{gave_both}
 use Rattle.dialogue.specs.Dialogue.{Sides, Exchange, BreaksIn, end_by}
 use Rattle.dialogue.specs.Round.{IsStep, Turns, IsRound}
 use Rattle.dialogue.specs.declared.step.Step.{Step}
+use Rattle.dialogue.proofs.ItemLemmas.{end-closes}
 use Rattle.dialogue.proofs.ProgressLemmas.{part_breaks}
 
 -- An item was taken, which left the sink as `middle` tells, and answered by this text.
@@ -33,12 +35,13 @@ module _ {A : Type 0} (answers : A → Item → Bool → List ℕ → A → Type
       (record { piece = t.taken.used; item = item; answer = text }, record { uses = t.taken.uses; is_item = t.taken.is; answered = t.answered }, part_breaks a.sink middle b.sink (continue_where (continues item)) text t.taken.gave gave)
 
   -- so did that of a request
-  pub turned_request : {T E : Type 0} (message held : Message) (close : Bool) (given : Result T E) (end : Option Why) (step : Step) → message ≡ held → TakesItem a.source b.source a.sink middle room room' (request held) → close ≡ (closes (request message) || final) → (text : List ℕ) × answers first (request message) close text next × Gave middle b.sink text given → ((place : ℕ) → end ≡ end_by place (request message)) → IsStep given end step → IsRound answers first next a b room room' final step
+  pub turned_request : {T E : Type 0} (message held : Message) (close : Bool) (given : Result T E) (end : Option Why) (step : Step) → message ≡ held → TakesItem a.source b.source a.sink middle room room' (request held) → close ≡ (is_some end || final) → (text : List ℕ) × answers first (request message) close text next × Gave middle b.sink text given → ((place : ℕ) → end ≡ end_by place (request message)) → IsStep given end step → IsRound answers first next a b room room' final step
   turned_request message held close given end step same taken close_is reply end_is is =
+      let closing : close ≡ (closes (request message) || final) = close_is ∙ ap (λ (e : Option Why). is_some e || final) (end_is room.place) ∙ ap (λ (v : Bool). v || final) (end-closes room.place (request message)) in
       turned (request message) reply.0 given end step
       (record {
         taken = subst (λ (m : Message). TakesItem a.source b.source a.sink middle room room' (request m)) (sym same) taken;
-        answered = subst (λ (v : Bool). answers first (request message) v reply.0 next) close_is reply.1;
+        answered = subst (λ (v : Bool). answers first (request message) v reply.0 next) closing reply.1;
       })
       reply.2 (end_is room.place) is
 

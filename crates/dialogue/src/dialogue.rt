@@ -5,7 +5,7 @@
 //! them, the bytes that were taken besides, and what is true at the end that is answered.
 ghost use Rattle.std.specs.Prelude.{◌≡◌, ℕ, ◌+◌, ◌<◌, ◌^◌, ◌||◌};
 ghost use Rattle.std.specs.Option.{is_some};
-ghost use Rattle.http_message.specs.Item.{request as a_request, closes};
+ghost use Rattle.http_message.specs.Item.{request as a_request};
 ghost use Rattle.http_message.specs.Taken.{item_limit};
 ghost use Rattle.dialogue.specs.Dialogue.{Dialogue, end_by};
 ghost use Rattle.dialogue.specs.Round.{IsRound};
@@ -30,10 +30,10 @@ fn end_of(request: &Request<'_>) -> Option<Why>
 }
 
 /// Whether the connection ends after a request: it asks for it, or is the last that is answered.
-fn is_last(request: &Request<'_>, last: bool) -> bool
-    ensures { result ≡ (closes (a_request request.now) || last) }
+fn is_last(end: Option<Why>, last: bool) -> bool
+    ensures { result ≡ (is_some end || last) }
 {
-    request.closes() || last
+    end.is_some() || last
 }
 
 /// Takes the next item and has it answered. It is the last that may be where `last` says so.
@@ -53,8 +53,9 @@ fn round<A: Answers, S: Source, K: Sink>(
     match next_request(source, sink, room) {
         Taken::Request { .. } => {
             let request = room.request();
-            let given = answerer.answer(sink, &request, is_last(&request, last));
-            Step::of(given, end_of(&request))
+            let end = end_of(&request);
+            let given = answerer.answer(sink, &request, is_last(end, last));
+            Step::of(given, end)
         }
         Taken::Framing {
             refused,
