@@ -1,5 +1,4 @@
-//! What no clause says: the worked case of the capacity, that calls succeed where there is memory, and
-//! which take none.
+//! What no clause says: the worked case of the capacity, and that calls succeed where there is memory.
 
 use crate::{Book, BookRefusal, Change};
 use q_base::Name;
@@ -77,11 +76,23 @@ fn has_text(book: &Book, commit: u64, shop: &Name, id: &Name, want: &[u8]) -> bo
 /// A book of four commits: p2 is put, deleted and put again, and p10 is put.
 fn four_commits(alloc: Global) -> Result<Book, Fail> {
     let mut book = Book::new(alloc, 65_792)?;
-    add(alloc, &mut book, b"p2", b"{\"a\":1}")?;
-    add(alloc, &mut book, b"p10", b"{\"b\":2}")?;
-    add(alloc, &mut book, b"p2", b"")?;
-    add(alloc, &mut book, b"p2", b"{\"a\":4}")?;
+    put_two(alloc, &mut book)?;
+    put_again(alloc, &mut book)?;
     Ok(book)
+}
+
+/// Puts two records.
+fn put_two(alloc: Global, book: &mut Book) -> Result<(), Fail> {
+    add(alloc, book, b"p2", b"{\"a\":1}")?;
+    add(alloc, book, b"p10", b"{\"b\":2}")?;
+    Ok(())
+}
+
+/// Deletes the first of them and puts it again.
+fn put_again(alloc: Global, book: &mut Book) -> Result<(), Fail> {
+    add(alloc, book, b"p2", b"")?;
+    add(alloc, book, b"p2", b"{\"a\":4}")?;
+    Ok(())
 }
 
 #[test]
@@ -106,25 +117,5 @@ fn lists_are_made_where_there_is_memory(rt: HostRuntime) -> Result<(), Fail> {
     assert_eq!(rt; documents.len(), 2);
     let commits = book.commits(0, last)?;
     assert_eq!(rt; commits.len() as u64, last);
-    Ok(())
-}
-
-/// The last allocation is refused where it is the first one behind the set-up: the calls between take
-/// no memory.
-#[test]
-fn look_ups_and_reserved_changes_take_no_memory(rt: HostRuntime) -> Result<(), Fail> {
-    let alloc = rt.alloc();
-    let shop = Name::read(alloc, b"shop")?;
-    let id = Name::read(alloc, b"p2")?;
-    let mut book = four_commits(alloc)?;
-    let change = change(alloc, b"p3", b"{\"a\":5}")?;
-    book.reserve(&change)?;
-    let commit = book.add(&change)?;
-    let last = book.count();
-    let found = book.document_at(last, &shop, &id).is_some()
-        && book.text_at(last, &shop, &id).is_some();
-    assert!(rt; found && commit == 5 && book.altered(5).is_some() && change.cost() == 77);
-    let next = Vec::<u8>::with_capacity(alloc, 1);
-    assert!(rt; next.is_ok(), "the next allocation was refused");
     Ok(())
 }
