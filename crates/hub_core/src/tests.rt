@@ -1,4 +1,4 @@
-//! What no clause says: that calls succeed where there is memory, which take none, and worked
+//! What no clause says: that calls succeed where there is memory, and worked
 //! histories, whose answers come from outside.
 ghost use Rattle.std.specs.Prelude.{◌≡◌};
 ghost use Rattle.hub_core.specs.Room.{IsRoomFor};
@@ -297,40 +297,5 @@ fn writes_are_judged_by_what_they_find_and_take(rt: HostRuntime) -> Result<(), F
     assert!(rt; found(alloc)?);
     assert!(rt; deleted(alloc)?);
     assert!(rt; taken(alloc)?);
-    Ok(())
-}
-
-/// Matches all commits, where the front is behind.
-fn match_all(hub: &mut Hub) -> Result<(), Fail>
-    ensures { hub.new.setting ≡ hub.old.setting }
-{
-    let to = hub.commits();
-    if hub.front() >= to {
-        return Ok(());
-    }
-    hub.match_to(Moment::of(1), to)?;
-    Ok(())
-}
-
-/// The last allocation is refused where it is the first one behind the set-up: the calls between take
-/// no memory.
-#[test]
-fn fetch_tick_and_holds_take_no_memory(rt: HostRuntime) -> Result<(), Fail> {
-    let alloc = rt.alloc();
-    let config = Config::new(10, 6, 1, 60, 10_000, 65_792)?;
-    let mut room = PageRoom::new(alloc, &config)?;
-    let mut hub = Hub::new(alloc, config)?;
-    let key = key(alloc)?;
-    let change = change_to(alloc, br#"{"a":1}"#)?;
-    hub.write(Moment::of(1), &change, &Condition::Always)?;
-    hub.read(Moment::of(1), &key, &Tags::Any)?;
-    hub.write(Moment::of(1), &change, &Condition::Always)?;
-    match_all(&mut hub)?;
-    hub.fetch(Moment::of(60), &mut room);
-    let held = hub.holds(&key) && hub.record_count() == 1;
-    let stats = hub.tick(Moment::of(61));
-    assert!(rt; held && !hub.holds(&key) && stats.commits == 2);
-    let next = Vec::<u8>::with_capacity(alloc, 1);
-    assert!(rt; next.is_ok(), "the next allocation was refused");
     Ok(())
 }
