@@ -1,0 +1,7 @@
+pub mod Places
+pub mod Views
+pub mod Rule
+pub mod Plays
+pub mod Seats
+pub mod Turns
+pub mod Closing
