@@ -19,11 +19,11 @@ sum_next h1 h2 at i e =
     ap (λ n. (n + h2) % 2 ^ 64) e ∙ mod-add-mod (h1 + i * h2) (2 ^ 64) h2 ∙ ap (λ n. n % 2 ^ 64) next
 
 -- one position more
-pub made_next : (log2_bits h1 h2 i p : ℕ) (places : List ℕ) → i < length places →
-    take i places ≡ map (position log2_bits h1 h2) (range_with_len 0 i) → p ≡ position log2_bits h1 h2 i →
-    take (i + 1) (set places i p) ≡ map (position log2_bits h1 h2) (range_with_len 0 (i + 1))
-made_next log2_bits h1 h2 i p places within made e =
-    take_more_set places i p within ∙ ap (λ xs. xs ++ p ∷ []) made
+pub made_next : (log2_bits h1 h2 i p : ℕ) (values : List ℕ) → i < length values →
+    take i values ≡ map (position log2_bits h1 h2) (range_with_len 0 i) → p ≡ position log2_bits h1 h2 i →
+    take (i + 1) (set values i p) ≡ map (position log2_bits h1 h2) (range_with_len 0 (i + 1))
+made_next log2_bits h1 h2 i p values within made e =
+    take_more_set values i p within ∙ ap (λ xs. xs ++ p ∷ []) made
     ∙ ap (λ n. map (position log2_bits h1 h2) (range_with_len 0 i) ++ n ∷ []) e
     ∙ sym (map-range_with_len_more (position log2_bits h1 h2) 0 i i (omega arith))
 

@@ -1,4 +1,4 @@
--- The greatest moment that there is.
+-- Internal. The greatest moment.
 use Rattle.std.specs.Prelude.{ℕ}
 
 -- the last second of the year 9999, in seconds since 1970

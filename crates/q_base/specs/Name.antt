@@ -1,4 +1,4 @@
--- What a name is.
+-- Believed. Which bytes are a name.
 use Rattle.std.specs.Prelude.{◌≡◌, ℕ, ◌≤◌, Bool, not, ◌||◌, ◌&&◌, if◌then◌else◌, ◌==◌, nat_le, nat_lt, List, length, Option, Some, None, Result, Ok, Err}
 use Rattle.std.specs.List.{position}
 use Rattle.q_base.specs.declared.name.NameRefusal.{NameRefusal}
@@ -8,11 +8,11 @@ use Rattle.q_base.specs.declared.name.NameRefusal.TheVariants.{Empty, TooLong, B
 abbrev pub is_name_byte : ℕ → Bool
 is_name_byte byte = (nat_le 97 byte && nat_le byte 122) || (nat_le 48 byte && nat_le byte 57) || byte == 95 || byte == 45
 
--- the offset of the first byte that no name has
+-- the offset of the first byte that a name cannot have
 abbrev pub first_bad : List ℕ → Option ℕ
 first_bad bytes = position (λ byte. not (is_name_byte byte)) bytes
 
--- the most bytes of a name
+-- the greatest length of a name
 abbrev pub most_name_bytes : ℕ
 most_name_bytes = 64
 
@@ -22,12 +22,12 @@ pub record IsName (bytes : List ℕ) : Type 0 where
   pub few : length bytes ≤ most_name_bytes
   pub good : first_bad bytes ≡ None
 
--- the name that bytes of a fitting number are, or the first byte that no name has
+-- bytes of an allowed length as a name, or the first byte that a name cannot have
 abbrev pub name_unless : List ℕ → Option ℕ → Result (List ℕ) NameRefusal
 name_unless bytes None = Ok bytes
 name_unless bytes (Some place) = Err (BadByte place)
 
--- the name that bytes are, or the first reason why they are none
+-- bytes as a name, or the first reason why they are none
 abbrev pub read_name : List ℕ → Result (List ℕ) NameRefusal
 read_name bytes =
     if length bytes == 0 then Err Empty

@@ -1,4 +1,4 @@
--- The sentence of each reason why bytes are no name.
+-- Internal. The sentence of each reason why bytes are not a name.
 use Rattle.std.specs.Prelude.{ℕ, List, ◌++◌, codes, decimal}
 use Rattle.q_base.specs.declared.name.NameRefusal.{NameRefusal}
 use Rattle.q_base.specs.declared.name.NameRefusal.TheVariants.{Empty, TooLong, BadByte, Memory}

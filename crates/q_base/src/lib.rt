@@ -1,4 +1,4 @@
-//! Moments, commits, names, texts and positions: the plain values that every layer speaks of.
+//! The values that every layer uses: moments, commits, names, texts and positions.
 #![tactic(auto)]
 
 mod memory;

@@ -1,10 +1,10 @@
-//! The answer for want of memory.
+//! The error where memory ran out.
 
 use std::alloc::{AllocError, AllocFailed};
 use std::error::Error;
 use std::fmt;
 
-/// Want of memory. A call that answers it leaves its object as it was, and may be made again.
+/// Out of memory. A call that returns it leaves its object as it was, and may be made again.
 #[derive(Clone, Copy, Debug, PartialEq, Eq)]
 pub struct Memory;
 

@@ -7,7 +7,7 @@ use std::marker::Model;
 /// The number of an accepted write, counted from 1. Commit 0 is the empty store.
 pub type Commit = u64;
 
-/// The last second of the year 9999, the greatest that a date of HTTP can show.
+/// The last second of the year 9999: a date of HTTP has a year of four digits (RFC 9110, 5.6.7).
 pub const GREATEST_SECONDS: u64 = 253_402_300_799;
 
 /// A whole number of seconds since 1970, at most the last second of the year 9999.
@@ -30,7 +30,7 @@ impl Model for Moment {
 }
 
 impl Moment {
-    /// The moment so many seconds after 1970 began; a greater number than the greatest is taken as that.
+    /// The moment a number of seconds after 1970 began, at most the greatest moment.
     pub fn of(seconds: u64) -> Moment
         ensures { result ≡ min seconds greatest_moment }
     {

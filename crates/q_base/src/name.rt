@@ -16,11 +16,11 @@ use std::fmt;
 use std::hash::{Hash, Hasher};
 use std::marker::Model;
 
-/// The most bytes that a name has.
+/// The greatest length of a name.
 pub const MOST_NAME_BYTES: usize = 64;
 
 /// The name of a collection or of a document: 1 to 64 bytes of `a` to `z`, `0` to `9`, `_` and `-`.
-/// It is 24 bytes large, and takes memory only where it has more than 22 bytes.
+/// It is 24 bytes large. It allocates only where it has more than 22 bytes.
 #[derive(Drop)]
 pub struct Name {
     text: ShortText,
@@ -37,7 +37,7 @@ impl Model for Name {
     ghost invariant = { λ n. IsName n.text };
 }
 
-/// Why bytes are no name. The first that holds, in this order, is the answer.
+/// Why bytes are not a name. The first cause, in this order, is returned.
 #[derive(Clone, Copy, Debug, PartialEq, Eq)]
 pub enum NameRefusal {
     /// There is no byte.
@@ -47,12 +47,12 @@ pub enum NameRefusal {
         /// The number of bytes.
         length: usize,
     },
-    /// A byte that no name has.
+    /// There is a byte that a name cannot have.
     BadByte {
         /// The offset of the first such byte.
         place: usize,
     },
-    /// There was no memory for the name, which takes some where it has more than 22 bytes.
+    /// Memory ran out. Only a name of more than 22 bytes allocates.
     Memory,
 }
 
@@ -82,7 +82,7 @@ impl fmt::Display for NameRefusal {
 impl Error for NameRefusal {}
 
 impl Name {
-    /// The name that these bytes are. It takes memory where they are more than 22.
+    /// Reads bytes as a name. It allocates only where there are more than 22.
     pub fn read(alloc: Global, bytes: &[u8]) -> Result<Name, NameRefusal>
         ensures { (result ≡ Err NameRefusal.Memory) ⊎ (result ≡ read_name bytes.now) }
     {
@@ -102,7 +102,7 @@ impl Name {
         }
     }
 
-    /// The name of bytes that were looked through.
+    /// The name of bytes that were checked.
     fn of(alloc: Global, bytes: &[u8]) -> Result<Name, AllocError>
         requires { IsName bytes.now }
         ensures { IfOk result (λ name. name ≡ bytes.now) }
@@ -129,7 +129,7 @@ fn is_name_byte(byte: u8) -> bool
     byte.is_ascii_lowercase() || byte.is_ascii_digit() || byte == b'_' || byte == b'-'
 }
 
-/// The offset of the first byte that no name has.
+/// The offset of the first byte that a name cannot have.
 fn first_bad(bytes: &[u8]) -> Option<usize>
     ensures { result ≡ first_bad bytes.now }
 {

@@ -1,4 +1,4 @@
-//! The positions of a text among the bits of a Bloom filter.
+//! The positions of a text among the bits of a Bloom filter (Bloom 1970).
 ghost use Rattle.std.specs.Prelude.{◌≡◌, ◌+◌, ◌^◌, ◌<◌, ◌≤◌, length, take, drop, map, All};
 ghost use Rattle.std.specs.Int.{w64, from_be_bytes};
 ghost use Rattle.std.specs.List.{range_with_len};
@@ -7,10 +7,10 @@ ghost use Rattle.q_base.specs.Positions.{position, positions_of};
 use sha2::{Digest, Sha256};
 use std::marker::Model;
 
-/// The positions of a text, at most 16. They take no memory beside their own.
+/// The positions of a text, at most 16. They are stored inline.
 #[derive(Debug, Drop)]
 pub struct Positions {
-    places: [u32; 16],
+    values: [u32; 16],
     count: usize,
 }
 
@@ -19,23 +19,23 @@ impl Model for Positions {
 
     ghost Value = { List ℕ };
 
-    ghost view = { λ p. take p.count p.places };
+    ghost view = { λ p. take p.count p.values };
 
     ghost invariant = { λ p. p.count ≤ 16 };
 }
 
 impl Positions {
-    /// The positions in turn.
+    /// The positions in order.
     pub fn as_slice(&self) -> &[u32]
         ensures same { result.now ≡ self.now }
         ensures few { length self.now ≤ 16 }
     {
-        &self.places[..self.count]
+        &self.values[..self.count]
     }
 }
 
-/// The positions of a text among `2^log2_bits` bits, one for each hash. They come of the text's
-/// SHA-256, so a text is hashed once.
+/// The positions of a text among `2^log2_bits` bits, one for each hash. Two halves of one SHA-256
+/// (FIPS 180-4) give all of them, by double hashing (Kirsch and Mitzenmacher 2006).
 pub fn positions_of(text: &[u8], log2_bits: u8, hashes: u8) -> Positions
     requires bits { log2_bits ≤ 32 }
     requires few { hashes ≤ 16 }
@@ -63,7 +63,7 @@ fn word_at(bytes: &[u8], from: usize) -> u64
     }
 }
 
-/// The positions that begin at one hash and go on by the other.
+/// The positions that begin at the first hash and step by the second.
 fn steps_from(first: u64, step: u64, log2_bits: u8, count: usize) -> Positions
     requires bits { log2_bits ≤ 32 }
     requires few { count ≤ 16 }
@@ -72,11 +72,11 @@ fn steps_from(first: u64, step: u64, log2_bits: u8, count: usize) -> Positions
     ensures count { length result ≡ count }
 {
     let mask = (1u64 << log2_bits) - 1;
-    let mut places = [0; 16];
+    let mut values = [0; 16];
     let mut at = first;
     for i in 0..count {
-        places[i] = (at & mask) as u32;
+        values[i] = (at & mask) as u32;
         at = at.wrapping_add(step);
     }
-    Positions { places, count }
+    Positions { values, count }
 }

@@ -1,11 +1,11 @@
-//! Bytes that many hold and nobody changes.
+//! Bytes that are shared and never change.
 ghost use Rattle.std.specs.Prelude.{◌≡◌, IfOk};
 
 use std::alloc::{AllocError, Global};
 use std::marker::Model;
 use std::sync::Arc;
 
-/// Any bytes, which stand once for all copies of the text: a copy takes no memory and constant time.
+/// Any bytes, which all clones of the text share: a clone allocates nothing and takes constant time.
 /// Contracts see the list of them.
 #[derive(Debug, Drop)]
 pub struct SharedText {
@@ -22,7 +22,7 @@ impl Model for SharedText {
 }
 
 impl SharedText {
-    /// The text of these bytes, which are not copied.
+    /// The text of these bytes, which are taken over.
     pub fn of(alloc: Global, bytes: Vec<u8>) -> Result<SharedText, AllocError>
         ensures { IfOk result (λ text. text ≡ bytes.items) }
     {

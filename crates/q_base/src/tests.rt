@@ -1,9 +1,9 @@
-//! What no clause says: outside vectors, and that calls succeed where there is memory.
+//! What no clause says: known vectors, and that calls succeed where there is memory.
 
 use crate::{Name, SharedText, positions_of};
 use std::test::Fail;
 
-// The size that the README tells.
+// The size that the README gives.
 const _: () = prove!(size_of::<Name>() == 24);
 
 #[test]
@@ -67,7 +67,7 @@ fn positions_are_those_of_the_vectors(rt: HostRuntime) -> Result<(), Fail> {
 }
 
 #[test]
-fn names_are_read_and_copied_from_the_shortest_to_the_longest(rt: HostRuntime) -> Result<(), Fail> {
+fn names_are_read_and_cloned_from_the_shortest_to_the_longest(rt: HostRuntime) -> Result<(), Fail> {
     let longest = [b'z'; 64];
     let cases: [&[u8]; 5] = [b"0", b"shop-1_a", &longest[..22], &longest[..23], &longest];
     for text in cases {
@@ -79,10 +79,10 @@ fn names_are_read_and_copied_from_the_shortest_to_the_longest(rt: HostRuntime) -
 }
 
 #[test]
-fn a_shared_text_and_its_copy_have_the_bytes(rt: HostRuntime) -> Result<(), Fail> {
+fn a_shared_text_and_its_clone_have_the_bytes(rt: HostRuntime) -> Result<(), Fail> {
     let text = SharedText::of(rt.alloc(), b"abc".to_vec(rt.alloc())?)?;
-    let copy = text.clone()?;
+    let clone = text.clone()?;
     assert_eq!(rt; text.as_slice(), b"abc".as_slice());
-    assert_eq!(rt; copy.as_slice(), b"abc".as_slice());
+    assert_eq!(rt; clone.as_slice(), b"abc".as_slice());
     Ok(())
 }

@@ -1,4 +1,4 @@
-//! Bytes that are a value of their own.
+//! Texts of any bytes.
 ghost use Rattle.std.specs.Prelude.{◌≡◌, ◌==◌, length, nat_eq, Some, refl};
 ghost use Rattle.std.specs.Ordering.{nat_cmp};
 ghost use Rattle.std.specs.Cmp.{partial_equiv_from_equiv};
@@ -27,7 +27,7 @@ impl Model for Text {
 }
 
 impl Text {
-    /// The text of these bytes. It takes no memory.
+    /// The text of these bytes, which are taken over.
     pub fn of(bytes: Vec<u8>) -> Text
         ensures { result ≡ bytes.items }
     {
@@ -55,7 +55,7 @@ impl Text {
         self.bytes.is_empty()
     }
 
-    /// The bytes as they were given. It takes no memory.
+    /// The bytes, without a copy.
     pub fn into_vec(self) -> Vec<u8>
         ensures { result.items ≡ self }
     {

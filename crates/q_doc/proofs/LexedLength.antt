@@ -96,11 +96,11 @@ character_size c =
 -- ---- what a string's text leaves
 
 -- the content, escaped again, and what is behind it take no more than there is
-abbrev Room : ℕ → ℕ → Option (List ℕ) → Type 0
-Room behind n None = ⊤
-Room behind n (Some s) = length (escape s) + behind ≤ n
+abbrev Fits : ℕ → ℕ → Option (List ℕ) → Type 0
+Fits behind n None = ⊤
+Fits behind n (Some s) = length (escape s) + behind ≤ n
 
-either : (behind n : ℕ) (b : Bool) (x y : Option (List ℕ)) → (b ≡ true → Room behind n x) → (b ≡ false → Room behind n y) → Room behind n (cond b x y)
+either : (behind n : ℕ) (b : Bool) (x y : Option (List ℕ)) → (b ≡ true → Fits behind n x) → (b ≡ false → Fits behind n y) → Fits behind n (cond b x y)
 either behind n true x y f g = f refl
 either behind n false x y f g = g refl
 
@@ -108,19 +108,19 @@ abbrev is_found : Option ℕ → Bool
 is_found None = false
 is_found (Some u) = true
 
-then : (behind n : ℕ) (f : ℕ → Option (List ℕ)) (o : Option ℕ) → ((u : ℕ) → o ≡ Some u → Room behind n (f u)) → Room behind n (option_and_then f o)
+then : (behind n : ℕ) (f : ℕ → Option (List ℕ)) (o : Option ℕ) → ((u : ℕ) → o ≡ Some u → Fits behind n (f u)) → Fits behind n (option_and_then f o)
 then behind n f None h = tt
 then behind n f (Some u) h = h u refl
 
-more : (behind n now m : ℕ) (r : Option (List ℕ)) → Room now m r → behind + m ≤ n + now → Room behind n r
+more : (behind n now m : ℕ) (r : Option (List ℕ)) → Fits now m r → behind + m ≤ n + now → Fits behind n r
 more behind n now m None h le = tt
 more behind n now m (Some s) h le = omega arith
 
-longer : (behind n now m : ℕ) (a : List ℕ) (r : Option (List ℕ)) → Room now m r → length (escape a) + behind + m ≤ n + now → Room behind n (prepend a r)
+longer : (behind n now m : ℕ) (a : List ℕ) (r : Option (List ℕ)) → Fits now m r → length (escape a) + behind + m ≤ n + now → Fits behind n (prepend a r)
 longer behind n now m a None h le = tt
 longer behind n now m a (Some s) h le = omega (arith, escape-append a s)
 
--- what a backslash and one byte stand for takes two bytes at most
+-- the byte of a backslash escape takes two bytes at most
 abbrev Two : Option ℕ → Type 0
 Two None = ⊤
 Two (Some c) = length (escape_byte c) ≤ 2
@@ -209,12 +209,12 @@ passed after_backslash = 1
 passed after_u = 2
 passed (after_high h) = 6
 
-string_lexeme : (behind n : ℕ) (o : Option (List ℕ)) → Room (1 + behind) (0 + n) o → behind ≤ n → lexeme_size (token (string_token o)) + behind ≤ suc n
+string_lexeme : (behind n : ℕ) (o : Option (List ℕ)) → Fits (1 + behind) (0 + n) o → behind ≤ n → lexeme_size (token (string_token o)) + behind ≤ suc n
 string_lexeme behind n None h le = omega arith
 string_lexeme behind n (Some s) h le = omega (arith, length-append (escape s) (34 ∷ []))
 
 between_byte : (c : Class) (x : ℕ) (xs : List ℕ) (k : Mode → List Lexeme) → class x ≡ c → size (k between) ≤ length xs → size (k in_word) + word_len xs ≤ length xs → size (k in_string) ≤ length xs
-    → Room (1 + size (k in_string)) (0 + length xs) (content plain xs) → size (lex_byte between c x xs k) ≤ suc (length xs)
+    → Fits (1 + size (k in_string)) (0 + length xs) (content plain xs) → size (lex_byte between c x xs k) ≤ suc (length xs)
 between_byte quote x xs k e free word_end inside text = string_lexeme (size (k in_string)) (length xs) (content plain xs) text inside
 between_byte backslash x xs k e free word_end inside text = omega arith
 between_byte operator x xs k e free word_end inside text = omega (arith, operator_size x)
@@ -258,7 +258,7 @@ mutual
   size-escape (x ∷ xs) = let inside = size-string xs in omega arith
 
   -- a string's content, escaped, with a quote and what is behind
-  size-content : (w : Within) (xs : List ℕ) → Room (1 + size (lex (mode w) xs)) (passed w + length xs) (content w xs)
+  size-content : (w : Within) (xs : List ℕ) → Fits (1 + size (lex (mode w) xs)) (passed w + length xs) (content w xs)
   size-content plain [] = tt
   size-content plain (x ∷ xs) =
       let behind = 1 + size (lex in_string (x ∷ xs)) in

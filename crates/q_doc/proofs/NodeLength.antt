@@ -51,7 +51,7 @@ not_zero x e =
       | inr f ↦ subst (λ (y : ℕ). nat_lt 0 y ≡ true) (sym (eqb-true x 92 f)) refl
     ]
 
--- what stands for a byte has two, six or one byte
+-- the escape of a byte has two, six or one byte
 pub escape_length_is : (x : ℕ) → length (escape_byte x) ≡ cond (has_letter x) 2 (cond (nat_lt x 32) 6 1)
 unfolding escape_byte
 escape_length_is x = letters x _ _ ((x == 34) || (x == 92)) (x == 8) (x == 12) (x == 10) (x == 13) (x == 9) (nat_lt x 32) (not_zero x)

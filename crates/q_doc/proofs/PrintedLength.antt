@@ -29,7 +29,7 @@ token_size : (c : Bool) (t : Token) (ts : List Token) → length (print_from c (
 unfolding print_from
 token_size c t ts = front_size (c && begins t) (token_text t) (print_from (ends t) ts)
 
--- whether a comma stands before what begins here
+-- whether there is a comma before what begins here
 abbrev flag : Place → Bool
 flag fresh = false
 flag after_value = true
@@ -139,7 +139,7 @@ tokens_size text = let all = punctuate_size fresh (lex between text) tt in let l
 
 -- ---- the grammar takes the tokens of what it finds
 
--- what was parsed stands before what is left
+-- the parsed text is followed by the rest
 abbrev Takes : {A : Type 0} → (A → List Token) → Parse A → Type 0
 Takes {A} shown p = (ts : List Token) (a : A) (r : List Token) → p ts ≡ Some (a, r) → ts ≡ shown a ++ r
 

@@ -14,7 +14,7 @@ use Rattle.serde_json.specs.Read.{read, max_depth, of_json, of_items, of_members
 use Rattle.q_doc.specs.Document.{FitsI64}
 use Rattle.q_doc.specs.Found.{found}
 
--- ---- what a value inside an option tells
+-- ---- a value inside an option
 
 pub of_option_map : {A B : Type 0} (f : A → B) (o : Option A) (b : B) → option_map f o ≡ Some b → (a : A) × (o ≡ Some a) × (f a ≡ b)
 of_option_map f None b e = absurd (cc)
@@ -32,7 +32,7 @@ NumberFits (unsigned n) = ⊤
 NumberFits (negative z) = FitsI64 z
 NumberFits (float x) = ⊤
 
--- the key stands before the first key of the members
+-- the key is less than the first key of the members
 abbrev pub Precedes : List ℕ → json.Members → Type 0
 Precedes k json.no_members = ⊤
 Precedes k (json.member l d ms) = slice_cmp nat_cmp k l ≡ Less

@@ -17,7 +17,7 @@ use Rattle.q_doc.specs.Tree.{Tree, number, array, object, Items, Members, no_mem
 use Rattle.std.specs.Str.{IsUtf8}
 use Rattle.q_doc.specs.Document.{PrecedesMembers, AreMembers, HasTexts, MembersHaveTexts}
 use Rattle.q_doc.specs.Found.{whole, whole_items, whole_members}
-use Rattle.q_doc.specs.Reading.{tree_in, items_in, members_in, whole_in, HoldsWhole, IsPlace}
+use Rattle.q_doc.specs.Reading.{tree_in, items_in, members_in, whole_in, HoldsWhole, IsIndexFor}
 use Rattle.q_doc.proofs.ReadData.{of_option_map, of_and_then, MembersAreRead, read_value, read_put}
 use Rattle.q_doc.proofs.WholeLemmas.{members_whole}
 
@@ -94,41 +94,41 @@ of_members-one_more : (ms : List (List ℕ × grammar.Json)) (k : List ℕ) (j :
 of_members-one_more ms k j d fs gs e h rest =
     ap (λ m. of_members m gs) (sym (members_then-member ms k j rest)) ∙ h (grammar.member k j rest) ∙ ap (option_and_then (λ x. of_members rest (put k x fs))) e
 
--- a key at its place is put there
-put_at_place : (fs : json.Members) (ts : List (List ℕ × Tree)) (p : ℕ) (k : List ℕ) (d : json.Data) (t : Tree) → whole_members fs ≡ Some (members_of ts) → whole d ≡ Some t → IsPlace k p ts
+-- a key is inserted at its index
+put_at_index : (fs : json.Members) (ts : List (List ℕ × Tree)) (p : ℕ) (k : List ℕ) (d : json.Data) (t : Tree) → whole_members fs ≡ Some (members_of ts) → whole d ≡ Some t → IsIndexFor k p ts
     → whole_members (put k d fs) ≡ Some (members_of (insert ts p (k, t)))
-put_at_place json.no_members [] zero k d t e w h = rw w
-put_at_place json.no_members [] (suc p) k d t e w h = absurd h
-put_at_place json.no_members (m ∷ ts) p k d t e w h = absurd (cc)
-put_at_place (json.member l x fs) [] p k d t e w h =
+put_at_index json.no_members [] zero k d t e w h = rw w
+put_at_index json.no_members [] (suc p) k d t e w h = absurd h
+put_at_index json.no_members (m ∷ ts) p k d t e w h = absurd (cc)
+put_at_index (json.member l x fs) [] p k d t e w h =
     let first = of_and_then (λ u. option_map (member l u) (whole_members fs)) (whole x) no_members e in
     let rest = of_option_map (member l first.0) (whole_members fs) no_members first.2 in
     absurd (let never = rest.2 in cc)
-put_at_place (json.member l x fs) (m ∷ ts) zero k d t e w h =
+put_at_index (json.member l x fs) (m ∷ ts) zero k d t e w h =
     let first = of_and_then (λ u. option_map (member l u) (whole_members fs)) (whole x) (members_of (m ∷ ts)) e in
     let rest = of_option_map (member l first.0) (whole_members fs) (members_of (m ∷ ts)) first.2 in
     let key : l ≡ m.0 = let same = rest.2 in cc in
     let less : slice_cmp nat_cmp k l ≡ Less = rw key h in
     rw (less, w) (ap (option_map (member k t)) e)
-put_at_place (json.member l x fs) (m ∷ ts) (suc p) k d t e w h =
+put_at_index (json.member l x fs) (m ∷ ts) (suc p) k d t e w h =
     let first = of_and_then (λ u. option_map (member l u) (whole_members fs)) (whole x) (members_of (m ∷ ts)) e in
     let rest = of_option_map (member l first.0) (whole_members fs) (members_of (m ∷ ts)) first.2 in
     let key : l ≡ m.0 = let same = rest.2 in cc in
     let value : first.0 ≡ m.1 = let same = rest.2 in cc in
     let others : rest.0 ≡ members_of ts = let same = rest.2 in cc in
     let above : slice_cmp nat_cmp k l ≡ Greater = rw key h.0 in
-    let more = put_at_place fs ts p k d t (rest.1 ∙ ap Some others) w h.1 in
+    let more = put_at_index fs ts p k d t (rest.1 ∙ ap Some others) w h.1 in
     let here : whole x ≡ Some m.1 = first.1 ∙ ap Some value in
     rw (above, here, more) (ap (λ a. Some (member a m.1 (members_of (insert ts p (k, t))))) key)
 
-pub gathered_more : (ms : List (List ℕ × grammar.Json)) (ts : List (List ℕ × Tree)) (k : List ℕ) (j : grammar.Json) (t : Tree) (p : ℕ) → Gathered ms ts → tree_in j ≡ Some t → IsPlace k p ts
+pub gathered_more : (ms : List (List ℕ × grammar.Json)) (ts : List (List ℕ × Tree)) (k : List ℕ) (j : grammar.Json) (t : Tree) (p : ℕ) → Gathered ms ts → tree_in j ≡ Some t → IsIndexFor k p ts
     → Gathered (ms ++ (k, j) ∷ []) (insert ts p (k, t))
 gathered_more ms ts k j t p g e h =
     let value = of_and_then whole (of_json j) t e in
     record {
       data_so_far = put k value.0 g.data_so_far;
       goes_on = of_members-one_more ms k j value.0 g.data_so_far json.no_members value.1 g.goes_on;
-      whole = put_at_place g.data_so_far ts p k value.0 t g.whole value.2 h;
+      whole = put_at_index g.data_so_far ts p k value.0 t g.whole value.2 h;
       read = read_put k value.0 g.data_so_far (read_value j value.0 value.1) g.read;
     }
 
@@ -138,29 +138,29 @@ gathered_all ms ts g = ap (option_and_then whole_members) (g.goes_on grammar.no_
 pub gathered_rise : (ms : List (List ℕ × grammar.Json)) (ts : List (List ℕ × Tree)) → Gathered ms ts → AreMembers (members_of ts)
 gathered_rise ms ts g = members_whole g.data_so_far (members_of ts) g.read g.whole
 
--- ---- the place of a key
+-- ---- the index of a key
 
-pub first_place : (k : List ℕ) (ts : List (List ℕ × Tree)) → PrecedesMembers k (members_of ts) → IsPlace k 0 ts
-first_place k [] h = tt
-first_place k (m ∷ ts) h = h
+pub first_index : (k : List ℕ) (ts : List (List ℕ × Tree)) → PrecedesMembers k (members_of ts) → IsIndexFor k 0 ts
+first_index k [] h = tt
+first_index k (m ∷ ts) h = h
 
--- a key before the first of members that rise stands before each
+-- a key less than the first of members in order is less than each
 before_each : (k : List ℕ) (ts : List (List ℕ × Tree)) (i : ℕ) (d : List ℕ × Tree) → PrecedesMembers k (members_of ts) → AreMembers (members_of ts) → i < length ts → slice_cmp nat_cmp k (get_or ts i d).0 ≡ Less
 before_each k [] i d h rises some = absurd (omega arith)
 before_each k (m ∷ ts) zero d h rises some = h
 before_each k (m ∷ []) (suc i) d h rises some = absurd (omega arith)
 before_each k (m ∷ n ∷ ts) (suc i) d h rises some = before_each k (n ∷ ts) i d (nat_list_cmp_total.trans k m.0 n.0 h rises.0) rises.2 (omega arith)
 
--- the place after a member is the key's, if it stands after that member and before the next
-pub place_after : (k : List ℕ) (ts : List (List ℕ × Tree)) (i : ℕ) (d : List ℕ × Tree) → AreMembers (members_of ts) → i < length ts → slice_cmp nat_cmp k (get_or ts i d).0 ≡ Greater
-    → PrecedesMembers k (members_of (drop (suc i) ts)) → IsPlace k (suc i) ts
-place_after k [] i d rises some above below = absurd (omega arith)
-place_after k (m ∷ ts) zero d rises some above below = (above, first_place k ts below)
-place_after k (m ∷ ts) (suc i) d rises some above below =
+-- the index after a member is the key's, if the key is greater than that member and less than the next
+pub index_after : (k : List ℕ) (ts : List (List ℕ × Tree)) (i : ℕ) (d : List ℕ × Tree) → AreMembers (members_of ts) → i < length ts → slice_cmp nat_cmp k (get_or ts i d).0 ≡ Greater
+    → PrecedesMembers k (members_of (drop (suc i) ts)) → IsIndexFor k (suc i) ts
+index_after k [] i d rises some above below = absurd (omega arith)
+index_after k (m ∷ ts) zero d rises some above below = (above, first_index k ts below)
+index_after k (m ∷ ts) (suc i) d rises some above below =
     let passed : slice_cmp nat_cmp m.0 (get_or ts i d).0 ≡ Less = before_each m.0 ts i d rises.0 rises.2 (omega arith) in
     let after : slice_cmp nat_cmp (get_or ts i d).0 k ≡ Less = nat_list_cmp_total.antisymm (get_or ts i d).0 k ∙ ap ordering_reverse above in
     let first : slice_cmp nat_cmp k m.0 ≡ Greater = nat_list_cmp_total.antisymm k m.0 ∙ ap ordering_reverse (nat_list_cmp_total.trans m.0 (get_or ts i d).0 k passed after) in
-    (first, place_after k ts i d rises.2 (omega arith) above below)
+    (first, index_after k ts i d rises.2 (omega arith) above below)
 
 -- ---- depth and texts, with one more
 
@@ -182,7 +182,7 @@ MembersHaveTexts-insert [] (suc p) k t h u g = (u, g, tt)
 MembersHaveTexts-insert (m ∷ ts) zero k t h u g = (u, g, h)
 MembersHaveTexts-insert (m ∷ ts) (suc p) k t h u g = (h.0, h.1, MembersHaveTexts-insert ts p k t h.2 u g)
 
--- ---- the search for a place, from the end
+-- ---- the search for the index, from the end
 
 pub none_after : (k : List ℕ) (ts : List (List ℕ × Tree)) (n : ℕ) → length ts ≤ n → PrecedesMembers k (members_of (drop n ts))
 none_after k [] zero h = tt
@@ -195,15 +195,15 @@ before_one_more k [] i d some h = absurd (omega arith)
 before_one_more k (m ∷ ts) zero d some h = h
 before_one_more k (m ∷ ts) (suc i) d some h = before_one_more k ts i d (omega arith) h
 
-pub place_found : (k : List ℕ) (ts : List (List ℕ × Tree)) (p : ℕ) (d : List ℕ × Tree) → AreMembers (members_of ts) → 0 < p → p ≤ length ts
-    → slice_cmp nat_cmp k (get_or ts (p - 1) d).0 ≡ Greater → PrecedesMembers k (members_of (drop p ts)) → IsPlace k p ts
-place_found k ts zero d rises some within above below = absurd (omega arith)
-place_found k ts (suc i) d rises some within above below =
+pub index_found : (k : List ℕ) (ts : List (List ℕ × Tree)) (p : ℕ) (d : List ℕ × Tree) → AreMembers (members_of ts) → 0 < p → p ≤ length ts
+    → slice_cmp nat_cmp k (get_or ts (p - 1) d).0 ≡ Greater → PrecedesMembers k (members_of (drop p ts)) → IsIndexFor k p ts
+index_found k ts zero d rises some within above below = absurd (omega arith)
+index_found k ts (suc i) d rises some within above below =
     let same : suc i - 1 ≡ i = omega arith in
-    place_after k ts i d rises (omega arith) (subst (λ n. slice_cmp nat_cmp k (get_or ts n d).0 ≡ Greater) same above) below
+    index_after k ts i d rises (omega arith) (subst (λ n. slice_cmp nat_cmp k (get_or ts n d).0 ≡ Greater) same above) below
 
-pub place_first : (k : List ℕ) (ts : List (List ℕ × Tree)) (p : ℕ) → p ≡ 0 → PrecedesMembers k (members_of (drop p ts)) → IsPlace k 0 ts
-place_first k ts p e h = first_place k ts (subst (λ n. PrecedesMembers k (members_of (drop n ts))) e h)
+pub index_first : (k : List ℕ) (ts : List (List ℕ × Tree)) (p : ℕ) → p ≡ 0 → PrecedesMembers k (members_of (drop p ts)) → IsIndexFor k 0 ts
+index_first k ts p e h = first_index k ts (subst (λ n. PrecedesMembers k (members_of (drop n ts))) e h)
 
 -- ---- one value, from its parts
 

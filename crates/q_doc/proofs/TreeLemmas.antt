@@ -1,4 +1,4 @@
--- The parts of arrays and objects: their depth, and how two of them compare from some place on.
+-- The parts of arrays and objects: their depth, and how two of them compare from some index on.
 use Rattle.std.proofs.Common.{◌≡◌, ℕ, zero, suc, ◌<◌, ◌≤◌, min, List, [], ◌∷◌, length, get_or, drop, Less, Greater, nat_cmp, refl, sym, ◌∙◌, arith}
 use Rattle.std.proofs.lemmas.Bool.Decides.{nat_tests}
 use Rattle.q_doc.specs.Tree.{Tree, depth, items_depth, members_depth, items_of, members_of}

@@ -1,4 +1,4 @@
--- How a value is stored, so that proofs can tell values apart: as steps that build it on a stack.
+-- Internal. A code of each value, as steps that build it on a stack.
 use Rattle.std.specs.Prelude.{◌≡◌, ℕ, zero, suc, ℤ, pos, List, [], ◌∷◌, Bool, true, false, refl}
 use Rattle.std.proofs.Common.{ap, ◌∙◌}
 use Rattle.std.specs.Coded.{Coded, code_by, coded×, coded_list, coded_ℕ, coded_ℤ}

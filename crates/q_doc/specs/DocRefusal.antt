@@ -1,4 +1,4 @@
--- The word of each refusal, as replies write it.
+-- Internal. The word and the sentence of each refusal.
 use Rattle.std.specs.Prelude.{ℕ, List, ◌++◌, codes, decimal}
 use Rattle.q_doc.specs.declared.refusal.DocRefusal.{DocRefusal}
 use Rattle.q_doc.specs.declared.refusal.DocRefusal.TheVariants.{TooLong, NotJson, NotObject, TooDeep, NotWhole, Memory}

@@ -1,4 +1,4 @@
--- What a document is: an object within the limits, of whole numbers, whose keys are in order.
+-- Internal. Which values are documents: objects within the limits, of whole numbers, whose keys are in order.
 use Rattle.std.specs.Prelude.{◌≡◌, ℕ, ◌<◌, ◌≤◌, ◌^◌, ℤ, pos, negsuc, List, true, ⊤}
 use Rattle.std.specs.Ordering.{nat_cmp}
 use Rattle.std.specs.declared.cmp.Ordering.TheVariants.{Less}
@@ -12,7 +12,7 @@ abbrev pub FitsI64 : ℤ → Type 0
 FitsI64 (pos n) = n < 2 ^ 63
 FitsI64 (negsuc n) = n < 2 ^ 63
 
--- the key stands before the first key of the members
+-- the key is less than the first key of the members
 abbrev pub PrecedesMembers : List ℕ → Members → Type 0
 PrecedesMembers k no_members = ⊤
 PrecedesMembers k (member l t ms) = slice_cmp nat_cmp k l ≡ Less

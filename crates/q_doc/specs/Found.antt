@@ -1,4 +1,4 @@
--- The value that a text holds, as a tree, where all its numbers are whole.
+-- Believed. The JSON value of a text, as a tree where all its numbers are whole.
 use Rattle.std.specs.Prelude.{ℕ, List, Option, Some, None, option_map, option_and_then, if◌then◌else◌}
 use Rattle.std.specs.Str.{is_utf8}
 use Rattle.serde_json.specs.Data as json
@@ -6,7 +6,7 @@ use Rattle.serde_json.specs.Read.{read}
 use Rattle.serde_json.specs.Find.{as_i64}
 use Rattle.q_doc.specs.Tree.{Tree, null, boolean, number, text, array, object, Items, no_items, item, Members, no_members, member}
 
--- the JSON value that the bytes are; bytes that are not UTF-8 are none
+-- the JSON value (RFC 8259) of the bytes; none where they are not JSON in UTF-8
 abbrev pub found : List ℕ → Option json.Data
 found bytes = if is_utf8 bytes then read bytes else None
 

@@ -1,4 +1,4 @@
--- What a text is read as: a document, or the first reason why it is none.
+-- Believed. The result of reading a text: a document, or the first reason why it is none.
 use Rattle.std.specs.Prelude.{◌≡◌, ◌⊎◌, ℕ, length, List, Option, Some, None, Result, Ok, Err, nat_lt, if◌then◌else◌}
 use Rattle.serde_json.specs.Data as json
 use Rattle.q_doc.specs.Tree.{Tree}
@@ -33,19 +33,19 @@ abbrev pub judged_found : Option json.Data → Result Tree DocRefusal
 judged_found None = Err NotJson
 judged_found (Some d) = judged_data d
 
--- the answer to a text, but for want of memory
+-- the result for a text, unless memory runs out
 abbrev pub judged : List ℕ → Result Tree DocRefusal
 judged bytes =
     if nat_lt longest_document (length bytes)
     then Err (TooLong (length bytes))
     else judged_found (found bytes)
 
--- a conversion fails for want of memory, or because there is nothing for some number
+-- a conversion fails where memory ran out, or where some number has no value
 abbrev pub FailsToConvert : {A : Type 0} → Option A → DocRefusal → Type 0
 FailsToConvert converted refusal =
     (refusal ≡ Memory) ⊎ ((refusal ≡ NotWhole) × (converted ≡ None))
 
--- a text yields no JSON value for want of memory, or because it is none
+-- parsing fails where memory ran out, or where the text is not JSON
 abbrev pub FailsToParse : List ℕ → DocRefusal → Type 0
 FailsToParse bytes refusal =
     (refusal ≡ Memory) ⊎ ((refusal ≡ NotJson) × (found bytes ≡ None))

@@ -1,4 +1,4 @@
--- The order of values: by type first, and then by value.
+-- Believed. The order of values: by type first, and then by value.
 use Rattle.std.specs.Prelude.{ℕ, Option}
 use Rattle.std.specs.Option.{option_cmp}
 use Rattle.std.specs.Ordering.{ordering_then, nat_cmp, int_cmp, bool_cmp}
@@ -7,7 +7,7 @@ use Rattle.std.specs.declared.cmp.Ordering.TheVariants.{Less, Equal, Greater}
 use Rattle.std.specs.Cmp.Lexicographic.{slice_cmp}
 use Rattle.q_doc.specs.Tree.{Tree, null, boolean, number, text, array, object, Items, no_items, item, Members, no_members, member}
 
--- the place of a value's type among the types
+-- the rank of a value's type among the types
 abbrev pub rank : Tree → ℕ
 rank null = 0
 rank (boolean b) = 1
@@ -31,7 +31,7 @@ abbrev mutual
   alike_cmp (object a) (object b) = members_cmp a b
   alike_cmp t u = Equal
 
-  -- the first elements that differ decide, and a shorter array stands before a longer one
+  -- the first elements that differ decide, and a prefix is less than a longer array
   pub items_cmp : Items → Items → Ordering
   items_cmp no_items no_items = Equal
   items_cmp no_items (item u us) = Less

@@ -1,4 +1,4 @@
--- The order of values is total, and values that it does not tell apart are the same.
+-- Internal. The order of values is total, and values that tie are the same.
 use Rattle.std.specs.Prelude.{◌≡◌, ℕ, ℤ, List, Bool, true, false, Option, Some, None, refl}
 use Rattle.std.proofs.Common.{sym, ap, ap₂, ◌∙◌}
 use Rattle.std.specs.Bool.{Decides}
@@ -42,7 +42,7 @@ chained : {K : Type 0} {R : K → K → Ordering} → IsTotalOrder R → (x y z 
 chained total x y z o s u later e f =
     then_chain _ _ _ o s u (total.trans x y z) (λ tie. total.congr x y z tie) (λ tie. sym (alike_right total y z x tie)) later e f
 
--- ---- values that the order does not tell apart
+-- ---- values that tie
 
 bool_same : (a b : Bool) → bool_cmp a b ≡ Equal → a ≡ b
 bool_same false false e = refl

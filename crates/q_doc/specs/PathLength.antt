@@ -1,4 +1,4 @@
--- How many segments a path has.
+-- Internal. How many segments a path has.
 use Rattle.std.specs.Prelude.{◌≤◌, length, List, ℕ}
 use Rattle.q_doc.specs.Limits.{most_segments}
 

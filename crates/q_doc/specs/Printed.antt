@@ -1,4 +1,4 @@
--- The text that a value is printed as: the JSON of `serde_json`, with no blanks.
+-- Believed. The printed text of a value: compact JSON (RFC 8259), as `serde_json` writes it.
 use Rattle.std.specs.Prelude.{ℕ, List, Bool, ◌||◌, ◌==◌}
 use Rattle.json.specs.Token.{Token}
 use Rattle.json.specs.Tree.{json_tokens}
@@ -33,7 +33,7 @@ abbrev mutual
 abbrev pub printed : Tree → List ℕ
 printed t = compact_text (data_of t)
 
--- ---- for private clauses: the tokens that are written
+-- ---- for private clauses: the written tokens
 
 -- of a value
 abbrev pub tokens_of : Tree → List Token
@@ -47,8 +47,8 @@ items_tokens ts = grammar.items_tokens (items_outline (items_data ts))
 abbrev pub members_tokens : Members → List Token
 members_tokens ms = grammar.members_tokens (members_outline (members_data ms))
 
--- ---- for private clauses: what needs an escape
+-- ---- for private clauses: escapes
 
--- whether a byte is escaped by a backslash and one letter or sign
+-- whether the escape of a byte is a backslash and one character
 abbrev pub has_letter : ℕ → Bool
 has_letter x = x == 34 || x == 92 || x == 8 || x == 12 || x == 10 || x == 13 || x == 9

@@ -1,4 +1,4 @@
--- What reading a text straight into nodes finds.
+-- Internal. What the fast path reads from a text.
 use Rattle.std.specs.Prelude.{◌≡◌, ℕ, zero, suc, List, [], ◌∷◌, ℤ, Option, Some, option_and_then, ⊤}
 use Rattle.std.specs.Ordering.{nat_cmp}
 use Rattle.std.specs.declared.cmp.Ordering.TheVariants.{Less, Greater}
@@ -31,7 +31,7 @@ items_in js = option_and_then whole_items (of_items js)
 abbrev pub members_in : grammar.Members → Option Members
 members_in js = option_and_then whole_members (of_members js json.no_members)
 
--- the grammar's part of some tokens, with the others, is the tree or the trees of it
+-- some tokens parse as a part of the grammar, which gives this tree or these trees, and the rest is left
 abbrev pub Reads : {J T : Type 0} → (J → Option T) → Option (J × List Token) → T → List Token → Type 0
 Reads {J} tree parsed t rest = (j : J) × (parsed ≡ Some (j, rest)) × (tree j ≡ Some t)
 
@@ -39,9 +39,9 @@ Reads {J} tree parsed t rest = (j : J) × (parsed ≡ Some (j, rest)) × (tree j
 abbrev pub HoldsWhole : List ℕ → Tree → Type 0
 HoldsWhole bytes t = (d : json.Data) × (found bytes ≡ Some d) × (whole d ≡ Some t)
 
--- a key that is none of the members' stands before the one at the place, and after those before it
-abbrev pub IsPlace : List ℕ → ℕ → List (List ℕ × Tree) → Type 0
-IsPlace k zero [] = ⊤
-IsPlace k zero (m ∷ ms) = slice_cmp nat_cmp k m.0 ≡ Less
-IsPlace k (suc p) [] = ⊥
-IsPlace k (suc p) (m ∷ ms) = (slice_cmp nat_cmp k m.0 ≡ Greater) × IsPlace k p ms
+-- a new key is less than the member at the index and greater than those before it
+abbrev pub IsIndexFor : List ℕ → ℕ → List (List ℕ × Tree) → Type 0
+IsIndexFor k zero [] = ⊤
+IsIndexFor k zero (m ∷ ms) = slice_cmp nat_cmp k m.0 ≡ Less
+IsIndexFor k (suc p) [] = ⊥
+IsIndexFor k (suc p) (m ∷ ms) = (slice_cmp nat_cmp k m.0 ≡ Greater) × IsIndexFor k p ms

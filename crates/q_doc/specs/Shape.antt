@@ -1,4 +1,4 @@
--- The value of a node, whose children are seen as their values already.
+-- Internal. The value of a node, whose children are seen as their values already.
 use Rattle.q_doc.specs.Tree.{Tree, null, boolean, number, text, array, object, items_of, members_of}
 use Rattle.q_doc.specs.declared.node.Shape.{Shape}
 use Rattle.q_doc.specs.declared.node.Shape.TheVariants.{Null, Bool, Number, Text, Array, Object}

@@ -1,4 +1,4 @@
--- Each child of a node is less deep than the node.
+-- Internal. Each child of a node is less deep than the node.
 use Rattle.std.specs.Prelude.{ℕ, suc, max, ◌+◌, ◌≤◌, List, [], ◌∷◌}
 use Rattle.std.proofs.Common.{arith}
 use denote.Param.Weighed.{most}

@@ -1,4 +1,4 @@
--- What is kept of each document.
+-- Internal. What holds of each document and the length of the text that it was read from.
 use Rattle.std.specs.Prelude.{ℕ, ◌≤◌, length}
 use Rattle.q_doc.specs.Tree.{Tree}
 use Rattle.q_doc.specs.Document.{IsPlainDocument, HasTexts}

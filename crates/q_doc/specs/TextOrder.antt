@@ -1,4 +1,4 @@
--- The order of texts by their bytes, and of paths by their segments.
+-- Internal. The order of texts by their bytes, and of paths by their segments.
 use Rattle.std.specs.Prelude.{◌≡◌, ℕ, List, Bool}
 use Rattle.std.proofs.Common.{sym}
 use Rattle.std.specs.Str.{bytes_eq}
@@ -27,7 +27,7 @@ text_cmp_total = nat_list_cmp_total
 pub text_eq_equiv : IsEquivalence bytes_eq
 text_eq_equiv = nat_list_eq_equiv
 
--- texts are equal where their order does not tell them apart
+-- texts are equal where they tie
 pub text_eq-tie : (a b : List ℕ) → bytes_eq a b ≡ eq_by_cmp text_cmp a b
 text_eq-tie a b = sym (is_eq-slice_cmp a b)
 

@@ -1,4 +1,4 @@
--- The values that documents are made of: numbers are whole, and an object is a list of members.
+-- Believed. The values that documents are made of: numbers are whole, and an object is a list of members.
 use Rattle.std.specs.Prelude.{ℕ, suc, max, ℤ, List, [], ◌∷◌, Bool, true, false}
 
 mutual
@@ -50,7 +50,7 @@ is_object (text s) = false
 is_object (array ts) = false
 is_object (object ms) = true
 
--- how deep arrays and objects nest: one of plain values has depth 1
+-- how deep arrays and objects nest: one of scalars has depth 1
 abbrev mutual
   -- the depth of a value
   pub depth : Tree → ℕ

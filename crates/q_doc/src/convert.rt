@@ -1,4 +1,4 @@
-//! From bytes to a JSON value, and from there to a node.
+//! The slow path of reading: from bytes to a JSON value, and from there to a node.
 ghost use Rattle.std.specs.Prelude.{◌≡◌, ◌<◌, ◌≤◌, ◌^◌, ℕ, Some, IfOk, IfErr, string_bytes};
 ghost use Rattle.std.specs.Str.{IsUtf8};
 ghost use Rattle.serde_json.specs.Data.{depth as json_depth, items_depth as json_items_depth, members_depth as json_members_depth};
@@ -14,7 +14,7 @@ use crate::refusal::DocRefusal;
 use serde_json::{Map, Value};
 use std::alloc::Global;
 
-/// The JSON value of a text.
+/// The JSON value (RFC 8259) of a text.
 pub(crate) fn value_of(alloc: Global, text: &[u8]) -> Result<Value, DocRefusal>
     ensures ok { IfOk result (λ v. found text.now ≡ Some (view v)) }
     ensures nests { IfOk result (λ v. json_depth (view v) < 2 ^ 63) }

@@ -11,7 +11,7 @@ use crate::convert::{depth_of, node_of, value_of};
 use crate::node::Node;
 use crate::print::write_node;
 use crate::print_length::length_of;
-use crate::reading::{Halt, ReadRoom, object_in};
+use crate::reading::{ReadBuffer, Unread, object_in};
 use crate::refusal::{DocRefusal, Memory};
 use crate::text::Text;
 use json::Writer;
@@ -22,7 +22,7 @@ use std::sync::Arc;
 /// The greatest length of a document's text, in bytes.
 pub const MAX_LENGTH: usize = 65_536;
 
-/// The greatest depth of a document. An object of plain values has depth 1.
+/// The greatest depth of a document. An object of scalars has depth 1.
 pub const MAX_DEPTH: usize = 32;
 
 /// A document. Contracts see its value, a `Tree`. It never changes, so its clones share one tree.
@@ -55,31 +55,30 @@ impl Model for Doc {
 }
 
 impl Doc {
-    /// Reads a document. Of equal keys in one object the last value stays, and the keys are put in
-    /// order.
+    /// Reads a document. Of equal keys in one object the last value counts, and the keys are sorted.
     pub fn read(alloc: Global, text: &[u8]) -> Result<Doc, DocRefusal>
         ensures judged { (result ≡ Err DocRefusal.Memory) ⊎ (result ≡ judged text.now) }
         ensures no_longer { IfOk result (λ t. length (printed t) ≤ length text.now) }
     {
-        Doc::read_with(alloc, text, &mut ReadRoom::new(alloc))
+        Doc::read_with(alloc, text, &mut ReadBuffer::new(alloc))
     }
 
-    /// Reads a document as `read` does, in a room that is lent to one read after another.
-    pub fn read_with(alloc: Global, text: &[u8], room: &mut ReadRoom) -> Result<Doc, DocRefusal>
+    /// Reads a document as `read` does, with a buffer that is used again by the next read.
+    pub fn read_with(alloc: Global, text: &[u8], buffer: &mut ReadBuffer) -> Result<Doc, DocRefusal>
         ensures judged { (result ≡ Err DocRefusal.Memory) ⊎ (result ≡ judged text.now) }
         ensures no_longer { IfOk result (λ t. length (printed t) ≤ length text.now) }
     {
         if text.len() > MAX_LENGTH {
             return Err(DocRefusal::TooLong { length: text.len() });
         }
-        match object_in(alloc, text, room) {
+        match object_in(alloc, text, buffer) {
             Ok(node) => Doc::of(alloc, node, text.len()),
-            Err(Halt::Unsure) => Doc::read_any(alloc, text),
-            Err(Halt::Memory) => Err(DocRefusal::Memory),
+            Err(Unread::Unsure) => Doc::read_any(alloc, text),
+            Err(Unread::Memory) => Err(DocRefusal::Memory),
         }
     }
 
-    /// Reads a document the long way, by its JSON value, which tells each cause of refusal.
+    /// Reads a document on the slow path, by its JSON value, which gives the cause of a refusal.
     #[cold]
     fn read_any(alloc: Global, text: &[u8]) -> Result<Doc, DocRefusal>
         requires { length text.now ≤ MAX_LENGTH }
@@ -126,7 +125,7 @@ impl Doc {
         Ok(Text::of(bytes))
     }
 
-    /// The length of the printed document, in bytes. It takes no memory, and as long as printing.
+    /// The length of the printed document, in bytes. It allocates nothing and takes as long as printing.
     pub fn printed_len(&self) -> usize
         ensures { result ≡ length (printed self.now) }
     {

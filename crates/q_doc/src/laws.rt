@@ -1,5 +1,4 @@
-//! Laws of documents and of the order of values. Each is a function that does nothing, and whose
-//! contract is the law.
+//! Laws of documents and of the order of values. Each is an empty function whose contract is the law.
 ghost use Rattle.std.specs.Prelude.{◌≡◌, ◌≤◌, ℕ, List, length, Option};
 ghost use Rattle.std.specs.declared.cmp.Ordering.TheVariants.{Less, Equal};
 ghost use Rattle.std.specs.Cmp.{IsTotalOrder};
@@ -23,7 +22,7 @@ pub fn printed_reads()
         → judged (printed t) ≡ Ok t }
 {}
 
-/// The order of values is total, has an absent value first, and tells different values apart.
+/// The order of values is total, has an absent value first, and ties only equal values.
 pub fn values_are_ordered()
     ensures total { IsTotalOrder value_cmp }
     ensures present_total { IsTotalOrder tree_cmp }

@@ -1,8 +1,8 @@
 //! Documents: JSON objects of whole numbers, read, printed, walked and put in order.
 #![tactic(auto)]
 
+mod clones;
 mod convert;
-mod copies;
 mod doc;
 mod equality;
 pub mod laws;
@@ -23,6 +23,6 @@ pub use node::{Node, Shape};
 pub use node_text::NodeText;
 pub use order::compare;
 pub use path::{MAX_SEGMENTS, Path};
-pub use reading::ReadRoom;
+pub use reading::ReadBuffer;
 pub use refusal::{DocRefusal, Memory};
 pub use text::Text;

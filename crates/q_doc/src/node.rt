@@ -11,7 +11,7 @@ pub struct Node {
     pub shape: Shape,
 }
 
-/// What kind of value a node is, with its parts. Members stand in the order in which they were put.
+/// The kind of a value, with its parts. Members are in the order in which they were added.
 #[cycle(node)]
 #[derive(Drop)]
 pub enum Shape {

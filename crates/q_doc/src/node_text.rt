@@ -1,4 +1,4 @@
-//! A text of a node, or a key, which is UTF-8. A short one stands in the value itself.
+//! A text of a node, or a key, which is UTF-8. A short one is stored inline.
 ghost use Rattle.std.specs.Prelude.{◌≡◌, IfOk, string_bytes};
 ghost use Rattle.std.specs.Str.{IsUtf8};
 
@@ -8,7 +8,7 @@ use std::alloc::{AllocError, Global};
 use std::marker::Model;
 use std::str;
 
-/// A text of a node, or a key. Contracts see its bytes. It is 24 bytes large, and takes memory only
+/// A text of a node, or a key. Contracts see its bytes. It is 24 bytes large and allocates only
 /// where it has more than 22 bytes.
 #[derive(Drop)]
 pub struct NodeText {
@@ -34,7 +34,7 @@ impl NodeText {
         NodeText::from_string(alloc, text.into_string())
     }
 
-    /// The same text as another, which stays.
+    /// The text of a string slice.
     #[inline]
     pub fn from_str(alloc: Global, text: &str) -> Result<NodeText, AllocError>
         ensures value { IfOk result (λ t. t ≡ text.now) }
@@ -45,7 +45,7 @@ impl NodeText {
         })
     }
 
-    /// The text of a string, which is kept where it is long.
+    /// The text of a string, which is taken over where it is long.
     pub(crate) fn from_string(alloc: Global, text: String) -> Result<NodeText, AllocError>
         ensures value { IfOk result (λ t. t ≡ string_bytes text) }
         ensures utf8 { IfOk result IsUtf8 }
@@ -64,7 +64,7 @@ impl NodeText {
         self.text.as_slice()
     }
 
-    /// The text as a slice of Rust's type for texts.
+    /// The text as a string slice.
     #[inline]
     pub fn as_str(&self) -> &str
         ensures { result.now ≡ self.now }

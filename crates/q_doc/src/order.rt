@@ -9,7 +9,7 @@ use std::cmp::Ordering;
 
 /// The order of two values that may be absent. By type, absent first: null, false and true,
 /// numbers, texts, arrays, objects; then numbers by value, texts by their bytes, arrays by their
-/// elements, and objects by their pairs of key and value. It takes no memory.
+/// elements, and objects by their pairs of key and value. It allocates nothing.
 pub fn compare(a: Option<&Node>, b: Option<&Node>) -> Ordering
     ensures { result
         ≡ value_cmp (option_map (λ r. r.now) a.entry) (option_map (λ r. r.now) b.entry) }

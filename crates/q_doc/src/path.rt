@@ -29,7 +29,7 @@ impl Model for Path {
 }
 
 impl Path {
-    /// The path of these segments, in no new memory.
+    /// The path of these segments, which are taken over.
     pub fn of(segments: Vec<Text>) -> Path
         requires { IsPath segments.items }
         ensures { result ≡ segments.items }
@@ -47,7 +47,7 @@ impl Path {
 }
 
 impl Doc {
-    /// The value at the path, if each key on the way stands in an object. It takes no memory.
+    /// The value at the path, if each key on the way is in an object. It allocates nothing.
     pub fn at(&self, path: &Path) -> Option<&Node>
         ensures { option_map (λ r. r.now) result ≡ tree_at path.now self.now }
     {

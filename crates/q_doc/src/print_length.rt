@@ -1,4 +1,4 @@
-//! How many bytes a node is printed as, without printing it.
+//! The length of a printed node, without printing it.
 ghost use Rattle.std.specs.Prelude.{◌≡◌, ◌<◌, ◌^◌, false, length};
 ghost use Rattle.json.specs.Print.{escape_byte, quoted};
 ghost use Rattle.serde_json.specs.Written.{items_text, members_text};
@@ -64,7 +64,7 @@ fn quoted_length(text: &[u8]) -> usize
     length
 }
 
-/// The length of what stands in a text for a byte.
+/// The length of a byte in a JSON string, escaped where it must be (RFC 8259, 7).
 fn escape_length(byte: u8) -> usize
     ensures { result ≡ length (escape_byte byte) }
 {
@@ -77,7 +77,7 @@ fn escape_length(byte: u8) -> usize
     }
 }
 
-/// Whether a byte is escaped by a backslash and one letter or sign.
+/// Whether the escape of a byte is a backslash and one character (RFC 8259, 7).
 fn has_letter(byte: u8) -> bool
     ensures { result ≡ has_letter byte }
 {

@@ -1,11 +1,11 @@
-//! Reading the tokens of a text straight into nodes, where nothing in the text is out of the way.
+//! The fast path of reading: the tokens of a text straight into nodes.
 ghost use Rattle.std.specs.Prelude.{◌≡◌, ◌+◌, ◌<◌, ◌≤◌, length, slice_index, ◌==◌, true, false, IsTrue, IfOk, IfSome, OnOk, Some, option_and_then};
 ghost use Rattle.json.specs.Json.{items, members as members_in_grammar, value};
 ghost use Rattle.serde_json.specs.Find.{as_i64};
 ghost use Rattle.serde_json.specs.Read.{number_from};
 ghost use Rattle.q_doc.specs.Tree.{items_of, members_of, is_object, depth as depth_of_tree, items_depth, members_depth};
 ghost use Rattle.q_doc.specs.Document.{AreMembers, HasTexts, ItemsHaveTexts, MembersHaveTexts};
-ghost use Rattle.q_doc.specs.Reading.{BEYOND, whole_in, tree_in, items_in, members_in, Reads, HoldsWhole, IsPlace};
+ghost use Rattle.q_doc.specs.Reading.{BEYOND, whole_in, tree_in, items_in, members_in, Reads, HoldsWhole, IsIndexFor};
 
 use crate::doc::MAX_DEPTH;
 use crate::node::{Node, Shape};
@@ -15,89 +15,93 @@ use json::{Reader, Scratch, Token};
 use std::alloc::{AllocError, AllocFailed, Global};
 use std::cmp::Ordering;
 
-/// How many members a key may pass on its way to its place, so that no object takes quadratic time.
+/// The most members that a key may pass on its way to its index, so that no object takes quadratic time.
 const MAX_PASSED: usize = 64;
 
-/// The members of a document for which there is room at first. Most have no more.
+/// The initial capacity for the members of a document. Most have no more.
 const FIRST_MEMBERS: usize = 8;
 
-/// The same of an object within a document.
+/// The initial capacity for the members of an object within a document.
 const FIRST_INNER_MEMBERS: usize = 4;
 
-/// How many unused places a node keeps at most.
+/// The most unused capacity that a node keeps.
 const MAX_UNUSED: usize = 1;
 
-/// What reading documents needs. One is made and lent to each read. It is 16 KiB large, so keep it
-/// where it is not moved. It grows to the longest text that was read.
+/// The buffer of reads, which one read after another uses. It is 16 KiB large, so keep it where it is
+/// not moved. It grows to the longest text that was read.
 #[derive(Drop)]
-pub struct ReadRoom {
+pub struct ReadBuffer {
     scratch: Scratch,
 }
 
-impl ReadRoom {
-    /// A room, which takes no memory until it is lent.
-    pub fn new(alloc: Global) -> ReadRoom {
-        ReadRoom {
+impl ReadBuffer {
+    /// A buffer, which allocates nothing before its first read.
+    pub fn new(alloc: Global) -> ReadBuffer {
+        ReadBuffer {
             scratch: Scratch::new(alloc),
         }
     }
 }
 
-/// Why no object was read. The long way, by the text's JSON value, tells the cause.
+/// Why the fast path read no object.
 #[derive(Clone, Copy, Drop)]
-pub(crate) enum Halt {
-    /// The text is no document, or has a number that is not whole, equal keys in one object, or an
-    /// object of many members out of order.
+pub(crate) enum Unread {
+    /// The slow path must decide: the text is no document, or has a number that is not whole, equal keys
+    /// in one object, or an object of many members out of order.
     Unsure,
-    /// There was no memory.
+    /// Memory ran out.
     Memory,
 }
 
-impl From<AllocError> for Halt {
-    fn from(_error: AllocError) -> Halt {
-        Halt::Memory
+impl From<AllocError> for Unread {
+    fn from(_error: AllocError) -> Unread {
+        Unread::Memory
     }
 }
 
-impl<T: Drop> From<AllocFailed<T>> for Halt {
-    fn from(_error: AllocFailed<T>) -> Halt {
-        Halt::Memory
+impl<T: Drop> From<AllocFailed<T>> for Unread {
+    fn from(_error: AllocFailed<T>) -> Unread {
+        Unread::Memory
     }
 }
 
 /// The object that a text holds, if it nests no deeper than a document may.
-pub(crate) fn object_in(alloc: Global, bytes: &[u8], room: &mut ReadRoom) -> Result<Node, Halt>
+pub(crate) fn object_in(
+    alloc: Global,
+    bytes: &[u8],
+    buffer: &mut ReadBuffer,
+) -> Result<Node, Unread>
     ensures ok { IfOk result (HoldsWhole bytes.now) }
     ensures texts { IfOk result HasTexts }
     ensures object { IfOk result (λ t. is_object t ≡ true) }
     ensures nests { IfOk result (λ t. depth_of_tree t ≤ MAX_DEPTH) }
 {
     let Ok(text) = simdutf8::compat::from_utf8(bytes) else {
-        return Err(Halt::Unsure);
+        return Err(Unread::Unsure);
     };
-    let Ok(mut reader) = Reader::new(text, &mut room.scratch) else {
-        return Err(Halt::Memory);
+    let Ok(mut reader) = Reader::new(text, &mut buffer.scratch) else {
+        return Err(Unread::Memory);
     };
     let node = read_node(alloc, &mut reader, MAX_DEPTH)?;
     if reader.next().is_some() {
-        return Err(Halt::Unsure);
+        return Err(Unread::Unsure);
     }
     match &node.shape {
         Shape::Object(_) => Ok(node),
-        _ => Err(Halt::Unsure),
+        _ => Err(Unread::Unsure),
     }
 }
 
 /// The next value, if it nests at most this deep.
 #[cycle(read_node)]
 #[inline(always)]
-fn read_node(alloc: Global, reader: &mut Reader<'_>, depth: usize) -> Result<Node, Halt>
+fn read_node(alloc: Global, reader: &mut Reader<'_>, depth: usize) -> Result<Node, Unread>
     ensures ok { IfOk result (λ t. Reads tree_in (value (depth + BEYOND) reader.old) t reader.new) }
     ensures texts { IfOk result HasTexts }
     ensures nests { IfOk result (λ t. depth_of_tree t ≤ depth) }
     ensures shorter { OnOk result (length reader.new < length reader.old) }
 {
-    let token = reader.next().ok_or(Halt::Unsure)?;
+    let token = reader.next().ok_or(Unread::Unsure)?;
     match token {
         Token::String(text) => {
             let owned = NodeText::from_str(alloc, text)?;
@@ -109,16 +113,16 @@ fn read_node(alloc: Global, reader: &mut Reader<'_>, depth: usize) -> Result<Nod
             Some(number) => Ok(Node {
                 shape: Shape::Number(number),
             }),
-            None => Err(Halt::Unsure),
+            None => Err(Unread::Unsure),
         },
         Token::Bool(value) => Ok(Node {
             shape: Shape::Bool(value),
         }),
         Token::Null => Ok(Node { shape: Shape::Null }),
-        Token::EndObject | Token::EndArray | Token::Key(_) | Token::Bad => Err(Halt::Unsure),
+        Token::EndObject | Token::EndArray | Token::Key(_) | Token::Bad => Err(Unread::Unsure),
         Token::BeginArray => {
             if depth == 0 {
-                return Err(Halt::Unsure);
+                return Err(Unread::Unsure);
             }
             let items = read_items(alloc, reader, depth - 1)?;
             Ok(Node {
@@ -127,7 +131,7 @@ fn read_node(alloc: Global, reader: &mut Reader<'_>, depth: usize) -> Result<Nod
         }
         Token::BeginObject => {
             if depth == 0 {
-                return Err(Halt::Unsure);
+                return Err(Unread::Unsure);
             }
             let members = read_members(alloc, reader, depth - 1)?;
             Ok(Node {
@@ -139,7 +143,7 @@ fn read_node(alloc: Global, reader: &mut Reader<'_>, depth: usize) -> Result<Nod
 
 #[cycle(read_node)]
 #[inline(never)]
-fn read_items(alloc: Global, reader: &mut Reader<'_>, depth: usize) -> Result<Vec<Node>, Halt>
+fn read_items(alloc: Global, reader: &mut Reader<'_>, depth: usize) -> Result<Vec<Node>, Unread>
     ensures ok { IfOk result
         (λ v. Reads items_in (items (value (depth + BEYOND)) (length reader.old) reader.old)
         (items_of v.items) reader.new) }
@@ -152,7 +156,7 @@ fn read_items(alloc: Global, reader: &mut Reader<'_>, depth: usize) -> Result<Ve
         let item = read_node(alloc, reader, depth)?;
         found.push(item)?;
     }
-    give_back(&mut found);
+    trim_capacity(&mut found);
     Ok(found)
 }
 
@@ -162,7 +166,7 @@ fn read_members(
     alloc: Global,
     reader: &mut Reader<'_>,
     depth: usize,
-) -> Result<Vec<(NodeText, Node)>, Halt>
+) -> Result<Vec<(NodeText, Node)>, Unread>
     ensures ok { IfOk result
         (λ v. Reads members_in
         (members_in_grammar (value (depth + BEYOND)) (length reader.old) reader.old)
@@ -172,17 +176,17 @@ fn read_members(
     ensures shorter { OnOk result (length reader.new < length reader.old) }
 {
     let mut found = Vec::with_capacity(alloc, first_members(depth))?;
-    'members: while let Some(name) = reader.next_key().or(Err(Halt::Unsure))? {
-        let place = place_of(&found, name.as_bytes()).ok_or(Halt::Unsure)?;
+    'members: while let Some(name) = reader.next_key().or(Err(Unread::Unsure))? {
+        let index = index_for(&found, name.as_bytes()).ok_or(Unread::Unsure)?;
         let key = NodeText::from_str(alloc, name)?;
         let node = read_node(alloc, reader, depth)?;
-        found.insert(place, (key, node))?;
+        found.insert(index, (key, node))?;
     }
-    give_back(&mut found);
+    trim_capacity(&mut found);
     Ok(found)
 }
 
-/// The room for the members of an object whose values may nest this deep.
+/// The initial capacity for the members of an object whose values may nest this deep.
 #[inline(always)]
 fn first_members(depth: usize) -> usize {
     if depth < MAX_DEPTH - 1 {
@@ -192,8 +196,8 @@ fn first_members(depth: usize) -> usize {
     }
 }
 
-/// Gives back the unused places, where there are several.
-fn give_back<T>(found: &mut Vec<T>)
+/// Frees the unused capacity, where it is more than one element.
+fn trim_capacity<T>(found: &mut Vec<T>)
     ensures { found.new.items ≡ found.old.items }
 {
     if found.capacity().saturating_sub(found.len()) > MAX_UNUSED {
@@ -201,17 +205,17 @@ fn give_back<T>(found: &mut Vec<T>)
     }
 }
 
-/// Where a key goes among members in order, if it is none of theirs and passes few.
-fn place_of(members: &[(NodeText, Node)], name: &[u8]) -> Option<usize>
+/// The index at which a new key keeps the members in order, if it passes few of them.
+fn index_for(members: &[(NodeText, Node)], name: &[u8]) -> Option<usize>
     requires { AreMembers (members_of members.now) }
-    ensures place { IfSome result (λ place. IsPlace name.now place members.now) }
-    ensures within { IfSome result (λ place. place ≤ length members.now) }
+    ensures index { IfSome result (λ index. IsIndexFor name.now index members.now) }
+    ensures within { IfSome result (λ index. index ≤ length members.now) }
 {
     let count = members.len();
     for passed in 0..count.min(MAX_PASSED) {
-        let place = count - passed;
-        match name.cmp(members[place - 1].0.as_slice()) {
-            Ordering::Greater => return Some(place),
+        let index = count - passed;
+        match name.cmp(members[index - 1].0.as_slice()) {
+            Ordering::Greater => return Some(index),
             Ordering::Equal => return None,
             Ordering::Less => {}
         }
@@ -219,7 +223,7 @@ fn place_of(members: &[(NodeText, Node)], name: &[u8]) -> Option<usize>
     if count <= MAX_PASSED { Some(0) } else { None }
 }
 
-/// The number that a token of JSON writes, where it is whole and fits.
+/// The number of a JSON token (RFC 8259, 6), where it is whole and fits.
 #[inline(always)]
 fn whole_number(text: &[u8]) -> Option<i64>
     ensures { IfSome result (λ z. whole_in text.now ≡ Some z) }

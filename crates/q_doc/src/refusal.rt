@@ -1,28 +1,28 @@
-//! Why a text is no document.
+//! Why a text is not a document.
 ghost use Rattle.std.specs.Prelude.{◌≡◌};
 
 use std::alloc::{AllocError, AllocFailed};
 use std::error::Error;
 use std::fmt;
 
-/// There was no memory for the answer.
+/// Out of memory.
 #[derive(Clone, Copy, Debug, PartialEq, Eq)]
 pub struct Memory;
 
-/// Why a text is no document. Where several causes hold, the first of this list is the answer.
+/// Why a text is not a document. The first cause, in this order, is returned.
 #[derive(Clone, Copy, Debug, PartialEq, Eq)]
 pub enum DocRefusal {
     /// The text has more bytes than a document may have.
     TooLong { length: usize },
-    /// The text is no JSON, nests more than 127 deep, or has a number too large for a float.
+    /// The text is not JSON (RFC 8259), nests more than 127 deep, or has a number too large for a float.
     NotJson,
-    /// The value is no object.
+    /// The value is not an object.
     NotObject,
     /// The value nests deeper than a document may.
     TooDeep { depth: usize },
     /// Some number is not whole, or does not fit 64 bits with a sign.
     NotWhole,
-    /// There was no memory for the answer.
+    /// Memory ran out.
     Memory,
 }
 

@@ -4,7 +4,7 @@ ghost use Rattle.std.specs.Str.{IsUtf8};
 
 use std::marker::Model;
 
-/// A text or a key. Whoever makes one from bytes owes that they are UTF-8.
+/// A text or a key. Its bytes are UTF-8, which `of` requires.
 #[derive(Drop)]
 pub struct Text {
     pub(crate) text: String,
@@ -19,7 +19,7 @@ impl Model for Text {
 }
 
 impl Text {
-    /// The text of these bytes, in no new memory.
+    /// The text of these bytes, which are taken over.
     pub fn of(bytes: Vec<u8>) -> Text
         requires { IsUtf8 bytes.items }
         ensures { result ≡ bytes.items }
@@ -37,14 +37,14 @@ impl Text {
         self.text.as_str().as_bytes()
     }
 
-    /// The text as a slice of Rust's type for texts.
+    /// The text as a string slice.
     pub fn as_str(&self) -> &str
         ensures { result.now ≡ self.now }
     {
         self.text.as_str()
     }
 
-    /// The bytes of the text, in no new memory.
+    /// The bytes of the text, without a copy.
     pub fn into_vec(self) -> Vec<u8>
         ensures { result.items ≡ self }
     {

@@ -1,7 +1,7 @@
--- Calls one after another take, give and tell what they did together.
+-- Two calls, one after the other, seen as one.
 use Rattle.std.proofs.Common.{◌≡◌, ℕ, ◌+◌, List, [], ◌∷◌, ◌++◌, length, take, Option, Some, None, refl, append_assoc, append-nil, sym, subst, arith, length-append}
 use Rattle.std.proofs.Math.Seq.{take-append-add}
-use Rattle.q_outside.specs.Told.{End, Takes, Gives, TookBytes, GaveBytes, GavePart, Ticks}
+use Rattle.q_outside.specs.Ends.{End, Takes, Gives, TookBytes, GaveBytes, GavePart, Ticks}
 
 -- a call that took nothing leaves what was left
 pub Takes-nothing : {A : Type 0} (left : Option (List A)) → Takes left left []
@@ -64,6 +64,6 @@ part_behind before mid after first second g p =
     }
 
 -- one moment more
-pub Ticks-append : {C : Type 0} (tells : C → ℕ → C → Type 0) (first middle last : C) (xs ys : List ℕ) → Ticks tells first xs middle → Ticks tells middle ys last → Ticks tells first (xs ++ ys) last
-Ticks-append tells first middle last [] ys t u = subst (λ c. Ticks tells c ys last) (sym t) u
-Ticks-append tells first middle last (x ∷ xs) ys t u = (t.0, t.1, Ticks-append tells t.0 middle last xs ys t.2 u)
+pub Ticks-append : {C : Type 0} (tick : C → ℕ → C → Type 0) (first middle last : C) (xs ys : List ℕ) → Ticks tick first xs middle → Ticks tick middle ys last → Ticks tick first (xs ++ ys) last
+Ticks-append tick first middle last [] ys t u = subst (λ c. Ticks tick c ys last) (sym t) u
+Ticks-append tick first middle last (x ∷ xs) ys t u = (t.0, t.1, Ticks-append tick t.0 middle last xs ys t.2 u)

@@ -1,7 +1,7 @@
 -- The pieces of a text, as a loop gives them.
 use Rattle.std.proofs.Common.{◌≡◌, ℕ, ◌+◌, List, ◌++◌, Result, Ok, Err, take, drop, sym, subst}
 use Rattle.std.proofs.Math.Seq.{take-add}
-use Rattle.q_outside.specs.Told.{End, GaveBytes, Gave}
+use Rattle.q_outside.specs.Ends.{End, GaveBytes, Gave}
 use Rattle.q_outside.proofs.Chain.{gave_both, part_behind}
 
 -- the next bytes of a piece

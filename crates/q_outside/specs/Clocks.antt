@@ -1,8 +1,8 @@
--- What a clock over a list of moments tells.
+-- Internal. The moments of a clock over a list.
 use Rattle.std.specs.Prelude.{◌≡◌, ℕ, List, [], ◌∷◌}
 
--- the first of the moments is told; it is let go, unless it is the last
-abbrev pub TellsNext : List ℕ → ℕ → List ℕ → Type 0
-TellsNext [] moment after = ⊥
-TellsNext (first ∷ []) moment after = (moment ≡ first) × (after ≡ first ∷ [])
-TellsNext (first ∷ second ∷ others) moment after = (moment ≡ first) × (after ≡ second ∷ others)
+-- the clock gives the first of its moments and drops it, unless it is the last
+abbrev pub TicksNext : List ℕ → ℕ → List ℕ → Type 0
+TicksNext [] moment after = ⊥
+TicksNext (first ∷ []) moment after = (moment ≡ first) × (after ≡ first ∷ [])
+TicksNext (first ∷ second ∷ others) moment after = (moment ≡ first) × (after ≡ second ∷ others)

@@ -1,2 +1,2 @@
 pub mod Clocks
-pub mod Told
+pub mod Ends

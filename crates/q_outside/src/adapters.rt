@@ -1,15 +1,15 @@
-//! The edge: what the operating system reads, writes and tells. Nothing is known of its bytes and moments.
+//! Adapters to the operating system. Nothing is known of the bytes and moments that it gives.
 //!
-//! A count of faults is a number of 64 bits. At its greatest a further fault is told as the end of the
-//! source, or as a piece that the sink took, since neither tells its bytes.
+//! A count of faults is a number of 64 bits. At its greatest a further fault is reported as the end of
+//! the source, or as bytes that the sink took, since neither shows its bytes.
 ghost use Rattle.std.specs.Prelude.{◌≡◌, ℕ, None};
 
-use crate::outside::{Clock, Failed, Sink, Source};
+use crate::environment::{Clock, Failed, Sink, Source};
 use q_base::Moment;
 use std::io::{Read, Write};
 use std::rt;
 
-/// The source of what a reader of std gives, as standard input.
+/// The source over a reader of std, such as standard input.
 #[derive(Debug, Drop)]
 pub struct ReadSource<R: Read + Drop> {
     reader: R,
@@ -17,7 +17,7 @@ pub struct ReadSource<R: Read + Drop> {
 }
 
 impl<R: Read + Drop> ReadSource<R> {
-    /// The source of this reader, which has not failed yet.
+    /// The source over this reader, with no fault yet.
     pub fn new(reader: R) -> ReadSource<R>
         ensures { result.faults ≡ 0 }
     {
@@ -40,7 +40,7 @@ impl<R: Read + Drop> Source for ReadSource<R> {
     }
 }
 
-/// The sink of a writer of std, as standard output.
+/// The sink over a writer of std, such as standard output.
 #[derive(Debug, Drop)]
 pub struct WriteSink<W: Write + Drop> {
     writer: W,
@@ -48,7 +48,7 @@ pub struct WriteSink<W: Write + Drop> {
 }
 
 impl<W: Write + Drop> WriteSink<W> {
-    /// The sink of this writer, which has not failed yet.
+    /// The sink over this writer, with no fault yet.
     pub fn new(writer: W) -> WriteSink<W>
         ensures { result.faults ≡ 0 }
     {
@@ -75,7 +75,7 @@ impl<W: Write + Drop> Sink for WriteSink<W> {
     }
 }
 
-/// The clock of the operating system. Where it fails, or stands before 1970, the moment is 0.
+/// The clock of the operating system. The moment is 0 where it fails or is before 1970.
 #[derive(Debug, Drop)]
 pub struct SystemClock<R: rt::Clock + Drop> {
     clock: R,
@@ -89,7 +89,7 @@ impl<R: rt::Clock + Drop> SystemClock<R> {
 }
 
 impl<R: rt::Clock + Drop> Clock for SystemClock<R> {
-    ghost tells = { λ _ _ _. Unit {0} };
+    ghost tick = { λ _ _ _. Unit {0} };
 
     fn now(&mut self) -> Moment {
         match self.clock.since_1970() {

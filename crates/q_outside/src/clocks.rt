@@ -1,28 +1,28 @@
 //! Clocks over stored moments.
 ghost use Rattle.std.specs.Prelude.{◌≡◌, ◌<◌, length, IfOk};
-ghost use Rattle.q_outside.specs.Clocks.{TellsNext};
+ghost use Rattle.q_outside.specs.Clocks.{TicksNext};
 
-use crate::outside::Clock;
+use crate::environment::Clock;
 use q_base::Moment;
 use std::marker::Model;
 
-/// A clock that stands.
+/// A clock that always gives one moment.
 #[derive(Clone, Copy, Debug)]
 pub struct FixedClock {
-    /// The moment that it tells each time.
+    /// The moment that it gives.
     pub at: Moment,
 }
 
 impl Clock for FixedClock {
-    ghost tells = { λ c m d. (m ≡ c.at) × (d ≡ c) };
+    ghost tick = { λ c m d. (m ≡ c.at) × (d ≡ c) };
 
     fn now(&mut self) -> Moment {
         self.at
     }
 }
 
-/// A clock that tells stored moments in turn, and the last of them again and again. Contracts see the
-/// moments that it has still to tell.
+/// A clock that gives stored moments in order, and then the last of them again and again. Contracts see
+/// the moments that are left.
 #[derive(Debug, Drop)]
 pub struct ListClock {
     moments: Vec<Moment>,
@@ -40,7 +40,7 @@ impl Model for ListClock {
 }
 
 impl ListClock {
-    /// The clock of these moments, of which there is at least one.
+    /// The clock that gives these moments.
     pub fn of(moments: Vec<Moment>) -> ListClock
         requires { 0 < length moments.items }
         ensures { result ≡ moments.items }
@@ -50,7 +50,7 @@ impl ListClock {
 }
 
 impl Clock for ListClock {
-    ghost tells = { TellsNext };
+    ghost tick = { TicksNext };
 
     fn now(&mut self) -> Moment {
         let moment = self.moments[self.at];

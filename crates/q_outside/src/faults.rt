@@ -1,14 +1,13 @@
-//! A count of faults that can always rise.
+//! A count of faults without an upper limit.
 //!
-//! A sink whose room is used up fails at every call, for ever, and its count has to rise each time,
-//! so no number of a fixed width will do. The count is that of a ledger of std's: it stands in
-//! contracts alone and takes no bytes.
+//! A full sink fails at every further call, and its count must rise each time, so a number of a fixed
+//! width is not enough. The count is that of a ledger of std: only contracts see it, and it takes no bytes.
 ghost use Rattle.std.specs.Prelude.{◌≡◌, ◌+◌, ◌<◌};
 
 use std::marker::Model;
 use std::sync::ledger::{Blank, Book, Ledger, Share};
 
-/// How often something has failed. Contracts see the number.
+/// The number of faults so far. Contracts see the number.
 #[derive(Drop)]
 pub struct Faults<L: Ledger> {
     book: Book<L>,
@@ -26,7 +25,7 @@ impl<L: Ledger> Model for Faults<L> {
 }
 
 impl<L: Ledger> Faults<L> {
-    /// No fault yet. The blank ledger is opened as `L`, so it has its name and its parts.
+    /// No fault yet. The blank ledger, which has the name and the parts of `L`, is opened as `L`.
     pub fn new(blank: Blank) -> Faults<L>
         requires name { blank.name ≡ L.name }
         requires parts { blank.parts ≡ L.parts }
@@ -37,7 +36,7 @@ impl<L: Ledger> Faults<L> {
         Faults { book, share }
     }
 
-    /// One fault more.
+    /// Counts one fault more.
     pub fn rise(&mut self)
         ensures { self.new ≡ self.old + 1 }
     {

@@ -1,10 +1,10 @@
-//! Giving all of a piece to a sink.
+//! Giving whole texts to a sink.
 ghost use Rattle.std.specs.Prelude.{◌++◌};
-ghost use Rattle.q_outside.specs.Told.{Gave};
+ghost use Rattle.q_outside.specs.Ends.{Gave};
 
-use crate::outside::{Failed, Sink};
+use crate::environment::{Failed, Sink};
 
-/// Gives all of a piece, however much the sink takes at once.
+/// Gives a text whole, however much the sink takes at a time.
 pub fn give_all<K: Sink>(sink: &mut K, bytes: &[u8]) -> Result<(), Failed>
     ensures { Gave (K.at sink.old) (K.at sink.new) bytes.now result }
 {
@@ -18,7 +18,7 @@ pub fn give_all<K: Sink>(sink: &mut K, bytes: &[u8]) -> Result<(), Failed>
     Ok(())
 }
 
-/// Gives one piece and then another.
+/// Gives one text whole and then another.
 pub fn give_both<K: Sink>(sink: &mut K, first: &[u8], second: &[u8]) -> Result<(), Failed>
     ensures { Gave (K.at sink.old) (K.at sink.new) (first.now ++ second.now) result }
 {

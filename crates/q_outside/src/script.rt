@@ -1,10 +1,9 @@
-//! Which calls of a stored source or sink fail, and how much the others move.
+//! Which calls of a source or sink in memory fail, and how many bytes the others move.
 ghost use Rattle.std.specs.Prelude.{◌<◌};
 
-/// What the calls of a source or sink in memory do. It is made of the numbers of the calls that fail,
-/// counted from 0 and rising, and of the sizes of the pieces that the others move at most, of which
-/// the last serves for all later calls. A size of 0 is taken as 1. Without a
-/// size a call moves all that it can.
+/// What the calls of a source or sink in memory do. It has the numbers of the calls that fail, counted
+/// from 0 and rising, and the limits for the others, one a call. The last limit holds for all later
+/// calls. A limit of 0 counts as 1. Without limits a call moves all that it can.
 #[derive(Debug, Drop)]
 pub struct Script {
     failing: Vec<u64>,
@@ -16,27 +15,27 @@ pub struct Script {
 
 /// What one call does.
 #[derive(Clone, Copy, Debug, PartialEq, Eq)]
-pub enum Turn {
+pub enum ScriptStep {
     /// It fails.
     Fails,
-    /// It moves at most so many bytes.
+    /// It moves at most this number of bytes.
     Moves(usize),
 }
 
-impl Turn {
-    /// How many bytes it moves at most, at least one.
+impl ScriptStep {
+    /// The most bytes that it moves, at least one.
     pub fn most(self) -> usize
         ensures { 0 < result }
     {
         match self {
-            Turn::Fails => usize::MAX,
-            Turn::Moves(most) => most.max(1),
+            ScriptStep::Fails => usize::MAX,
+            ScriptStep::Moves(most) => most.max(1),
         }
     }
 }
 
 impl Script {
-    /// The script of these calls that fail, and of these sizes.
+    /// The script with these failing calls and these limits.
     pub fn of(failing: Vec<u64>, pieces: Vec<usize>) -> Script {
         Script {
             failing,
@@ -48,21 +47,21 @@ impl Script {
     }
 
     /// What the next call does.
-    pub fn next(&mut self) -> Turn {
+    pub fn next(&mut self) -> ScriptStep {
         let call = self.calls;
         self.calls = call.saturating_add(1);
         if self.is_due(call) {
             self.failed = self.failed.saturating_add(1);
-            return Turn::Fails;
+            return ScriptStep::Fails;
         }
         let size = self.pieces.get(self.piece).copied().unwrap_or(usize::MAX);
         if self.piece.saturating_add(1) < self.pieces.len() {
             self.piece = self.piece.saturating_add(1);
         }
-        Turn::Moves(size)
+        ScriptStep::Moves(size)
     }
 
-    /// Whether this call is the next of those that fail.
+    /// Whether this call is the next that fails.
     fn is_due(&self, call: u64) -> bool {
         self.failing.get(self.failed).copied() == Some(call)
     }

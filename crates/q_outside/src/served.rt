@@ -22,10 +22,10 @@ pub enum Why {
     WriteFault,
 }
 
-/// What came of a connection.
+/// The outcome of a connection.
 #[derive(Clone, Copy, Debug, PartialEq, Eq)]
 pub struct Served {
-    /// How many requests were answered, with the one whose reply the sink did not take.
+    /// The number of answered requests, including one whose reply the sink did not take whole.
     pub requests: u64,
     /// Why the connection ended.
     pub why: Why,

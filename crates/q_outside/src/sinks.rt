@@ -1,14 +1,14 @@
 //! Sinks over memory.
 ghost use Rattle.std.specs.Prelude.{◌≡◌, ℕ, ◌+◌, ◌<◌, ◌≤◌, List, [], Some, None, vec_capacity, IfOk, OnErr};
 
+use crate::environment::{Failed, Sink};
 use crate::faults::Faults;
-use crate::outside::{Failed, Sink};
-use crate::script::{Script, Turn};
+use crate::script::{Script, ScriptStep};
 use q_base::Memory;
 use std::alloc::Global;
 use std::sync::ledger::{Blank, Ledger};
 
-/// A sink that never fails, and keeps and tells nothing.
+/// A sink that never fails. It keeps no bytes and shows none.
 #[derive(Clone, Copy, Debug)]
 pub struct EndlessSink;
 
@@ -22,24 +22,23 @@ impl Sink for EndlessSink {
     fn end(&mut self) {}
 }
 
-/// A sink that keeps what it is given, in a room that is taken when it is made. It fails at some calls
-/// and takes pieces of some sizes, both by a script, and it fails whenever its room is used up. It tells
-/// its bytes.
+/// A sink that stores what it is given in a buffer of fixed capacity. A script says which calls fail and
+/// how much the others take. It also fails when the buffer is full. It shows its bytes.
 #[derive(Drop)]
 pub struct ListSink<L: Ledger> {
-    /// What it was given.
+    /// The bytes that it was given.
     pub bytes: Vec<u8>,
-    /// How often it has failed.
+    /// The number of faults so far.
     pub faults: Faults<L>,
     /// What its calls do.
     pub script: Script,
 }
 
 impl<L: Ledger> ListSink<L> {
-    /// A sink with room for so many bytes, whose calls do what the script says.
+    /// An empty sink of this capacity, whose calls follow the script.
     pub fn new(
         alloc: Global,
-        room: usize,
+        capacity: usize,
         script: Script,
         blank: Blank,
     ) -> Result<ListSink<L>, Memory>
@@ -48,10 +47,10 @@ impl<L: Ledger> ListSink<L> {
         requires some { 0 < L.parts }
         ensures empty { IfOk result (λ s. s.bytes.items ≡ []) }
         ensures faults { IfOk result (λ s. s.faults ≡ 0) }
-        ensures room { IfOk result (λ s. room ≤ vec_capacity s.bytes) }
+        ensures capacity { IfOk result (λ s. capacity ≤ vec_capacity s.bytes) }
     {
         let faults = Faults::new(blank);
-        let bytes = Vec::with_capacity(alloc, room)?;
+        let bytes = Vec::with_capacity(alloc, capacity)?;
         Ok(ListSink {
             bytes,
             faults,
@@ -64,12 +63,12 @@ impl<L: Ledger> Sink for ListSink<L> {
     ghost at = { λ s. record { bytes = Some s.bytes.items; faults = s.faults } };
 
     fn give(&mut self, bytes: &[u8]) -> Result<usize, Failed> {
-        let room = self.bytes.capacity() - self.bytes.len();
+        let space = self.bytes.capacity() - self.bytes.len();
         let most = match self.script.next() {
-            Turn::Fails => 0,
-            Turn::Moves(most) => most,
+            ScriptStep::Fails => 0,
+            ScriptStep::Moves(most) => most,
         };
-        let count = room.min(most).min(bytes.len());
+        let count = space.min(most).min(bytes.len());
         if count == 0 || self.bytes.extend_from_slice(&bytes[..count]).is_err() {
             self.faults.rise();
             return Err(Failed);

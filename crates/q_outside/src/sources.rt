@@ -1,15 +1,15 @@
 //! Sources over bytes in memory.
 ghost use Rattle.std.specs.Prelude.{◌≡◌, ℕ, ◌<◌, ◌≤◌, ◌+◌, ◌++◌, List, [], length, take, drop, Some, IfOk, OnErr};
 
-use crate::outside::{Failed, Source};
-use crate::script::{Script, Turn};
+use crate::environment::{Failed, Source};
+use crate::script::{Script, ScriptStep};
 
-/// A source that never fails, and gives as much as there is room for. It tells its bytes.
+/// A source that never fails and fills the buffer while it has bytes. It shows its bytes.
 #[derive(Debug, Drop)]
 pub struct PlainSource {
     /// All the bytes.
     pub bytes: Vec<u8>,
-    /// How many of them were taken.
+    /// The number of bytes that were taken.
     pub at: usize,
     ghost within: { at ≤ length bytes.items },
 }
@@ -34,14 +34,15 @@ impl Source for PlainSource {
     }
 }
 
-/// A source that fails at some calls and gives its bytes in pieces, both by a script. It tells its bytes.
+/// A source over bytes in memory. A script says which calls fail and how much the others give. It shows
+/// its bytes.
 #[derive(Debug, Drop)]
 pub struct ListSource {
     /// All the bytes.
     pub bytes: Vec<u8>,
-    /// How many of them were taken.
+    /// The number of bytes that were taken.
     pub at: usize,
-    /// How often it has failed.
+    /// The number of faults so far.
     pub faults: u64,
     /// What its calls do.
     pub script: Script,
@@ -49,7 +50,7 @@ pub struct ListSource {
 }
 
 impl ListSource {
-    /// The source of these bytes, whose calls do what the script says.
+    /// The source of these bytes, whose calls follow the script.
     pub fn of(bytes: Vec<u8>, script: Script) -> ListSource
         ensures bytes { result.bytes ≡ bytes }
         ensures at { result.at ≡ 0 }
@@ -68,19 +69,19 @@ impl Source for ListSource {
     ghost at = { λ s. record { bytes = Some (drop s.at s.bytes.items); faults = s.faults } };
 
     fn take(&mut self, into: &mut [u8]) -> Result<usize, Failed> {
-        let turn = self.script.next();
-        if turn == Turn::Fails && self.faults < u64::MAX {
+        let step = self.script.next();
+        if step == ScriptStep::Fails && self.faults < u64::MAX {
             self.faults += 1;
             return Err(Failed);
         }
-        let most = turn.most();
+        let most = step.most();
         let taken = copy_piece(self.bytes.as_slice(), self.at, into, most);
         self.at += taken;
         Ok(taken)
     }
 }
 
-/// Copies the bytes from a place on to the front of the room, at most so many, and answers how many.
+/// Copies at most `most` bytes from an offset on to the start of the buffer and returns their number.
 fn copy_piece(bytes: &[u8], at: usize, into: &mut [u8], most: usize) -> usize
     requires some { 0 < most }
     requires from { at ≤ length bytes.now }

@@ -1,4 +1,4 @@
-//! A text that stands in place where it is short, and on the heap where it is long.
+//! A text that is stored inline where it is short, and on the heap where it is long.
 #![tactic(auto)]
 
 mod text;

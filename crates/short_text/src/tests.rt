@@ -3,11 +3,11 @@
 use crate::ShortText;
 use std::test::Fail;
 
-// The size that the README tells.
+// The size that the README gives.
 const _: () = prove!(size_of::<ShortText>() == 24);
 
 #[test]
-fn texts_are_kept_on_both_sides_of_the_length_in_place(rt: HostRuntime) -> Result<(), Fail> {
+fn texts_are_kept_on_both_sides_of_the_inline_length(rt: HostRuntime) -> Result<(), Fail> {
     let longest = [b'z'; 64];
     let cases: [&[u8]; 5] = [b"", b"0", &longest[..22], &longest[..23], &longest];
     for bytes in cases {

@@ -1,36 +1,36 @@
-//! A text, most of which are short.
+//! Texts of any bytes, most of which are short.
 ghost use Rattle.std.specs.Prelude.{◌≡◌, ◌≤◌, length, IfOk};
 
 use std::alloc::{AllocError, Global};
 use std::marker::Model;
 
-/// The most bytes of a text that takes no memory beside its value.
-const MOST_IN_PLACE: usize = 22;
+/// The greatest length of a text that is stored inline.
+const MAX_INLINE: usize = 22;
 
-/// Any bytes. Contracts see the list of them. The value is 24 bytes large, and takes memory only
-/// where it has more than 22 bytes.
+/// Any bytes. Contracts see the list of them. The value is 24 bytes large. It allocates only where the
+/// text has more than 22 bytes.
 #[derive(Drop)]
 pub struct ShortText {
-    kept: Kept,
+    storage: Storage,
 }
 
-/// Where the bytes are.
+/// Where the bytes are stored.
 #[derive(Drop)]
-enum Kept {
-    /// In place, and behind them what no one reads.
-    Short { len: u8, bytes: [u8; MOST_IN_PLACE] },
+enum Storage {
+    /// The first `len` bytes, inline. The others are not read.
+    Short { len: u8, bytes: [u8; MAX_INLINE] },
     Long(Box<Vec<u8>>),
 }
 
 impl Model for ShortText {
     ghost use Rattle.std.specs.Prelude.{ℕ, List};
-    ghost use Rattle.short_text.specs.Kept.{kept_bytes, IsKept};
+    ghost use Rattle.short_text.specs.Storage.{stored_bytes, IsStored};
 
     ghost Value = { List ℕ };
 
-    ghost view = { λ t. kept_bytes t.kept };
+    ghost view = { λ t. stored_bytes t.storage };
 
-    ghost invariant = { λ t. IsKept t.kept };
+    ghost invariant = { λ t. IsStored t.storage };
 }
 
 impl ShortText {
@@ -39,34 +39,34 @@ impl ShortText {
     pub fn from_slice(alloc: Global, bytes: &[u8]) -> Result<ShortText, AllocError>
         ensures { IfOk result (λ text. text ≡ bytes.now) }
     {
-        if bytes.len() <= MOST_IN_PLACE {
-            Ok(ShortText::in_place(bytes))
+        if bytes.len() <= MAX_INLINE {
+            Ok(ShortText::inline(bytes))
         } else {
             ShortText::on_heap(alloc, Vec::from_slice(alloc, bytes)?)
         }
     }
 
-    /// The text of these bytes, which are kept where they are many.
+    /// The text of these bytes. It takes the vector over where there are more than 22.
     #[inline]
     pub fn from_vec(alloc: Global, bytes: Vec<u8>) -> Result<ShortText, AllocError>
         ensures { IfOk result (λ text. text ≡ bytes.items) }
     {
-        if bytes.len() <= MOST_IN_PLACE {
-            Ok(ShortText::in_place(&bytes))
+        if bytes.len() <= MAX_INLINE {
+            Ok(ShortText::inline(&bytes))
         } else {
             ShortText::on_heap(alloc, bytes)
         }
     }
 
     #[inline]
-    fn in_place(text: &[u8]) -> ShortText
-        requires { length text.now ≤ MOST_IN_PLACE }
+    fn inline(text: &[u8]) -> ShortText
+        requires { length text.now ≤ MAX_INLINE }
         ensures { result ≡ text.now }
     {
-        let mut bytes = [0u8; MOST_IN_PLACE];
+        let mut bytes = [0u8; MAX_INLINE];
         bytes[..text.len()].copy_from_slice(text);
         ShortText {
-            kept: Kept::Short {
+            storage: Storage::Short {
                 len: text.len() as u8,
                 bytes,
             },
@@ -77,7 +77,7 @@ impl ShortText {
         ensures { IfOk result (λ text. text ≡ bytes.items) }
     {
         Ok(ShortText {
-            kept: Kept::Long(Box::new(alloc, bytes)?),
+            storage: Storage::Long(Box::new(alloc, bytes)?),
         })
     }
 
@@ -86,9 +86,9 @@ impl ShortText {
     pub fn as_slice(&self) -> &[u8]
         ensures { result.now ≡ self.now }
     {
-        match &self.kept {
-            Kept::Short { len, bytes } => &bytes[..*len as usize],
-            Kept::Long(bytes) => bytes.as_slice(),
+        match &self.storage {
+            Storage::Short { len, bytes } => &bytes[..*len as usize],
+            Storage::Long(bytes) => bytes.as_slice(),
         }
     }
 }
@@ -98,23 +98,23 @@ impl Clone for ShortText {
 
     #[inline]
     fn clone(&self) -> Result<ShortText, AllocError> {
-        match &self.kept {
-            Kept::Short { len, bytes } => Ok(ShortText {
-                kept: Kept::Short {
+        match &self.storage {
+            Storage::Short { len, bytes } => Ok(ShortText {
+                storage: Storage::Short {
                     len: *len,
                     bytes: *bytes,
                 },
             }),
-            Kept::Long(bytes) => copy_of(bytes),
+            Storage::Long(bytes) => clone_of(bytes),
         }
     }
 }
 
-/// A text of the same bytes, on the heap.
-fn copy_of(bytes: &Vec<u8>) -> Result<ShortText, AllocError>
+/// A clone of a text on the heap.
+fn clone_of(bytes: &Vec<u8>) -> Result<ShortText, AllocError>
     ensures { IfOk result (λ text. text ≡ bytes.now.items) }
 {
     let alloc = *bytes.allocator();
-    let copy = Vec::from_slice(alloc, bytes)?;
-    ShortText::on_heap(alloc, copy)
+    let bytes = Vec::from_slice(alloc, bytes)?;
+    ShortText::on_heap(alloc, bytes)
 }

@@ -10,7 +10,7 @@ loop-i-preserved c = record {
   sum = sum_next _ _ _ _ c.loop-i.invariant.sum;
   long = length-set _ _ _ ∙ c.loop-i.invariant.long;
   made =
-      made_next c.args.log2_bits c.args.first c.args.step c.loop-i.i _ c.loop-i.places (omega arith) c.loop-i.invariant.made
+      made_next c.args.log2_bits c.args.first c.args.step c.loop-i.i _ c.loop-i.values (omega arith) c.loop-i.invariant.made
       (low_bits c.loop-i.at c.args.log2_bits c.requires.bits ∙ ap (λ n. n % 2 ^ c.args.log2_bits) c.loop-i.invariant.sum);
 }
 
@@ -18,6 +18,6 @@ loop-i-preserved c = record {
 pub returns-clause-within : goal.returns-clause-within
 returns-clause-within c =
     let last : c.loop-i.i ≡ c.args.count = omega arith in
-    let made : take c.args.count c.loop-i.places ≡ map (position c.args.log2_bits c.args.first c.args.step) (range_with_len 0 c.loop-i.i) =
-    ap (λ n. take n c.loop-i.places) (sym last) ∙ c.loop-i.invariant.made in
+    let made : take c.args.count c.loop-i.values ≡ map (position c.args.log2_bits c.args.first c.args.step) (range_with_len 0 c.loop-i.i) =
+    ap (λ n. take n c.loop-i.values) (sym last) ∙ c.loop-i.invariant.made in
     subst (λ (xs : List ℕ). All (λ p. p < 2 ^ c.args.log2_bits) xs) (sym made) (all_within _ _ _ _)

@@ -6,6 +6,6 @@ use Rattle.q_base.proofs.positions.steps_from.Given as goal
 abbrev pub invariant-loop-i : goal.invariant-loop-i
 invariant-loop-i l = record {
   sum : l.at ≡ (l.first + l.i * l.step) % 2 ^ 64;
-  long : length l.places ≡ 16;
-  made : take l.i l.places ≡ map (position l.log2_bits l.first l.step) (range_with_len 0 l.i);
+  long : length l.values ≡ 16;
+  made : take l.i l.values ≡ map (position l.log2_bits l.first l.step) (range_with_len 0 l.i);
 }

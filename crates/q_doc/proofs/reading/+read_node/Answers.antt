@@ -6,7 +6,7 @@ use Rattle.json.specs.Token.{Token}
 use Rattle.json.specs.Reads.{token_of}
 use Rattle.json.proofs.Grammar.{value_is, value-begin_array, value-begin_object, read_key-shorter, items_more, items_end, members_more, members_end}
 use Rattle.q_doc.specs.Tree.{text}
-use Rattle.q_doc.specs.Reading.{BEYOND, whole_in, IsPlace}
+use Rattle.q_doc.specs.Reading.{BEYOND, whole_in, IsIndexFor}
 use Rattle.q_doc.proofs.ReadingLemmas.{items_then, one_more_read, HaveTrees-push, items_read, items_depth-push, members_then, no_members_yet, one_more_member_read, gathered_none, gathered_more, gathered_all, gathered_rise, members_depth-insert, MembersHaveTexts-insert, tree_in-number, tree_in-array, tree_in-object}
 use Rattle.q_doc.proofs.ConvertLemmas.{ItemsHaveTexts-push}
 use Rattle.q_doc.proofs.reading.+read_node.Goals as goal
@@ -92,7 +92,7 @@ read_items-returns-clause-ok t c =
     let r = c.take_end_array.new.self in (
       items_then js grammar.no_items,
       l.invariant.3 ∙ ap (parse_map (items_then js)) (items_end p n l.reader r l.invariant.2 (grind arith)),
-      rw c.give_back.ensures (items_read js l.found.items l.invariant.4),
+      rw c.trim_capacity.ensures (items_read js l.found.items l.invariant.4),
     )
 
 pub read_members-members-init : goal.read_members-members-init
@@ -100,8 +100,8 @@ read_members-members-init t c =
     let all = members (value (c.args.depth + BEYOND)) (length c.args.reader.now) c.args.reader.now in
     (length c.args.reader.now, [], omega arith, no_members_yet all, rw c.in_ok-found.ensures.items gathered_none, rw c.in_ok-found.ensures.items tt, rw c.in_ok-found.ensures.items (omega arith), omega arith)
 
-pub read_members-place_of-requires : goal.read_members-place_of-requires
-read_members-place_of-requires t c =
+pub read_members-index_for-requires : goal.read_members-index_for-requires
+read_members-index_for-requires t c =
     let l = c.members in
     rw c.deref.ensures.value (gathered_rise l.invariant.1 l.found.items l.invariant.4)
 
@@ -118,21 +118,21 @@ read_members-members-preserved t c =
     let less = read_key-shorter l.reader (Some k) s named in
     let done = c.in_ok-node.ensures in
     let j = done.ok.0 in
-    let place = c.in_ok-place.place in
+    let index = c.in_ok-index.index in
     let turn = members_more p n k l.reader s r j (omega (arith, l.invariant.2)) named done.ok.1 in
     let copied : c.in_ok-key.key ≡ k = c.in_ok-key.ensures.value in
-    let put : c.insert.new.self.items ≡ insert l.found.items place (k, c.in_ok-node.node) =
-    c.in_ok-insert.ensures.items ∙ ap (λ name. insert l.found.items place (name, c.in_ok-node.node)) copied in
-    let chosen : c.place_of.result ≡ Some place = grind arith in
-    let spot : IsPlace c.as_bytes.result.now place c.deref.result.now = subst (λ o. IfSome o (λ q. IsPlace c.as_bytes.result.now q c.deref.result.now)) chosen c.place_of.ensures.place in
-    let here : IsPlace k place l.found.items = rw (c.as_bytes.ensures.value, c.deref.ensures.value) at spot in (
+    let put : c.insert.new.self.items ≡ insert l.found.items index (k, c.in_ok-node.node) =
+    c.in_ok-insert.ensures.items ∙ ap (λ name. insert l.found.items index (name, c.in_ok-node.node)) copied in
+    let chosen : c.index_for.result ≡ Some index = grind arith in
+    let spot : IsIndexFor c.as_bytes.result.now index c.deref.result.now = subst (λ o. IfSome o (λ q. IsIndexFor c.as_bytes.result.now q c.deref.result.now)) chosen c.index_for.ensures.index in
+    let here : IsIndexFor k index l.found.items = rw (c.as_bytes.ensures.value, c.deref.ensures.value) at spot in (
       n - 1,
       js ++ (k, j) ∷ [],
       omega (arith, l.invariant.2),
       l.invariant.3 ∙ ap (parse_map (members_then js)) turn ∙ one_more_member_read js k j _,
-      rw put (gathered_more js l.found.items k j _ place l.invariant.4 done.ok.2 here),
-      rw put (MembersHaveTexts-insert l.found.items place k _ l.invariant.5 (subst IsUtf8 copied c.in_ok-key.ensures.utf8) done.texts),
-      rw put (members_depth-insert l.found.items place k _ _ l.invariant.6 done.nests),
+      rw put (gathered_more js l.found.items k j _ index l.invariant.4 done.ok.2 here),
+      rw put (MembersHaveTexts-insert l.found.items index k _ l.invariant.5 (subst IsUtf8 copied c.in_ok-key.ensures.utf8) done.texts),
+      rw put (members_depth-insert l.found.items index k _ _ l.invariant.6 done.nests),
       omega (arith, l.invariant.7),
     )
 
@@ -145,5 +145,5 @@ read_members-returns-clause-ok t c =
     let r = c.next_key.new.self in (
       members_then js grammar.no_members,
       l.invariant.3 ∙ ap (parse_map (members_then js)) (members_end p n l.reader r l.invariant.2 (grind arith)),
-      rw c.give_back.ensures (gathered_all js l.found.items l.invariant.4),
+      rw c.trim_capacity.ensures (gathered_all js l.found.items l.invariant.4),
     )

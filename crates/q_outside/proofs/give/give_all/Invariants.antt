@@ -1,6 +1,6 @@
 -- the first bytes were given
 use Rattle.std.proofs.Common.{◌≤◌, ◌-◌, length, take}
-use Rattle.q_outside.specs.Told.{GaveBytes}
+use Rattle.q_outside.specs.Ends.{GaveBytes}
 use Rattle.q_outside.proofs.give.give_all.Given as goal
 
 abbrev pub invariant-loop-at : goal.invariant-loop-at

@@ -1,4 +1,4 @@
--- what was copied stands at the front of the room
+-- the copied bytes are at the start of the buffer
 use Rattle.std.proofs.Common.{arith, length-take}
 use Rattle.q_outside.proofs.Pieces.{piece_copied}
 use Rattle.q_outside.proofs.sources.copy_piece.Goals as goal

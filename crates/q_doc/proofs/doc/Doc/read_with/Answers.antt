@@ -23,6 +23,6 @@ returns-in-Ok-clause-judged c =
 pub returns-in-Ok-clause-no_longer : goal.returns-in-Ok-clause-no_longer
 returns-in-Ok-clause-no_longer c = no_longer c.of.result c.args.text.now (returns-in-Ok-clause-judged c)
 
--- so is what the long way finds
+-- so is what the slow path reads
 pub returns-in-Err-Unsure-clause-no_longer : goal.returns-in-Err-Unsure-clause-no_longer
 returns-in-Err-Unsure-clause-no_longer c = no_longer_found c.read_any.result c.args.text.now c.read_any.ensures

@@ -1,11 +1,11 @@
 use Rattle.std.proofs.Common.{◌*◌, ◌<◌, ap, arith}
 use Rattle.q_doc.specs.Tree.{depth, items_depth, members_depth, items_of, members_of}
 use Rattle.q_doc.proofs.TreeLemmas.{item_depth, member_depth}
-use Rattle.q_doc.proofs.copies.+copy_of.Goals as goal
+use Rattle.q_doc.proofs.clones.+clone_of.Goals as goal
 
 -- an element is less deep than its array
-pub copy_of_items-copy_of-requires : goal.copy_of_items-copy_of-requires
-copy_of_items-copy_of-requires t c = (
+pub clone_of_items-clone_of-requires : goal.clone_of_items-clone_of-requires
+clone_of_items-clone_of-requires t c = (
   omega (
     arith,
     ap depth c.item-item.is,
@@ -16,8 +16,8 @@ copy_of_items-copy_of-requires t c = (
 )
 
 -- a member's value is less deep than its object
-pub copy_of_members-copy_of-requires : goal.copy_of_members-copy_of-requires
-copy_of_members-copy_of-requires t c =
+pub clone_of_members-clone_of-requires : goal.clone_of_members-clone_of-requires
+clone_of_members-clone_of-requires t c =
     let less : 2 * depth c.member-item.result.1 < t =
     omega (
       arith,

@@ -1,4 +1,4 @@
-//! `clone` of texts, paths, nodes and documents: each copy is the same value.
+//! `clone` of texts, paths, nodes and documents: each clone is the same value.
 ghost use Rattle.std.specs.Prelude.{◌≡◌, IfOk};
 ghost use Rattle.q_doc.specs.Tree.{items_of, members_of};
 
@@ -25,7 +25,7 @@ impl Clone for Path {
 
     fn clone(&self) -> Result<Path, AllocError> {
         Ok(Path {
-            segments: copy_of_segments(&self.segments)?,
+            segments: clone_of_segments(&self.segments)?,
         })
     }
 }
@@ -34,7 +34,7 @@ impl Clone for Node {
     ghost is_clone = { λ s t. s ≡ t };
 
     fn clone(&self) -> Result<Node, AllocError> {
-        copy_of(self)
+        clone_of(self)
     }
 }
 
@@ -48,8 +48,8 @@ impl Clone for Doc {
     }
 }
 
-#[cycle(copy_of)]
-fn copy_of(node: &Node) -> Result<Node, AllocError>
+#[cycle(clone_of)]
+fn clone_of(node: &Node) -> Result<Node, AllocError>
     ensures { IfOk result (λ t. node.now ≡ t) }
 {
     let shape = match &node.shape {
@@ -57,41 +57,41 @@ fn copy_of(node: &Node) -> Result<Node, AllocError>
         Shape::Bool(value) => Shape::Bool(*value),
         Shape::Number(value) => Shape::Number(*value),
         Shape::Text(text) => Shape::Text(text.clone()?),
-        Shape::Array(items) => Shape::Array(copy_of_items(items)?),
-        Shape::Object(members) => Shape::Object(copy_of_members(members)?),
+        Shape::Array(items) => Shape::Array(clone_of_items(items)?),
+        Shape::Object(members) => Shape::Object(clone_of_members(members)?),
     };
     Ok(Node { shape })
 }
 
-#[cycle(copy_of)]
-fn copy_of_items(items: &Vec<Node>) -> Result<Vec<Node>, AllocError>
+#[cycle(clone_of)]
+fn clone_of_items(items: &Vec<Node>) -> Result<Vec<Node>, AllocError>
     ensures { IfOk result (λ v. items.now.items ≡ v.items) }
 {
-    let mut copies = Vec::with_capacity(*items.allocator(), items.len())?;
+    let mut clones = Vec::with_capacity(*items.allocator(), items.len())?;
     for item in items {
-        copies.push(copy_of(item)?)?;
+        clones.push(clone_of(item)?)?;
     }
-    Ok(copies)
+    Ok(clones)
 }
 
-#[cycle(copy_of)]
-fn copy_of_members(members: &Vec<(NodeText, Node)>) -> Result<Vec<(NodeText, Node)>, AllocError>
+#[cycle(clone_of)]
+fn clone_of_members(members: &Vec<(NodeText, Node)>) -> Result<Vec<(NodeText, Node)>, AllocError>
     ensures { IfOk result (λ v. members.now.items ≡ v.items) }
 {
-    let mut copies = Vec::with_capacity(*members.allocator(), members.len())?;
+    let mut clones = Vec::with_capacity(*members.allocator(), members.len())?;
     for member in members {
         let key = member.0.clone()?;
-        copies.push((key, copy_of(&member.1)?))?;
+        clones.push((key, clone_of(&member.1)?))?;
     }
-    Ok(copies)
+    Ok(clones)
 }
 
-fn copy_of_segments(segments: &Vec<Text>) -> Result<Vec<Text>, AllocError>
+fn clone_of_segments(segments: &Vec<Text>) -> Result<Vec<Text>, AllocError>
     ensures { IfOk result (λ v. segments.now.items ≡ v.items) }
 {
-    let mut copies = Vec::with_capacity(*segments.allocator(), segments.len())?;
+    let mut clones = Vec::with_capacity(*segments.allocator(), segments.len())?;
     for segment in segments {
-        copies.push(segment.clone()?)?;
+        clones.push(segment.clone()?)?;
     }
-    Ok(copies)
+    Ok(clones)
 }

@@ -1,0 +1,48 @@
+//! The traits of the environment: sources, sinks and clocks.
+//!
+//! A source may show the bytes that are left, and a sink those that it holds. Of one that shows none
+//! nothing is claimed. Each has a count of faults that never falls, and fails only where that count rose.
+ghost use Rattle.std.specs.Prelude.{◌≡◌, ℕ, ◌<◌, length};
+ghost use Rattle.q_outside.specs.Ends.{End, Took, GaveSome};
+
+use q_base::Moment;
+
+/// A source or sink has failed. Its count of faults has risen.
+#[derive(Clone, Copy, Debug, PartialEq, Eq)]
+pub struct Failed;
+
+/// Where bytes come from.
+pub trait Source {
+    /// What contracts see of the source: the bytes that are left, where it shows them, and its faults.
+    ghost at: { Self → End };
+
+    /// Copies the next bytes to the start of the buffer and returns their number. 0 is the end.
+    fn take(&mut self, into: &mut [u8]) -> Result<usize, Failed>
+        requires { 0 < length into.old }
+        ensures { Took (at self.old) (at self.new) into.new result };
+}
+
+/// Where bytes go to.
+pub trait Sink {
+    /// What contracts see of the sink: the bytes that it holds, where it shows them, and its faults.
+    ghost at: { Self → End };
+
+    /// Gives the first bytes of a piece and returns their number, at least one.
+    fn give(&mut self, bytes: &[u8]) -> Result<usize, Failed>
+        requires { 0 < length bytes.now }
+        ensures { GaveSome (at self.old) (at self.new) bytes.now result };
+
+    /// Says that nothing more will be given. What contracts see stays the same.
+    fn end(&mut self)
+        ensures { at self.new ≡ at self.old };
+}
+
+/// A source of moments. It never fails. It may stop or go back.
+pub trait Clock {
+    /// From the first state the clock gave this moment and came to the second state, where it shows so.
+    ghost tick: { Self → ℕ → Self → Type 0 };
+
+    /// The current moment.
+    fn now(&mut self) -> Moment
+        ensures { tick self.old result self.new };
+}
