@@ -97,11 +97,11 @@ closes_at_last : (order : Order) (count : ℕ) (found : List Candidate) (last : 
     → IsLast count found last → Closes order count found last
 closes_at_last order count found None rises ranked is = tt
 closes_at_last order count found (Some last) rises ranked is =
-    let place : count - 1 < length found = omega (arith, is.0, is.1) in
-    let at : get_or (map row_of found) (count - 1) (row_of last) ≡ row_of last = get_or-map row_of found (count - 1) last (row_of last) place ∙ ap row_of (sym is.2) in
+    let within : count - 1 < length found = omega (arith, is.0, is.1) in
+    let at : get_or (map row_of found) (count - 1) (row_of last) ≡ row_of last = get_or-map row_of found (count - 1) last (row_of last) within ∙ ap row_of (sym is.2) in
     let rows : List Row = map row_of found in
     let many : length rows ≡ suc (count - 1) = omega (arith, length-map found row_of, is.0, is.1) in (
-      subst (IsRanked order) (sym is.2) (All-get_or (IsRanked order) found (count - 1) last place ranked),
+      subst (IsRanked order) (sym is.2) (All-get_or (IsRanked order) found (count - 1) last within ranked),
       subst (λ (r : Row). IsPast (rows_cmp order) count r (in_order (rows_cmp order) rows)) at
           (subst (λ (l : List Row). IsPast (rows_cmp order) count (get_or rows (count - 1) (row_of last)) l) (sym (in_order_same (rows_cmp order) (rows_cmp_total order) rows rises))
           (past_last (rows_cmp order) (rows_cmp_total order) rows (count - 1) count (row_of last) rises many (omega (arith, is.0)))),

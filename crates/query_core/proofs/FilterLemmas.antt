@@ -1,4 +1,4 @@
--- The operands of filters: their height, and when two lists of them are equal from some place on.
+-- The operands of filters: their height, and when two lists of them are equal from some index on.
 use Rattle.std.proofs.Common.{◌≡◌, ℕ, zero, suc, ◌<◌, ◌≤◌, min, List, [], ◌∷◌, length, get_or, drop, eqb, false, refl, sym, ◌∙◌, arith}
 use Rattle.std.proofs.lemmas.Bool.Decides.{nat_tests}
 use Rattle.query_core.specs.Filters.{Filter, height, operands_height, operands_of}

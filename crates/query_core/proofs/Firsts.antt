@@ -1,4 +1,4 @@
--- The first of a list in order: what stands behind them, or would be put there, does not count.
+-- The first of a list in order do not depend on what comes after them, or would be inserted there.
 use Rattle.std.proofs.Common.{◌≡◌, ℕ, zero, suc, ◌<◌, List, [], ◌∷◌, ◌++◌, length, get_or, take, Bool, true, false, Ordering, inl, inr, refl, sym, ap, ◌∙◌, arith}
 use Rattle.std.specs.Ordering.{is_lt}
 use Rattle.std.specs.Cmp.{IsTotalOrder, IsStrictWeakOrder}
@@ -12,7 +12,7 @@ use Rattle.query_core.specs.Candidates.{IsPast}
 use Rattle.query_core.proofs.Rising.{Under, Rises, in_order_rises, rises_in_order}
 
 module _ {X : Type 0} (cmp : X → X → Ordering) where
-  -- ---- only the first of a list decide on its first when one more is put in
+  -- ---- the first of a list determine its first when one more is inserted
 
   take-head : (k : ℕ) (x : X) (xs : List X) → take k (x ∷ take k xs) ≡ take k (x ∷ xs)
   take-head zero x xs = refl
@@ -34,7 +34,7 @@ module _ {X : Type 0} (cmp : X → X → Ordering) where
   fold-push [] ys new = refl
   fold-push (x ∷ xs) ys new = fold-push xs (placed cmp ys x) new
 
-  -- one more item is put into the items in order
+  -- one more item is inserted into the items in order
   pub in_order-push : (xs : List X) (new : X) → in_order cmp (xs ++ new ∷ []) ≡ placed cmp (in_order cmp xs) new
   in_order-push xs new = fold-push xs [] new
 
@@ -93,7 +93,7 @@ module _ {X : Type 0} (cmp : X → X → Ordering) (total : IsTotalOrder cmp) wh
         | inr e ↦ e
       ]
 
-  -- and it stays such where more items are put in
+  -- and it stays such where more items are inserted
   pub past_stays : (k : ℕ) (y new : X) (xs : List X) → Past k y xs → Past k y (placed cmp xs new)
   past_stays zero y new xs p = tt
   past_stays (suc k) y new [] p = absurd p

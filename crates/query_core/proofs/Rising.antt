@@ -1,4 +1,4 @@
--- Lists in order: what "put in one by one" comes to, that a stable sort gives the same, and that the order in which
+-- Lists in order: what "inserted one by one" comes to, that a stable sort gives the same, and that the order in which
 -- items come does not matter where no two of them tie.
 use Rattle.std.proofs.Common.{◌≡◌, ℕ, suc, ◌<◌, ◌≤◌, List, [], ◌∷◌, ◌++◌, map, length, get_or, Bool, true, false, not, ◌&&◌, Ordering, inl, inr, refl, sym, ap, ◌∙◌, arith, Bor}
 use Rattle.std.specs.Bool.{⊤}
@@ -108,7 +108,7 @@ module _ {X : Type 0} (cmp : X → X → Ordering) (total : IsTotalOrder cmp) wh
       let rest = same_from_ties xs ys r.1 s.1 tails in
       cc
 
-  -- ---- items put in one by one
+  -- ---- items inserted one by one
 
   under_chain : (x y : X) (ys : List X) → less y x ≡ false → Under y ys → Under x ys
   under_chain x y [] l u = tt
@@ -218,7 +218,7 @@ module _ {X : Type 0} (cmp : X → X → Ordering) (total : IsTotalOrder cmp) wh
   rises_from_far (y ∷ ys) f =
       (under_from_far y ys (λ k l. f 0 (suc k) y (omega arith) (omega arith)), rises_from_far ys (λ i j d le l. f (suc i) (suc j) d (omega arith) (omega arith)))
 
-  -- what a stable sort ensures is that its result is the items put in one by one
+  -- what a stable sort ensures is that its result is the items inserted one by one
   pub sort_is_in_order : (xs ys : List X) → IsSortedBy less ys → IsStableBy less xs ys → ys ≡ in_order cmp xs
   sort_is_in_order xs ys up stable = rises_in_order xs ys (rises_from_far ys (sorted_far less ranks ys up)) stable
 

@@ -16,7 +16,7 @@ use Rattle.query_core.specs.Candidates.{row_of, value_at, value_of, candidates_c
 
 -- ---- total orders
 
--- an order turned round is total too
+-- the reverse of a total order is total
 turned_total : {K : Type 0} {R : K → K → Ordering} (descending : Bool) → IsTotalOrder R → IsTotalOrder (λ x y. turned descending (R x y))
 turned_total false o = o
 turned_total {R = R} true o = record {
@@ -45,7 +45,7 @@ candidates_cmp_total (p ∷ ps) i = then_total (on_total (λ (c : Candidate). va
 abbrev kept : Candidate → ℕ → Option Tree
 kept c j = option_map (λ r. r.now) (get_or c.values j None)
 
--- the kept values from place i on are those at these paths
+-- the kept values from index i on are those at these paths
 abbrev IsRankedFrom : Order → ℕ → Candidate → Type 0
 IsRankedFrom ps i c = (j k : ℕ) → j ≡ i + k → j < KEPT → kept c j ≡ value_at ps k c.row.now.2
 

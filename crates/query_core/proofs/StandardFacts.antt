@@ -1,4 +1,4 @@
--- Worked cases of the query language, said of the specs, so that a slip in a definition does not check.
+-- Worked cases of the query language, computed from the definitions.
 use Rattle.std.proofs.Common.{◌≡◌, ℕ, List, [], ◌∷◌, true, false, pos, negsuc, map, codes, ◌++◌, refl}
 use Rattle.std.specs.Fmt.{digits}
 use Rattle.q_doc.specs.Tree.{Tree, null, boolean, number, text, array, object, no_items, item, no_members, member}
@@ -29,7 +29,7 @@ negation : print_query (query (negated (compared a Less (whole 3))) [] 0 100) �
 unfolding digits
 negation = refl
 
--- the six signs
+-- the six operators
 signs :
     (filter_text (compared a Equal (whole 1)) ≡ codes "a = 1")
     × (filter_text (compared a Unequal (whole 1)) ≡ codes "a != 1")
@@ -53,13 +53,13 @@ atoms :
 unfolding digits
 atoms = (refl, refl, refl, refl, refl, refl, refl, refl)
 
--- segments that are no words, and words of the language, stand in quotes; texts are escaped
+-- segments that are no words, and words of the language, are printed in quotes; texts are escaped
 quotes :
     (filter_text (present (codes "" ∷ codes "in" ∷ codes "a b" ∷ codes "_b1" ∷ codes "1b" ∷ [])) ≡ codes "exists \"\".\"in\".\"a b\"._b1.\"1b\"")
     × (filter_text (compared a Equal (text (1 ∷ 10 ∷ 31 ∷ 34 ∷ 92 ∷ 127 ∷ []))) ≡ (codes "a = \"\\u0001\\u000a\\u001f\\\"\\\\" ++ 127 ∷ codes "\""))
 quotes = (refl, refl)
 
--- which operands stand in parentheses
+-- which operands are printed in parentheses
 parentheses :
     (filter_text (negated (every (operands_of (present a ∷ present b ∷ [])))) ≡ codes "not (exists a and exists b)")
     × (filter_text (negated (negated (present a))) ≡ codes "not not exists a")
@@ -134,7 +134,7 @@ shop =
 abbrev ids_of : List Row → List (List ℕ)
 ids_of rows = map (λ row. row.0) rows
 
--- an absent value is the least, a descending path turns the order round, and ties go by ids either way
+-- an absent value is the least, a descending path reverses the order, and ties go by ids either way
 windows :
     (ids_of (window (query (constant true) [] 0 100) shop) ≡ codes "p0" ∷ codes "p1" ∷ codes "p2" ∷ codes "p3" ∷ [])
     × (ids_of (window (query (constant true) ((b, false) ∷ []) 0 100) shop) ≡ codes "p3" ∷ codes "p1" ∷ codes "p2" ∷ codes "p0" ∷ [])

@@ -78,25 +78,25 @@ window_all P q docs h =
     take_all_of P q.take (drop q.skip (matches q docs)) (drop_all P q.skip (matches q docs)
     (in_order_all P (rows_cmp q.order) (filter (λ row. satisfies q.filter row.2) docs) (filter_all P (λ row. satisfies q.filter row.2) docs h)))
 
--- ---- versions tell rows
+-- ---- versions determine rows
 
-told : {X : Type 0} (P Q : X → Type 0) (version : X → ℕ) → ((a b : X) → P a → Q b → version a ≡ version b → a ≡ b) → (xs ys : List X) → AllByRecursion P xs → AllByRecursion Q ys
+determined : {X : Type 0} (P Q : X → Type 0) (version : X → ℕ) → ((a b : X) → P a → Q b → version a ≡ version b → a ≡ b) → (xs ys : List X) → AllByRecursion P xs → AllByRecursion Q ys
     → map version xs ≡ map version ys → xs ≡ ys
-told P Q version same [] [] p q e = refl
-told P Q version same [] (y ∷ ys) p q e = absurd (cc)
-told P Q version same (x ∷ xs) [] p q e = absurd (cc)
-told P Q version same (x ∷ xs) (y ∷ ys) p q e =
+determined P Q version same [] [] p q e = refl
+determined P Q version same [] (y ∷ ys) p q e = absurd (cc)
+determined P Q version same (x ∷ xs) [] p q e = absurd (cc)
+determined P Q version same (x ∷ xs) (y ∷ ys) p q e =
     let heads : version x ≡ version y = cc in
     let tails : map version xs ≡ map version ys = cc in
     let head = same x y p.0 q.0 heads in
-    let rest = told P Q version same xs ys p.1 q.1 tails in
+    let rest = determined P Q version same xs ys p.1 q.1 tails in
     cc
 
 contains_each : (xs : List Row) → AllByRecursion (Contains xs) xs
 contains_each xs = recursion_from_All (Contains xs) xs (All-contains_itself xs)
 
-pub windows_told : (q : Query) (docs others : List Row) → ((a b : Row) → Contains docs a → Contains others b → a.1 ≡ b.1 → a ≡ b)
+pub windows_determined : (q : Query) (docs others : List Row) → ((a b : Row) → Contains docs a → Contains others b → a.1 ≡ b.1 → a ≡ b)
     → map (λ (row : Row). row.1) (window q docs) ≡ map (λ (row : Row). row.1) (window q others) → window q docs ≡ window q others
-windows_told q docs others same e =
-    told (Contains docs) (Contains others) (λ row. row.1) same (window q docs) (window q others)
+windows_determined q docs others same e =
+    determined (Contains docs) (Contains others) (λ row. row.1) same (window q docs) (window q others)
     (window_all (Contains docs) q docs (contains_each docs)) (window_all (Contains others) q others (contains_each others)) e

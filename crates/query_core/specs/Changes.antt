@@ -1,4 +1,4 @@
--- What a change of one document does to the rows that satisfy a query.
+-- Internal. What a change of one document does to the rows that satisfy a query.
 use Rattle.std.specs.Prelude.{◌≡◌, ℕ, List, [], ◌∷◌, Bool, true, false, not, ◌&&◌, if◌then◌else◌, Option, None, Some, filter, option_map}
 use Rattle.std.specs.Str.{bytes_eq}
 use Rattle.std.specs.declared.cmp.Ordering.{Ordering}
@@ -31,7 +31,7 @@ pub record IsChange (id : List ℕ) (new : Option Row) (docs others : List Row) 
 
 -- ---- the rows that satisfy, in order
 
--- an item, if there is one, put into a list that is in order
+-- an item, if there is one, inserted into a list that is in order
 abbrev pub placed_if : {X : Type 0} → (X → X → Ordering) → List X → Option X → List X
 placed_if cmp xs None = xs
 placed_if cmp xs (Some new) = placed cmp xs new
@@ -41,13 +41,14 @@ abbrev pub satisfying : Query → Option Row → Option Row
 satisfying q None = None
 satisfying q (Some row) = if satisfies q.filter row.2 then Some row else None
 
--- the rows that satisfied, after a change: the old row is gone, and the new one in its place, if it satisfies
+-- the rows that satisfied, after a change: without the old row, and with the new one inserted, if it satisfies
 abbrev pub after_change : Query → List ℕ → Option Row → List Row → List Row
 after_change q id new rows = placed_if (rows_cmp q.order) (without id rows) (satisfying q new)
 
 -- ---- verdicts
 
--- whether a document of this collection was one that the query asks for before a change, and whether it is after it
+-- whether a document of this collection satisfied the query before a change, and whether it does after it (as the
+-- match types of InvaliDB: add, change, remove)
 abbrev pub verdict_of : Query → List ℕ → Option Tree → Option Tree → Verdict
 verdict_of q collection before after = record {
   before = bytes_eq collection q.collection && satisfies_if q.filter before;

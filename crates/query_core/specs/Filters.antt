@@ -1,4 +1,4 @@
--- What a filter is.
+-- Internal. What a filter is.
 use Rattle.std.specs.Prelude.{ℕ, suc, max, List, [], ◌∷◌, Bool}
 use Rattle.q_doc.specs.Tree.{Tree}
 use Rattle.query_core.specs.declared.filter.Op.{Op}

@@ -1,4 +1,4 @@
--- Which queries the language has: what their values are, and their limits.
+-- Internal. Which queries the language has: what their values are, and their limits.
 use Rattle.std.specs.Prelude.{◌≡◌, ℕ, ◌+◌, ◌≤◌, List, length, Bool, true, false, ⊤, All}
 use Rattle.std.specs.Str.{IsUtf8}
 use Rattle.q_doc.specs.Tree.{Tree, null, boolean, number, text, array, object}
@@ -59,7 +59,7 @@ is_scalar (text s) = true
 is_scalar (array ts) = false
 is_scalar (object ms) = false
 
--- such a value, whose number fits 64 bits with a sign and whose text is UTF-8
+-- such a value, whose number fits 64 bits with a sign and whose text is UTF-8 (RFC 3629)
 pub record IsScalar (v : Tree) : Type 0 where
   pub scalar : is_scalar v ≡ true
   pub value : IsValue v

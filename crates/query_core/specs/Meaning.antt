@@ -1,4 +1,4 @@
--- When a document satisfies a filter.
+-- Internal. When a document satisfies a filter.
 use Rattle.std.specs.Prelude.{Bool, true, false, not, ◌&&◌, ◌||◌, ◌==◌, List, Option, Some, None}
 use Rattle.std.specs.List.{list_any}
 use Rattle.std.specs.Ordering.{is_eq, is_lt, is_le, is_gt, is_ge}
@@ -23,7 +23,7 @@ op_holds AtLeast o = is_ge o
 abbrev pub same_value : Tree → Tree → Bool
 same_value t u = is_eq (tree_cmp t u)
 
--- the value is there, of the type of v, and compares with it so
+-- the value is there, has the type of v, and the comparison holds
 abbrev pub compares : Op → Tree → Option Tree → Bool
 compares op v None = false
 compares op v (Some t) = rank t == rank v && op_holds op (tree_cmp t v)
@@ -48,7 +48,7 @@ has_value v (Some (text s)) = false
 has_value v (Some (array ts)) = has_item v ts
 has_value v (Some (object ms)) = false
 
--- the value is there, be it null
+-- the value is there, null too
 abbrev pub is_there : Option Tree → Bool
 is_there None = false
 is_there (Some t) = true

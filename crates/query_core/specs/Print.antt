@@ -1,4 +1,4 @@
--- The printed text of a query.
+-- Internal. The printed text of a query.
 use Rattle.std.specs.Prelude.{ℕ, ◌+◌, ◌/◌, ◌%◌, Bool, true, false, not, ◌&&◌, ◌||◌, ◌==◌, nat_le, nat_lt, if◌then◌else◌, List, [], ◌∷◌, ◌++◌, codes}
 use Rattle.std.specs.List.{list_any, list_all, flat_map, join_by}
 use Rattle.std.specs.Str.{bytes_eq}
@@ -37,7 +37,7 @@ is_word s = starts_word s && list_all (λ b. is_letter b || is_digit b) s
 abbrev pub is_reserved : List ℕ → Bool
 is_reserved s = list_any (bytes_eq s) reserved
 
--- a word that is not reserved, and may stand without quotes
+-- a word that is not reserved, so that it is printed without quotes
 abbrev pub is_bare : List ℕ → Bool
 is_bare s = is_word s && not (is_reserved s)
 
@@ -81,7 +81,7 @@ values_text vs = join_by value_text (codes ", ") vs
 
 -- ---- filters
 
--- the sign of a comparison
+-- the operator of a comparison
 abbrev pub op_text : Op → List ℕ
 op_text Equal = codes "="
 op_text Unequal = codes "!="
@@ -135,7 +135,7 @@ abbrev mutual
   every_text no_operands = []
   every_text (operand f fs) = in_parentheses (is_every f || is_some f) (filter_text f) ++ every_rest fs
 
-  -- those behind the first
+  -- those after the first
   pub every_rest : Operands → List ℕ
   every_rest no_operands = []
   every_rest (operand f fs) = codes " and " ++ in_parentheses (is_every f || is_some f) (filter_text f) ++ every_rest fs
@@ -145,7 +145,7 @@ abbrev mutual
   some_text no_operands = []
   some_text (operand f fs) = in_parentheses (is_some f) (filter_text f) ++ some_rest fs
 
-  -- those behind the first
+  -- those after the first
   pub some_rest : Operands → List ℕ
   some_rest no_operands = []
   some_rest (operand f fs) = codes " or " ++ in_parentheses (is_some f) (filter_text f) ++ some_rest fs

@@ -1,4 +1,4 @@
--- The codes of orders and queries.
+-- Internal. The codes of orders and queries.
 use Rattle.std.specs.Prelude.{ℕ, List, refl}
 use Rattle.std.specs.Coded.{Coded, code_by, coded×, coded_ℕ, coded_bool, coded_list}
 use Rattle.query_core.specs.declared.query.Query.{Query}

@@ -1,4 +1,4 @@
--- Whether two queries are equal.
+-- Internal. Whether two queries are equal.
 use Rattle.std.specs.Prelude.{ℕ, Bool, true, false, ◌&&◌, ◌==◌, List}
 use Rattle.std.specs.Str.{bytes_eq}
 use Rattle.std.specs.Cmp.Lexicographic.{pointwise}
@@ -20,7 +20,7 @@ same_truth true true = true
 same_truth false false = true
 same_truth a b = false
 
--- the place of a sign among the six
+-- the index of an operator among the six
 abbrev pub op_number : Op → ℕ
 op_number Equal = 0
 op_number Unequal = 1
@@ -29,7 +29,7 @@ op_number AtMost = 3
 op_number Greater = 4
 op_number AtLeast = 5
 
--- equal signs
+-- equal operators
 abbrev pub same_op : Op → Op → Bool
 same_op a b = op_number a == op_number b
 

@@ -1,4 +1,4 @@
--- The tests of equal filters and queries tell exactly what is equal.
+-- Internal. The tests of equal filters and queries are true exactly of equal ones.
 use Rattle.std.specs.Prelude.{◌≡◌, ℕ, Bool, true, false, ◌&&◌, ◌==◌, if◌then◌else◌, List, refl}
 use Rattle.std.proofs.Common.{sym, ap, ap₂, ◌∙◌}
 use Rattle.std.specs.Bool.{Decides}
@@ -28,7 +28,7 @@ same_truth-Decides true false = ((λ e. cc), (λ e. cc))
 same_truth-Decides false true = ((λ e. cc), (λ e. cc))
 same_truth-Decides false false = ((λ e. refl), (λ e. refl))
 
--- the sign with a number
+-- the operator of an index
 op_at : ℕ → Op
 op_at n =
     if n == 0 then Equal

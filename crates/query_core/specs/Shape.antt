@@ -1,4 +1,4 @@
--- The value of a filter, whose operands are seen as their values already.
+-- Internal. The value of a filter, whose operands are seen as their values already.
 use Rattle.query_core.specs.Filters.{Filter, constant, compared, listed, having, present, negated, every, some, operands_of}
 use Rattle.query_core.specs.declared.filter.Form.{Form}
 use Rattle.query_core.specs.declared.filter.Form.TheVariants.{Constant, Compare, In, Has, Exists, Not, And, Or}

@@ -1,4 +1,4 @@
--- Each operand is less high than its filter.
+-- Internal. Each operand has a smaller height than its filter.
 use Rattle.std.specs.Prelude.{suc, ◌≤◌, ◌+◌, max, List, [], ◌∷◌}
 use Rattle.std.proofs.Common.{arith}
 use Rattle.query_core.specs.Filters.{Filter, height, operands_height, operands_of}

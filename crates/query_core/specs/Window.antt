@@ -1,4 +1,4 @@
--- The window of a query over the documents of its collection.
+-- Internal. The window of a query over the documents of its collection.
 use Rattle.std.specs.Prelude.{ℕ, List, [], ◌∷◌, Bool, if◌then◌else◌, filter, fold, take, drop}
 use Rattle.std.specs.Ordering.{ordering_then, ordering_reverse, is_lt, nat_cmp}
 use Rattle.std.specs.declared.cmp.Ordering.{Ordering}
@@ -18,7 +18,7 @@ Row = List ℕ × ℕ × Tree
 abbrev pub Order : Type 0
 Order = List (List (List ℕ) × Bool)
 
--- an order, or for a descending path the order turned round
+-- an order, or for a descending path the reverse order
 abbrev pub turned : Bool → Ordering → Ordering
 turned descending o = if descending then ordering_reverse o else o
 
@@ -31,12 +31,12 @@ paths_cmp (p ∷ ps) t u = ordering_then (turned p.1 (value_cmp (tree_at p.0 t) 
 abbrev pub rows_cmp : Order → Row → Row → Ordering
 rows_cmp order a b = ordering_then (paths_cmp order a.2 b.2) (slice_cmp nat_cmp a.0 b.0)
 
--- an item put into a list that is in order, behind those that it ties with
+-- an item inserted into a list that is in order, after those that it ties with
 abbrev pub placed : {X : Type 0} → (X → X → Ordering) → List X → X → List X
 placed cmp [] new = new ∷ []
 placed cmp (x ∷ xs) new = if is_lt (cmp new x) then new ∷ x ∷ xs else x ∷ placed cmp xs new
 
--- the items put in one by one
+-- the items inserted one by one
 abbrev pub in_order : {X : Type 0} → (X → X → Ordering) → List X → List X
 in_order cmp xs = fold (placed cmp) [] xs
 

@@ -21,7 +21,7 @@ pub fn compare_rows(order: &Order, a: &Row, b: &Row) -> Ordering
     a.0.cmp(&b.0)
 }
 
-/// The order, or for a descending path the order turned round.
+/// The order, or for a descending path the reverse order.
 pub(crate) fn turned(descending: bool, order: Ordering) -> Ordering
     ensures { result ≡ turned descending order }
 {

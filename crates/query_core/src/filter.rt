@@ -1,9 +1,9 @@
-//! Filters: what a query asks of a document.
+//! Filters: conditions on a document.
 
 use q_doc::{Node, Path};
 use std::marker::Model;
 
-/// The sign of a comparison.
+/// The operator of a comparison.
 #[derive(Clone, Copy, Debug, PartialEq, Eq, Drop)]
 pub enum Op {
     /// `=`
@@ -20,7 +20,7 @@ pub enum Op {
     AtLeast,
 }
 
-/// What a query asks of a document. Contracts see it as a `Filter` of `specs/Filters.antt`.
+/// A condition on a document. Contracts see it as a `Filter` of `specs/Filters.antt`.
 #[cycle(filter)]
 #[derive(Drop)]
 pub struct Filter {
@@ -33,7 +33,7 @@ pub struct Filter {
 pub enum Form {
     /// True of every document, or of none.
     Constant(bool),
-    /// The value at the path has the type of this value, and compares with it so.
+    /// The value at the path has the type of this value, and the comparison with it holds.
     Compare { path: Path, op: Op, value: Node },
     /// The value at the path is one of these.
     In { path: Path, values: Vec<Node> },

@@ -1,8 +1,8 @@
 //! Queries: filters and their meaning, orders of rows, windows, and the printed text of a query.
 #![tactic(auto)]
 
+mod clones;
 mod compare;
-mod copies;
 mod equality;
 mod filter;
 pub mod laws;

@@ -51,7 +51,7 @@ fn satisfies_some(operands: &[Filter], doc: &Doc) -> bool
     false
 }
 
-/// Whether the value is there, of the type of the other, and compares with it so. Both truth values
+/// Whether the value is there, has the type of the other, and the comparison holds. Both truth values
 /// are of one type.
 fn compares(op: Op, value: &Node, found: Option<&Node>) -> bool
     ensures { result ≡ compares op value.now (option_map (λ r. r.now) found.entry) }

@@ -1,4 +1,4 @@
-//! Queries, and what is asked of them.
+//! Queries, their orders, and verdicts on a change.
 ghost use Rattle.std.specs.Prelude.{◌≡◌};
 
 use crate::filter::Filter;
@@ -58,9 +58,9 @@ pub struct Query {
     pub collection: Name,
     pub filter: Filter,
     pub order: Order,
-    /// How many of the first rows are left out.
+    /// The number of first rows that are left out.
     pub skip: u32,
-    /// How many rows are kept at most.
+    /// The greatest number of rows that are kept.
     pub take: u32,
 }
 

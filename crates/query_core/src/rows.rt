@@ -5,7 +5,7 @@ use q_base::{Commit, Name};
 use q_doc::Doc;
 use std::marker::Model;
 
-/// A document with its id in front, and its version: the commit that put it there.
+/// An id, a version and a document. The version is the commit that put the document there.
 pub type Row = (Name, Commit, Doc);
 
 /// The documents of a collection.

@@ -1,4 +1,4 @@
-//! The window of a query: the rows that satisfy, in order, without the first and cut off.
+//! The window of a query: the rows that satisfy its filter, in order, from `skip` on, at most `take`.
 ghost use Rattle.std.specs.Prelude.{◌≡◌, ◌+◌, ◌++◌, ◌∷◌, [], List, map, filter, take, drop, option_map, IfOk, OnOk};
 ghost use Rattle.query_core.specs.Window.{Row as ARow, in_order, matches, window};
 ghost use Rattle.query_core.specs.Candidates.{row_of, value_of, value_at, candidates_cmp, is_past, IsRanked, IsLast, HasFirsts, AreFirst};
@@ -12,13 +12,14 @@ use q_doc::{Doc, Node, Path, compare};
 use std::alloc::{AllocError, Global};
 use std::cmp::Ordering;
 
-/// The most paths of an order whose values are kept beside each row. No query of the language has more.
+/// The number of paths of an order whose values are kept beside each row. No query of the language
+/// has more.
 const KEPT: usize = 4;
 
-/// More candidates than these, and than twice the wanted ones, are sorted and cut off.
+/// Above this number of candidates, and above twice the wanted ones, they are sorted and cut off.
 const MANY: usize = 32;
 
-/// A row that satisfies, with the values at the first paths of the order, each looked up once.
+/// A row that satisfies the filter, with the values at the first paths of the order, each looked up once.
 #[derive(Clone, Copy)]
 struct Candidate<'a> {
     row: &'a Row,
@@ -29,19 +30,20 @@ struct Candidate<'a> {
 #[derive(Drop)]
 struct Firsts<'a> {
     found: Vec<Candidate<'a>>,
-    /// The last of the first ones when the candidates were cut off. What is not before it comes too late.
+    /// The last candidate that was kept when they were cut off. What is not before it is not needed.
     last: Option<Candidate<'a>>,
 }
 
-/// The rows that satisfy a query, in its order, without the first `skip`, and `take` of them at most.
-/// The order of the documents does not matter, where no two have one id. Beside the rows that it gives
-/// it takes memory for some `2 * (skip + take)` references, however many documents satisfy.
+/// The rows that satisfy a query, in its order, without the first `skip`, at most `take` of them.
+/// The order of the documents does not matter, where no two have one id. Besides the rows of the
+/// result it takes memory for about `2 * (skip + take)` references, whatever number of documents
+/// satisfies the query.
 pub fn window(alloc: Global, query: &Query, docs: &Docs) -> Result<Rows, Memory>
     ensures { IfOk result (λ rows. rows ≡ window query.now docs.now) }
 {
     let (skip, count) = (query.skip as usize, query.take as usize);
     let found = sorted(alloc, query, docs, skip + count)?;
-    let rows = copies(alloc, &found, skip, count)?;
+    let rows = cloned_rows(alloc, &found, skip, count)?;
     Ok(Rows { rows })
 }
 
@@ -59,7 +61,7 @@ fn sorted<'a>(
     Ok(found)
 }
 
-/// The rows that satisfy, but for some that are not among the first `count` in order.
+/// The rows that satisfy, except some that are not among the first `count` in order.
 fn candidates<'a>(
     alloc: Global,
     query: &Query,
@@ -80,7 +82,7 @@ fn candidates<'a>(
     Ok(firsts.found)
 }
 
-/// Takes one more candidate, unless it comes behind the first `count`.
+/// Takes one more candidate, unless it comes after the first `count`.
 fn offer<'a>(
     firsts: &mut Firsts<'a>,
     order: &Order,
@@ -94,13 +96,13 @@ fn offer<'a>(
     if is_past(paths, &firsts.last, new) {
         return Ok(());
     }
-    make_room(firsts, paths, count)?;
+    cut_if_many(firsts, paths, count)?;
     firsts.found.push(*new)?;
     Ok(())
 }
 
-/// Cuts off the candidates where they are many.
-fn make_room(
+/// Sorts the candidates and cuts them off, where they are many.
+fn cut_if_many(
     firsts: &mut Firsts<'_>,
     order: &[(Path, bool)],
     count: usize,
@@ -124,8 +126,8 @@ fn is_past(order: &[(Path, bool)], last: &Option<Candidate<'_>>, new: &Candidate
     }
 }
 
-/// Puts candidates in order and keeps the first `count`. The answer is the last of these, if there are
-/// so many.
+/// Puts candidates in order and keeps the first `count`. The result is the last of these, where there
+/// are `count`.
 fn cut<'a>(
     found: &mut Vec<Candidate<'a>>,
     order: &[(Path, bool)],
@@ -166,11 +168,11 @@ fn ranked<'a>(order: &Order, row: &'a Row) -> Candidate<'a>
     }
 }
 
-/// The value of a document at the path that stands at a place of the order.
-fn value_at<'a>(order: &Order, place: usize, doc: &'a Doc) -> Option<&'a Node>
-    ensures { option_map (λ r. r.now) result ≡ value_at order.now place doc.now }
+/// The value of a document at the path that stands at a index of the order.
+fn value_at<'a>(order: &Order, index: usize, doc: &'a Doc) -> Option<&'a Node>
+    ensures { option_map (λ r. r.now) result ≡ value_at order.now index doc.now }
 {
-    match order.paths.get(place) {
+    match order.paths.get(index) {
         Some((path, _)) => doc.at(path),
         None => None,
     }
@@ -180,10 +182,10 @@ fn value_at<'a>(order: &Order, place: usize, doc: &'a Doc) -> Option<&'a Node>
 fn compare_candidates(order: &[(Path, bool)], a: &Candidate<'_>, b: &Candidate<'_>) -> Ordering
     ensures { result ≡ candidates_cmp order.now 0 a.now b.now }
 {
-    for (place, (path, descending)) in order.iter().enumerate() {
+    for (index, (path, descending)) in order.iter().enumerate() {
         let by_path = turned(
             *descending,
-            compare(value_of(a, place, path), value_of(b, place, path)),
+            compare(value_of(a, index, path), value_of(b, index, path)),
         );
         if by_path.is_ne() {
             return by_path;
@@ -192,20 +194,20 @@ fn compare_candidates(order: &[(Path, bool)], a: &Candidate<'_>, b: &Candidate<'
     a.row.0.cmp(&b.row.0)
 }
 
-/// The value by which a candidate is ordered at a place of the order.
-fn value_of<'a>(candidate: &Candidate<'a>, place: usize, path: &Path) -> Option<&'a Node>
-    ensures { option_map (λ r. r.now) result ≡ value_of candidate.now place path.now }
+/// The value by which a candidate is ordered at a index of the order.
+fn value_of<'a>(candidate: &Candidate<'a>, index: usize, path: &Path) -> Option<&'a Node>
+    ensures { option_map (λ r. r.now) result ≡ value_of candidate.now index path.now }
 {
     let values = &candidate.values[..];
-    if place < KEPT {
-        values[place]
+    if index < KEPT {
+        values[index]
     } else {
         candidate.row.2.at(path)
     }
 }
 
-/// Copies of the rows of candidates, without the first `skip`, and `count` of them at most.
-fn copies(
+/// Clones of the rows of candidates, without the first `skip`, at most `count` of them.
+fn cloned_rows(
     alloc: Global,
     found: &[Candidate<'_>],
     skip: usize,
@@ -219,13 +221,13 @@ fn copies(
     let kept = &rest[..end];
     let mut rows = Vec::with_capacity(alloc, kept.len())?;
     for candidate in kept {
-        rows.push(copy_of(candidate.row)?)?;
+        rows.push(cloned_row(candidate.row)?)?;
     }
     Ok(rows)
 }
 
-fn copy_of(row: &Row) -> Result<Row, AllocError>
-    ensures { IfOk result (λ copy. row.now ≡ copy) }
+fn cloned_row(row: &Row) -> Result<Row, AllocError>
+    ensures { IfOk result (λ cloned. row.now ≡ cloned) }
 {
     Ok((row.0.clone()?, row.1, row.2.clone()?))
 }

@@ -73,7 +73,7 @@ fn hex_digit(number: u8) -> u8
     }
 }
 
-/// Whether a segment may stand without quotes: it is a word that the language does not use.
+/// Whether a segment is printed without quotes: it is a word, and not reserved.
 fn is_bare(segment: &[u8]) -> bool
     ensures { result ≡ is_bare segment.now }
 {

@@ -31,7 +31,7 @@ kept_negated h k f =
           rw (left, right) refl)
     ]
 
--- an operand that means f, behind the `not` of the level
+-- an operand that means f, after the `not` of the level
 abbrev pub plus : Filter → State → State
 plus f s = record s {
   pending = pending.Joint;

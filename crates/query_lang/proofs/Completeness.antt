@@ -3,7 +3,7 @@ use Rattle.std.proofs.Common.{◌≡◌, ℕ, ◌+◌, ◌<◌, Bool, true, fals
 use Rattle.std.proofs.lemmas.Bool.{lt-ltb}
 use Rattle.query_core.specs.Filters.{Filter, constant, compared, listed, having, present}
 use Rattle.query_lang.specs.declared.filter_reader.PathUse.TheVariants.{Tested}
-use Rattle.query_lang.specs.declared.filter_reader.Asked.TheVariants.{Compare as AsksCompare, Has as AsksHas}
+use Rattle.query_lang.specs.declared.filter_reader.ValueTest.TheVariants.{Compare as AsksCompare, Has as AsksHas}
 use Rattle.query_lang.specs.declared.filter_reader.Pending.TheVariants as pending
 use Rattle.query_lang.specs.declared.token.Reserved.TheVariants.{And, Or, Not, In, Has}
 use Rattle.query_lang.specs.declared.token.Sign.TheVariants.{Compare, Open, Close, OpenList, CloseList, Dot}
@@ -34,7 +34,7 @@ further_no_dot : (ns : AndTail) (rest : List Token) → NoDot rest → NoDot (fu
 further_no_dot no_and rest other = other
 further_no_dot (and_not n ns) rest other = tt
 
--- behind the `[` of a list
+-- after the `[` of a list
 list_values : (s : State) (path : List (List ℕ)) (vs : List Value) (rest : List Token)
     → outcome (record s { pending = pending.FirstItem path }) (value_tokens vs (sign CloseList ∷ rest)) ≡ outcome (atom (listed path (map value_tree vs)) (length (map value_tree vs)) s) rest
 unfolding on_token on_first_item on_after_item item_at
@@ -44,33 +44,33 @@ list_values s path (v ∷ vs) rest = first_value s path v (more_values vs (sign 
 -- atoms but nested filters
 plain_exists : (s : State) (seg : Segment) (ss : List Segment) (rest : List Token) → length ss < 8 → NoDot rest
     → outcome (operand_at s) (atom_tokens (existing seg ss) rest) ≡ outcome (plus (present (path_keys seg ss)) s) rest
-plain_exists s seg ss rest room other = existing_path s seg ss rest room ∙ exists_operand s (path_keys seg ss) rest other
+plain_exists s seg ss rest below other = existing_path s seg ss rest below ∙ exists_operand s (path_keys seg ss) rest other
 
 plain_asked : (s : State) (seg : Segment) (ss : List Segment) (t : Token) (v : Value) (rest : List Token) → length ss < 8
     → outcome (operand_at s) (path_tokens seg ss (t ∷ value_token v ∷ rest)) ≡ outcome (record s { pending = pending.Path Tested (path_keys seg ss) }) (t ∷ value_token v ∷ rest)
-plain_asked s seg ss t v rest room = tested_path s seg ss (t ∷ value_token v ∷ rest) room
+plain_asked s seg ss t v rest below = tested_path s seg ss (t ∷ value_token v ∷ rest) below
 
 pub plain_compared : (s : State) (seg : Segment) (ss : List Segment) (op : Op) (v : Value) (rest : List Token) → length ss < 8
     → outcome (operand_at s) (atom_tokens (comparing seg ss op v) rest) ≡ outcome (plus (compared (path_keys seg ss) op (value_tree v)) s) rest
 unfolding on_token on_path
-plain_compared s seg ss op v rest room =
-    tested_path s seg ss (sign (Compare op) ∷ value_token v ∷ rest) room
+plain_compared s seg ss op v rest below =
+    tested_path s seg ss (sign (Compare op) ∷ value_token v ∷ rest) below
     ∙ asked_value s (path_keys seg ss) (AsksCompare op) v rest
     ∙ ap (λ after. outcome after rest) (atom_plus (compared (path_keys seg ss) op (value_tree v)) 0 s refl refl)
 
 pub plain_having : (s : State) (seg : Segment) (ss : List Segment) (v : Value) (rest : List Token) → length ss < 8
     → outcome (operand_at s) (atom_tokens (holding seg ss v) rest) ≡ outcome (plus (having (path_keys seg ss) (value_tree v)) s) rest
 unfolding on_token on_path
-plain_having s seg ss v rest room =
-    tested_path s seg ss (word Has ∷ value_token v ∷ rest) room
+plain_having s seg ss v rest below =
+    tested_path s seg ss (word Has ∷ value_token v ∷ rest) below
     ∙ asked_value s (path_keys seg ss) AsksHas v rest
     ∙ ap (λ after. outcome after rest) (atom_plus (having (path_keys seg ss) (value_tree v)) 0 s refl refl)
 
 pub plain_listed : (s : State) (seg : Segment) (ss : List Segment) (vs : List Value) (rest : List Token) → length ss < 8
     → outcome (operand_at s) (atom_tokens (listing seg ss vs) rest) ≡ outcome (plus (listed (path_keys seg ss) (map value_tree vs)) s) rest
 unfolding on_token on_path on_list
-plain_listed s seg ss vs rest room =
-    tested_path s seg ss (word In ∷ sign OpenList ∷ value_tokens vs (sign CloseList ∷ rest)) room
+plain_listed s seg ss vs rest below =
+    tested_path s seg ss (word In ∷ sign OpenList ∷ value_tokens vs (sign CloseList ∷ rest)) below
     ∙ list_values s (path_keys seg ss) vs rest
     ∙ ap (λ after. outcome after rest) (atom_plus (listed (path_keys seg ss) (map value_tree vs)) (length (map value_tree vs)) s refl refl)
 
@@ -105,7 +105,7 @@ at_constant s false rest = plain_constant s false rest
 
 opening : (s : State) (ts : List Token) → length s.outer < 64 → outcome (operand_at s) (sign Open ∷ ts) ≡ outcome (operand_at (inner s)) ts
 unfolding on_token on_operand opened
-opening s ts room = rw (lt-ltb (length s.outer) 64 room) refl
+opening s ts below = rw (lt-ltb (length s.outer) 64 below) refl
 
 mutual
   -- a filter
@@ -151,8 +151,8 @@ mutual
   -- an atom
   pub read_atom : (a : Atom) (s : State) (rest : List Token) → AtomFits (length s.outer) a → NoDot rest
       → outcome (operand_at s) (atom_tokens a rest) ≡ outcome (plus (atom_meaning a) s) rest
-  read_atom (nested t) s rest (room, fits) other =
-      opening s (filter_tokens t (sign Close ∷ rest)) room
+  read_atom (nested t) s rest (below, fits) other =
+      opening s (filter_tokens t (sign Close ∷ rest)) below
       ∙ read_filter_tree t (inner s) (sign Close ∷ rest) fits (λ e. let no : Close ≡ Dot = e in cc)
       ∙ closing t s rest
   read_atom always s rest fits other = at_constant s true rest

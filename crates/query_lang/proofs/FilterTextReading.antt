@@ -10,7 +10,7 @@ use Rattle.query_lang.specs.declared.refusal.Cause.TheVariants as cause
 use Rattle.query_lang.specs.FilterReading.{State, start, step, on_token, on_operand, segment_at, item_at, on_exists, on_path, on_value, on_list, on_first_item, on_after_item, on_joint, ended, judged_if, without_pending, filter_rules, read_filter}
 use Rattle.query_lang.specs.FilterText.{IsFilterText, decided, capped, IsWhole}
 use Rattle.query_lang.specs.declared.refusal.QueryRefusal.TheVariants.{TooMany, TooDeep}
-use Rattle.query_lang.specs.Spelling.{Spells}
+use Rattle.query_lang.specs.Spelling.{Tokenizes}
 use Rattle.query_lang.specs.Grammar.{filter_tokens, filter_meaning}
 use Rattle.query_lang.specs.Reading.{Tokens, done, next, inside, stuck, none, tokens, run, after_token}
 use Rattle.query_lang.specs.Refusals.{refused}
@@ -88,7 +88,7 @@ no_bad_token (pending.Item path values) s s' e = cc
 no_bad_token (pending.AfterItem path values) s s' e = cc
 no_bad_token pending.Joint s s' e = cc
 
--- so a text that is read well has none
+-- hence a text that is read well has none
 pub good_tokens : (ts : List Token) (s : State) → IsWhole (outcome s ts) → NoBad ts
 good_tokens [] s good = tt
 good_tokens (t ∷ ts) s good = after (step s t) refl good (λ s' whole. good_tokens ts s' whole) where
@@ -112,7 +112,7 @@ pub text_read : (bytes : List ℕ) (f : Filter) → IsFilterText bytes f → rea
 unfolding read_filter tokens
 text_read bytes f text =
     let ts = filter_tokens text.tree [] in
-    let reads = spelled_read ts (suc (length bytes)) bytes text.spells (omega arith) in
+    let reads = spelled_read ts (suc (length bytes)) bytes text.tokenizes (omega arith) in
     let whole = whole_filter text.tree text.fits ∙ ap decided text.means in
     list_run (length bytes) (tokens bytes) ts start reads (subst IsWhole (sym whole) (whole_decided f)) ∙ whole
 
@@ -123,8 +123,8 @@ read_text bytes good =
     let l = run_list (length bytes) (tokens bytes) start good in
     let whole : IsWhole (outcome start l.list) = subst IsWhole (sym l.same) good in
     let (tree, fits, tree_tokens) = outcome_has_tree l.list whole in
-    let spells = read_spelled (suc (length bytes)) bytes l.list (omega arith) l.reads (good_tokens l.list start whole) in (
+    let tokenizes = read_spelled (suc (length bytes)) bytes l.list (omega arith) l.reads (good_tokens l.list start whole) in (
       filter_meaning tree,
-      record { tree = tree; spells = subst (Spells bytes) (sym tree_tokens) spells; fits = fits; means = refl },
+      record { tree = tree; tokenizes = subst (Tokenizes bytes) (sym tree_tokens) tokenizes; fits = fits; means = refl },
       sym l.same ∙ ap (outcome start) (sym tree_tokens) ∙ whole_filter tree fits,
     )

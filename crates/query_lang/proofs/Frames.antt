@@ -58,7 +58,7 @@ mutual
 
 -- ---- lists of filters
 
--- a filter, or what stands in its place
+-- a filter, or what is kept instead
 abbrev pub keep : Filter → Filter
 keep f = kept (height f) f
 
@@ -95,7 +95,7 @@ all_kept (f ∷ fs) low =
     let here : nat_lt most_height (height f) ≡ false = le-ltb 32 (height f) (omega arith) in
     ap (λ b. cond b (constant true) f ∷ map keep fs) here ∙ ap (λ gs. f ∷ gs) (all_kept fs (omega arith))
 
--- filters joined; one stands for itself
+-- filters joined; one filter is itself
 abbrev pub together : Join → List Filter → Filter
 together how [] = join_of how (operands_of [])
 together how (f ∷ []) = f
@@ -196,7 +196,7 @@ further_framed (and_not n ns) s anys alls =
     ap (after_further ns) (plus_framed (not_meaning n) s anys alls)
     ∙ further_framed ns s anys (alls ++ not_meaning n ∷ []) ∙ ap (framed s anys) (append_assoc alls (not_meaning n ∷ []) (further_meanings ns))
 
--- a conjunction behind an `or`
+-- a conjunction after an `or`
 and_framed : (a : AndTree) (s : State) (anys : List Filter) → (f : Filter) × (fs : List Filter) × (and_meaning a ≡ all_of (f ∷ fs)) × (after_and a (framed s anys []) ≡ framed s anys (f ∷ fs))
 and_framed (conjuncts n ns) s anys =
     (not_meaning n, further_meanings ns, refl, ap (after_further ns) (plus_framed (not_meaning n) s anys []) ∙ further_framed ns s anys (not_meaning n ∷ []))
@@ -220,15 +220,15 @@ join_framed s anys f fs =
     let alls = map keep (f ∷ fs) in
     let from = length ops + length anys in
     let grouped : before.operands ≡ (ops ++ map keep anys) ++ alls = sym (append_assoc ops (map keep anys) alls) in
-    let front_len : length (ops ++ map keep anys) ≡ from = length-append ops (map keep anys) ∙ ap (λ n. length ops + n) (length-map-keep anys) in
-    let parts : drop from before.operands ≡ alls = ap (drop from) grouped ∙ drop_at (ops ++ map keep anys) alls from front_len in
-    let front : take from before.operands ≡ ops ++ map keep anys = ap (take from) grouped ∙ take_at (ops ++ map keep anys) alls from front_len in
+    let prefix_has_len : length (ops ++ map keep anys) ≡ from = length-append ops (map keep anys) ∙ ap (λ n. length ops + n) (length-map-keep anys) in
+    let parts : drop from before.operands ≡ alls = ap (drop from) grouped ∙ drop_at (ops ++ map keep anys) alls from prefix_has_len in
+    let prefix : take from before.operands ≡ ops ++ map keep anys = ap (take from) grouped ∙ take_at (ops ++ map keep anys) alls from prefix_has_len in
     let whole : joined join.And (capped (most (f ∷ fs))) (drop from before.operands) ≡ keep g =
     ap (joined join.And (capped (most (f ∷ fs)))) parts ∙ together_kept join.And f fs ∙ ap keep (sym (all_together (f ∷ fs))) in
     let tall : joined_height (capped (most (f ∷ fs))) (drop from before.operands) ≡ capped (height g) =
     ap (joined_height (capped (most (f ∷ fs)))) parts ∙ together_height join.And f fs ∙ ap (λ x. capped (height x)) (sym (all_together (f ∷ fs))) in
     let ops_are : joined_all before.level before.operands ≡ after.operands =
-    ap (λ r. r ++ joined join.And (capped (most (f ∷ fs))) (drop from before.operands) ∷ []) front
+    ap (λ r. r ++ joined join.And (capped (most (f ∷ fs))) (drop from before.operands) ∷ []) prefix
     ∙ ap (λ x. (ops ++ map keep anys) ++ x ∷ []) whole ∙ append_assoc ops (map keep anys) (keep g ∷ [])
     ∙ ap (λ r. ops ++ r) (sym (map-append keep anys (g ∷ [])) ∙ sym (append-nil (map keep (anys ++ g ∷ [])))) in
     let count : length (joined_all before.level before.operands) ≡ length ops + length (anys ++ g ∷ []) =
@@ -276,7 +276,7 @@ pub closed_at : (x : State) (level : Level) (outer : List Level) → x.outer ≡
 unfolding closed
 closed_at x level outer same = ap (closed (without_pending x)) same
 
--- an operand that was kept is kept behind its negations
+-- an operand that was kept is kept after its negations
 keep_negated : (k : ℕ) (f : Filter) → kept (capped_sum (capped (height f)) k) (negated_times k (keep f)) ≡ kept (height f + k) (negated_times k f)
 keep_negated k f =
     elim (cases_lt 32 (height f + k)) [
@@ -301,14 +301,14 @@ close_plus s outer f fs =
     let w = framed (record s { outer = outer }) (f ∷ fs) [] in
     let ops_are : w.operands ≡ ops ++ anys = ap (λ r. ops ++ r) (append-nil anys) in
     let parts : drop (length ops) w.operands ≡ anys = ap (drop (length ops)) ops_are ∙ drop_at ops anys (length ops) refl in
-    let front : take (length ops) w.operands ≡ ops = ap (take (length ops)) ops_are ∙ take_at ops anys (length ops) refl in
+    let prefix : take (length ops) w.operands ≡ ops = ap (take (length ops)) ops_are ∙ take_at ops anys (length ops) refl in
     let whole : joined join.Or (capped (most (f ∷ fs))) (drop (length ops) w.operands) ≡ keep g =
     ap (joined join.Or (capped (most (f ∷ fs)))) parts ∙ together_kept join.Or f fs ∙ ap keep (sym (any_together (f ∷ fs))) in
     let tall : joined_height (capped (most (f ∷ fs))) (drop (length ops) w.operands) ≡ capped (height g) =
     ap (joined_height (capped (most (f ∷ fs)))) parts ∙ together_height join.Or f fs ∙ ap (λ x. capped (height x)) (sym (any_together (f ∷ fs))) in
     same_state (close_with w s.level s.outer) (plus g s) refl
     (omega (arith, ap leaves (any_together (f ∷ fs)), together_leaves join.Or f fs))
-    (ap (λ r. r ++ kept (capped_sum (joined_height (capped (most (f ∷ fs))) (drop (length ops) w.operands)) s.level.nots) (negated_times s.level.nots (joined join.Or (capped (most (f ∷ fs))) (drop (length ops) w.operands))) ∷ []) front
+    (ap (λ r. r ++ kept (capped_sum (joined_height (capped (most (f ∷ fs))) (drop (length ops) w.operands)) s.level.nots) (negated_times s.level.nots (joined join.Or (capped (most (f ∷ fs))) (drop (length ops) w.operands))) ∷ []) prefix
     ∙ ap (λ h. ops ++ kept (capped_sum h s.level.nots) (negated_times s.level.nots (joined join.Or (capped (most (f ∷ fs))) (drop (length ops) w.operands))) ∷ []) tall
     ∙ ap (λ x. ops ++ kept (capped_sum (capped (height g)) s.level.nots) (negated_times s.level.nots x) ∷ []) whole
     ∙ ap (λ x. ops ++ x ∷ []) (keep_negated s.level.nots g))

@@ -4,7 +4,7 @@ pub mod Utf8Lemmas
 pub mod UnescapeLemmas
 pub mod NumeralLemmas
 mod StandardFacts
-pub mod StandsLemmas
+pub mod AllowedLemmas
 pub mod ReadingLemmas
 pub mod QuotedSpelling
 pub mod WordSpelling

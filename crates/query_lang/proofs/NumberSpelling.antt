@@ -63,10 +63,10 @@ pub first_append : (ds rest : List ℕ) → 0 < length ds → first (ds ++ rest)
 first_append [] rest some = absurd (omega arith)
 first_append (d ∷ ds) rest some = refl
 
--- digits in front of a text, which no digit follows
+-- digits before a text, which no digit follows
 digits_lexeme : (ds rest : List ℕ) (m : ℕ) (bytes : List ℕ) → minus_len bytes ≡ m → drop m bytes ≡ ds ++ rest → m + length ds ≤ length bytes → AllDigits 10 ds → 0 < length ds → is_digit (first rest) ≡ false
     → number_at bytes ≡ found (number_token (take (m + length ds) bytes)) (length bytes) (take (m + length ds) bytes) (drop (m + length ds) bytes)
-digits_lexeme ds rest m bytes minus behind room all some stop =
+digits_lexeme ds rest m bytes minus behind below all some stop =
     let count : prefix_len is_digit (drop (minus_len bytes) bytes) ≡ length ds =
     ap (λ k. prefix_len is_digit (drop k bytes)) minus ∙ ap (prefix_len is_digit) behind ∙ prefix_len-run is_digit ds rest (digits_pass ds all) stop in
     ap (number_of_digits bytes) count ∙ ap (λ b. cond b (found (number_token (take (minus_len bytes + length ds) bytes)) (length bytes) (take (minus_len bytes + length ds) bytes) (drop (minus_len bytes + length ds) bytes)) (number_of_digits bytes 0)) (lt-ltb 0 (length ds) some)
@@ -117,7 +117,7 @@ pub or_left : (a b : Bool) → a ≡ true → (a || b) ≡ true
 or_left true b e = refl
 or_left false b e = cc
 
--- a number in front of a text is found
+-- a number before a text is found
 pub number_read : (z : ℤ) (rest : List ℕ) → fits z ≡ true → is_digit (first rest) ≡ false
     → lexeme_at (signed_decimal z ++ rest) ≡ found (number z) (length (signed_decimal z ++ rest)) (signed_decimal z) rest
 number_read (pos n) rest small stop =
@@ -128,11 +128,11 @@ number_read (pos n) rest small stop =
     let first_is : first bytes ≡ first ds = first_append ds rest numeral.0 in
     let digit : is_digit (first bytes) ≡ true = ap is_digit first_is ∙ first_digit ds numeral.1 numeral.0 in
     let whole_len : length bytes ≡ length ds + length rest = length-append ds rest in
-    let front : take (0 + length ds) bytes ≡ ds = ap (λ k. take k bytes) (zero-add (length ds)) ∙ take_at ds rest (length ds) refl in
+    let prefix : take (0 + length ds) bytes ≡ ds = ap (λ k. take k bytes) (zero-add (length ds)) ∙ take_at ds rest (length ds) refl in
     let behind : drop (0 + length ds) bytes ≡ rest = ap (λ k. drop k bytes) (zero-add (length ds)) ∙ drop_at ds rest (length ds) refl in
     number_lexeme bytes (omega (arith, numeral.0)) (no_letter (first bytes) digit) (or_left (is_digit (first bytes)) (first bytes == 45) digit)
     ∙ digits_lexeme ds rest 0 bytes (minus_zero bytes digit) refl (omega arith) numeral.1 numeral.0 stop
-    ∙ ap (λ x. found (number_token x) (length bytes) x (drop (0 + length ds) bytes)) front
+    ∙ ap (λ x. found (number_token x) (length bytes) x (drop (0 + length ds) bytes)) prefix
     ∙ ap (λ x. found (number_token ds) (length bytes) ds x) behind ∙ ap (λ t. found t (length bytes) ds rest) (plain_token n low)
 number_read (negsuc n) rest small stop =
     let low = ltb-true n (2 ^ 63) small in
@@ -140,23 +140,23 @@ number_read (negsuc n) rest small stop =
     let bytes = 45 ∷ (ds ++ rest) in
     let (numeral, value) = decimal_is_IsNumeral (suc n) (omega arith) in
     let more : 1 + length ds ≡ suc (length ds) = omega arith in
-    let front : take (1 + length ds) bytes ≡ 45 ∷ ds = ap (λ k. take k bytes) more ∙ ap (λ r. 45 ∷ r) (take_at ds rest (length ds) refl) in
+    let prefix : take (1 + length ds) bytes ≡ 45 ∷ ds = ap (λ k. take k bytes) more ∙ ap (λ r. 45 ∷ r) (take_at ds rest (length ds) refl) in
     let behind : drop (1 + length ds) bytes ≡ rest = ap (λ k. drop k bytes) more ∙ drop_at ds rest (length ds) refl in
     at_number 45 (ds ++ rest) refl refl
     ∙ digits_lexeme ds rest 1 bytes refl refl (omega (arith, length-append ds rest)) numeral.1 numeral.0 stop
-    ∙ ap (λ x. found (number_token x) (length bytes) x (drop (1 + length ds) bytes)) front
+    ∙ ap (λ x. found (number_token x) (length bytes) x (drop (1 + length ds) bytes)) prefix
     ∙ ap (λ x. found (number_token (45 ∷ ds)) (length bytes) (45 ∷ ds) x) behind ∙ ap (λ t. found t (length bytes) (45 ∷ ds) rest) (minus_token n low)
 
 -- ---- and back
 
--- what the token of a numeral tells
-pub record Told (span : List ℕ) (z : ℤ) : Type 0 where
+-- what follows from the token of a numeral
+pub record Determined (span : List ℕ) (z : ℤ) : Type 0 where
   pub guard : (nat_lt 1 (length span) && get_or span (minus_len span) 0 == 48) ≡ false
   pub value : signed_digits_value 10 span ≡ z
   pub within : fits z ≡ true
 
-told : (span : List ℕ) (z : ℤ) → number_token span ≡ number z → Told span z
-told span z e =
+determined : (span : List ℕ) (z : ℤ) → number_token span ≡ number z → Determined span z
+determined span z e =
     elim (tested (nat_lt 1 (length span) && get_or span (minus_len span) 0 == 48)) [
       | inl zeros ↦ (let no = rw zeros at e in cc)
       | inr plain ↦ elim (tested (fits (signed_digits_value 10 span))) [
@@ -176,7 +176,7 @@ first_false : (a b : Bool) → (a && b) ≡ false → b ≡ true → a ≡ false
 first_false true b e h = let no : b ≡ false = e in cc
 first_false false b e h = refl
 
-plain_written : (b : ℕ) (bs : List ℕ) (z : ℤ) → AllDigits 10 (b ∷ bs) → Told (b ∷ bs) z → (b ∷ bs ≡ signed_decimal z) × (fits z ≡ true)
+plain_written : (b : ℕ) (bs : List ℕ) (z : ℤ) → AllDigits 10 (b ∷ bs) → Determined (b ∷ bs) z → (b ∷ bs ≡ signed_decimal z) × (fits z ≡ true)
 plain_written b bs z all t =
     let ds = b ∷ bs in
     let digit = first_digit ds all (omega arith) in
@@ -201,7 +201,7 @@ by_value ds z numeral no_zeros within (suc k) is value =
     let written = decimal-digits_value model ds numeral.1 numeral.0 (λ e. absurd (no_zeros e)) (omega (arith, is)) in
     (ap (λ r. 45 ∷ r) (sym written ∙ ap decimal is) ∙ ap signed_decimal value, within)
 
-minus_written : (ds : List ℕ) (z : ℤ) → IsNumeral 10 ds → Told (45 ∷ ds) z → (45 ∷ ds ≡ signed_decimal z) × (fits z ≡ true)
+minus_written : (ds : List ℕ) (z : ℤ) → IsNumeral 10 ds → Determined (45 ∷ ds) z → (45 ∷ ds ≡ signed_decimal z) × (fits z ≡ true)
 minus_written ds z numeral t =
     let long : nat_lt 1 (length (45 ∷ ds)) ≡ true = lt-ltb 1 (length (45 ∷ ds)) (omega (arith, numeral.0)) in
     let no_zeros : (first ds == 48) ≡ false = second_false (nat_lt 1 (length (45 ∷ ds))) (first ds == 48) t.guard long in
@@ -214,10 +214,10 @@ numeral_written [] z numeral starts e = absurd (omega (arith, numeral.0))
 numeral_written (b ∷ bs) z numeral starts e =
     elim (tested (b == 45)) [
       | inl minus ↦ subst (λ x. (x ∷ bs ≡ signed_decimal z) × (fits z ≡ true)) (sym (eqb-true b 45 minus))
-          (minus_written bs z (subst (IsNumeral 10) (unsigned_minus b bs minus) numeral) (subst (λ x. Told (x ∷ bs) z) (eqb-true b 45 minus) (told (b ∷ bs) z e)))
+          (minus_written bs z (subst (IsNumeral 10) (unsigned_minus b bs minus) numeral) (subst (λ x. Determined (x ∷ bs) z) (eqb-true b 45 minus) (determined (b ∷ bs) z e)))
       | inr other ↦ (
           let digit : is_digit b ≡ true = or_first (is_digit b) (b == 45) starts other in
-          plain_written b bs z (subst (AllDigits 10) (unsigned_plain b bs digit) numeral.1) (told (b ∷ bs) z e))
+          plain_written b bs z (subst (AllDigits 10) (unsigned_plain b bs digit) numeral.1) (determined (b ∷ bs) z e))
     ]
   where
     or_first : (x y : Bool) → (x || y) ≡ true → y ≡ false → x ≡ true

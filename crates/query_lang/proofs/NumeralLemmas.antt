@@ -1,4 +1,4 @@
--- Numerals at the front of a text.
+-- Numerals at the beginning of a text.
 use Rattle.std.proofs.Common.{◌≡◌, ℕ, zero, suc, ◌+◌, ◌-◌, ◌<◌, ◌≤◌, true, ◌==◌, List, [], ◌∷◌, get_or, take, drop, refl, sym, ap, ◌∙◌, subst, inl, inr, arith, get_or-drop}
 use Rattle.std.proofs.lemmas.Bool.{ne_eqb}
 use Rattle.std.proofs.lemmas.Bool.Decides.{nat_tests}
@@ -19,8 +19,8 @@ digit_below b e =
     let high : b ≤ 57 = grind (arith, nat_tests) in
     omega (arith, digit_value_digit b (low, high))
 
-pub take_front : (k n b : ℕ) (bs : List ℕ) → k ≡ 1 + n → take k (b ∷ bs) ≡ b ∷ take n bs
-take_front k n b bs h = let more : k ≡ suc n = omega arith in rw more refl
+pub take_prefix : (k n b : ℕ) (bs : List ℕ) → k ≡ 1 + n → take k (b ∷ bs) ≡ b ∷ take n bs
+take_prefix k n b bs h = let more : k ≡ suc n = omega arith in rw more refl
 
 byte_of_digit : (b : ℕ) → is_digit b ≡ true → (0 < b) × (b < 128)
 byte_of_digit b e = (grind (arith, nat_tests), grind (arith, nat_tests))
@@ -31,7 +31,7 @@ run_digits [] = tt
 run_digits (b ∷ bs) =
     elim (tested (is_digit b)) [
       | inl digit ↦ (let both : AllDigits 10 (b ∷ take (prefix_len is_digit bs) bs) = (digit_below b digit, run_digits bs) in
-          rw digit (subst (AllDigits 10) (sym (take_front _ (prefix_len is_digit bs) b bs refl)) both))
+          rw digit (subst (AllDigits 10) (sym (take_prefix _ (prefix_len is_digit bs) b bs refl)) both))
       | inr other ↦ rw other tt
     ]
 
@@ -61,14 +61,14 @@ drop_nil_len (suc m) = refl
 
 with_minus : (b : ℕ) (bs : List ℕ) (m : ℕ) → 1 ≡ m → (b == 45) ≡ true
     → without_leading_sign (take (m + prefix_len is_digit (drop m (b ∷ bs))) (b ∷ bs)) ≡ take (prefix_len is_digit (drop m (b ∷ bs))) (drop m (b ∷ bs))
-with_minus b bs m one minus = rw (← one) (ap without_leading_sign (take_front _ (prefix_len is_digit bs) b bs refl) ∙ unsigned_minus b (take (prefix_len is_digit bs) bs) minus)
+with_minus b bs m one minus = rw (← one) (ap without_leading_sign (take_prefix _ (prefix_len is_digit bs) b bs refl) ∙ unsigned_minus b (take (prefix_len is_digit bs) bs) minus)
 
 bare_run : (b : ℕ) (bs : List ℕ) → 0 < prefix_len is_digit (b ∷ bs)
     → without_leading_sign (take (prefix_len is_digit (b ∷ bs)) (b ∷ bs)) ≡ take (prefix_len is_digit (b ∷ bs)) (b ∷ bs)
 bare_run b bs some =
     elim (tested (is_digit b)) [
       | inl digit ↦ (
-          let whole : take (prefix_len is_digit (b ∷ bs)) (b ∷ bs) ≡ b ∷ take (prefix_len is_digit bs) bs = take_front _ (prefix_len is_digit bs) b bs (rw digit refl) in
+          let whole : take (prefix_len is_digit (b ∷ bs)) (b ∷ bs) ≡ b ∷ take (prefix_len is_digit bs) bs = take_prefix _ (prefix_len is_digit bs) b bs (rw digit refl) in
           ap without_leading_sign whole ∙ unsigned_plain b (take (prefix_len is_digit bs) bs) digit ∙ sym whole)
       | inr other ↦ (let no = rw other at some in absurd (omega (arith, no)))
     ]
@@ -106,6 +106,6 @@ last_byte bytes m n minus count some =
 
 pub numeral_span : (bytes span : List ℕ) (m n : ℕ) → m ≡ minus_len bytes → n ≡ prefix_len is_digit (drop (minus_len bytes) bytes) → 0 < n
     → span ≡ take (m + n) bytes → IsNumeral 10 (without_leading_sign span)
-numeral_span bytes span m n minus count some front =
+numeral_span bytes span m n minus count some prefix =
     let there : 0 < prefix_len is_digit (drop (minus_len bytes) bytes) = rw (← count) some in
-    rw (front, minus, count) (numeral_run bytes there)
+    rw (prefix, minus, count) (numeral_run bytes there)

@@ -15,7 +15,7 @@ use Rattle.query_lang.specs.Grammar.{Segment, bare, in_quotes, segment_token, se
 use Rattle.query_lang.specs.OrderReading.{State, start, step, on_token, on_item, on_segment, on_path, on_joint, with_path, without_pending, ended, order_rules, read_order}
 use Rattle.query_lang.specs.OrderText.{IsOrderText}
 use Rattle.query_lang.specs.Reading.{Tokens, done, next, inside, stuck, none, tokens, run, after_token}
-use Rattle.query_lang.specs.Spelling.{Spells}
+use Rattle.query_lang.specs.Spelling.{Tokenizes}
 use Rattle.query_lang.specs.Tokens.{Token, word, name, quoted, number, bad_number, sign}
 use Rattle.query_lang.proofs.Shadows.{path_tokens-append}
 use Rattle.query_lang.proofs.Steps.{dotted, path_tokens_dotted}
@@ -108,29 +108,29 @@ item_state false paths = record { pending = pending.Item; paths = paths }
 first_segment : (b : Bool) (paths : Order) (seg : Segment) (ts : List Token) → length paths < 4
     → outcome (item_state b paths) (segment_token seg ∷ ts) ≡ outcome (record { pending = pending.Path (segment_key seg ∷ []); paths = paths }) ts
 unfolding on_token on_item
-first_segment true paths (bare k) ts room = rw (lt-ltb (length paths) 4 room) refl
-first_segment true paths (in_quotes k) ts room = rw (lt-ltb (length paths) 4 room) refl
-first_segment false paths (bare k) ts room = rw (lt-ltb (length paths) 4 room) refl
-first_segment false paths (in_quotes k) ts room = rw (lt-ltb (length paths) 4 room) refl
+first_segment true paths (bare k) ts below = rw (lt-ltb (length paths) 4 below) refl
+first_segment true paths (in_quotes k) ts below = rw (lt-ltb (length paths) 4 below) refl
+first_segment false paths (bare k) ts below = rw (lt-ltb (length paths) 4 below) refl
+first_segment false paths (in_quotes k) ts below = rw (lt-ltb (length paths) 4 below) refl
 
 next_segment : (path : List (List ℕ)) (paths : Order) (seg : Segment) (ts : List Token) → length path < 8
     → outcome (record { pending = pending.Path path; paths = paths }) (sign Dot ∷ segment_token seg ∷ ts) ≡ outcome (record { pending = pending.Path (path ++ segment_key seg ∷ []); paths = paths }) ts
 unfolding on_token on_path on_segment
-next_segment path paths (bare k) ts room = rw (lt-ltb (length path) 8 room) refl
-next_segment path paths (in_quotes k) ts room = rw (lt-ltb (length path) 8 room) refl
+next_segment path paths (bare k) ts below = rw (lt-ltb (length path) 8 below) refl
+next_segment path paths (in_quotes k) ts below = rw (lt-ltb (length path) 8 below) refl
 
 next_segments : (path : List (List ℕ)) (paths : Order) (ss : List Segment) (rest : List Token) → length path + length ss ≤ 8
     → outcome (record { pending = pending.Path path; paths = paths }) (dotted ss rest) ≡ outcome (record { pending = pending.Path (path ++ map segment_key ss); paths = paths }) rest
-next_segments path paths [] rest room = ap (λ p. outcome (record { pending = pending.Path p; paths = paths }) rest) (sym (append-nil path))
-next_segments path paths (seg ∷ ss) rest room =
+next_segments path paths [] rest below = ap (λ p. outcome (record { pending = pending.Path p; paths = paths }) rest) (sym (append-nil path))
+next_segments path paths (seg ∷ ss) rest below =
     next_segment path paths seg (dotted ss rest) (omega arith)
     ∙ next_segments (path ++ segment_key seg ∷ []) paths ss rest (omega (arith, length-append path (segment_key seg ∷ [])))
     ∙ ap (λ p. outcome (record { pending = pending.Path p; paths = paths }) rest) (append_assoc path (segment_key seg ∷ []) (map segment_key ss))
 
 whole_path : (b : Bool) (paths : Order) (seg : Segment) (ss : List Segment) (rest : List Token) → length paths < 4 → length ss < 8
     → outcome (item_state b paths) (path_tokens seg ss rest) ≡ outcome (record { pending = pending.Path (path_keys seg ss); paths = paths }) rest
-whole_path b paths seg ss rest room short =
-    ap (outcome (item_state b paths)) (path_tokens_dotted seg ss rest) ∙ first_segment b paths seg (dotted ss rest) room
+whole_path b paths seg ss rest below short =
+    ap (outcome (item_state b paths)) (path_tokens_dotted seg ss rest) ∙ first_segment b paths seg (dotted ss rest) below
     ∙ next_segments (segment_key seg ∷ []) paths ss rest (omega arith)
 
 direction_end : (path : List (List ℕ)) (paths : Order) (d : Option Bool) → outcome (record { pending = pending.Path path; paths = paths }) (direction_tokens d []) ≡ Some (paths ++ (path, is_descending d) ∷ [])
@@ -164,39 +164,39 @@ order_read (i ∷ is) few fits = items_read true [] i is (omega arith) fits
 -- ---- what is read is the tokens of items
 
 -- what was read of a path
-pub data Place : Type 0 where
-  start_here : Place
-  item_here : Place
-  behind_dot : Segment → List Segment → Place
-  behind_segment : Segment → List Segment → Place
+pub data Position : Type 0 where
+  start_here : Position
+  item_here : Position
+  behind_dot : Segment → List Segment → Position
+  behind_segment : Segment → List Segment → Position
 
 -- the items so far, the newest first, and what was read of the next; or the last item is whole
 pub data Shadow : Type 0 where
-  within : List Item → Place → Shadow
+  within : List Item → Position → Shadow
   complete : List Item → Item → Shadow
 
 abbrev pub items_before : List Item → List Token → List Token
 items_before [] rest = rest
 items_before (i ∷ is) rest = items_before is (item_tokens i (sign Comma ∷ rest))
 
-abbrev pub place_before : Place → List Token → List Token
-place_before start_here rest = rest
-place_before item_here rest = rest
-place_before (behind_dot seg ss) rest = path_tokens seg ss (sign Dot ∷ rest)
-place_before (behind_segment seg ss) rest = path_tokens seg ss rest
+abbrev pub position_before : Position → List Token → List Token
+position_before start_here rest = rest
+position_before item_here rest = rest
+position_before (behind_dot seg ss) rest = path_tokens seg ss (sign Dot ∷ rest)
+position_before (behind_segment seg ss) rest = path_tokens seg ss rest
 
 abbrev pub shadow_before : Shadow → List Token → List Token
-shadow_before (within is p) rest = items_before is (place_before p rest)
+shadow_before (within is p) rest = items_before is (position_before p rest)
 shadow_before (complete is i) rest = items_before is (item_tokens i rest)
 
-abbrev pub place_pending : Place → OrderPending
-place_pending start_here = pending.Start
-place_pending item_here = pending.Item
-place_pending (behind_dot seg ss) = pending.Segment (path_keys seg ss)
-place_pending (behind_segment seg ss) = pending.Path (path_keys seg ss)
+abbrev pub position_pending : Position → OrderPending
+position_pending start_here = pending.Start
+position_pending item_here = pending.Item
+position_pending (behind_dot seg ss) = pending.Segment (path_keys seg ss)
+position_pending (behind_segment seg ss) = pending.Path (path_keys seg ss)
 
 abbrev pub shadow_pending : Shadow → OrderPending
-shadow_pending (within is p) = place_pending p
+shadow_pending (within is p) = position_pending p
 shadow_pending (complete is i) = pending.Joint
 
 -- the number of whole items
@@ -209,14 +209,14 @@ ListFits [] = Unit {0}
 ListFits (i ∷ is) = (length i.others < 8) × ListFits is
 
 -- nothing was read at the start, and a path has begun only below the limit
-abbrev pub PlaceFits : List Item → Place → Type 0
-PlaceFits is start_here = length is ≡ 0
-PlaceFits is item_here = length is ≤ 4
-PlaceFits is (behind_dot seg ss) = (length is < 4) × (length ss < 8)
-PlaceFits is (behind_segment seg ss) = (length is < 4) × (length ss < 8)
+abbrev pub PositionFits : List Item → Position → Type 0
+PositionFits is start_here = length is ≡ 0
+PositionFits is item_here = length is ≤ 4
+PositionFits is (behind_dot seg ss) = (length is < 4) × (length ss < 8)
+PositionFits is (behind_segment seg ss) = (length is < 4) × (length ss < 8)
 
 abbrev pub ShadowFits : Shadow → Type 0
-ShadowFits (within is p) = ListFits is × PlaceFits is p
+ShadowFits (within is p) = ListFits is × PositionFits is p
 ShadowFits (complete is i) = ListFits is × (length is < 4) × (length i.others < 8)
 
 pub record Follows (c : Shadow) (t : Token) (s : State) : Type 0 where
@@ -233,11 +233,11 @@ item_taken : (s : State) (t : Token) (s' : State) → on_item s (segment_of t) �
     → (seg : Segment) × (segment_token seg ≡ t) × (length s.paths < 4) × (record s { pending = pending.Path (segment_key seg ∷ []) } ≡ s')
 unfolding on_item
 item_taken s (name k) s' e = elim (tested (nat_lt (length s.paths) most_paths)) [
-  | inl room ↦ (let ok : Ok (record s { pending = pending.Path (k ∷ []) }) ≡ Ok s' = rw room at e in (bare k, refl, ltb-true (length s.paths) 4 room, let same : record s { pending = pending.Path (k ∷ []) } ≡ s' = cc in same))
+  | inl below ↦ (let ok : Ok (record s { pending = pending.Path (k ∷ []) }) ≡ Ok s' = rw below at e in (bare k, refl, ltb-true (length s.paths) 4 below, let same : record s { pending = pending.Path (k ∷ []) } ≡ s' = cc in same))
   | inr full ↦ (let no = rw full at e in cc)
 ]
 item_taken s (quoted k) s' e = elim (tested (nat_lt (length s.paths) most_paths)) [
-  | inl room ↦ (let ok : Ok (record s { pending = pending.Path (k ∷ []) }) ≡ Ok s' = rw room at e in (in_quotes k, refl, ltb-true (length s.paths) 4 room, let same : record s { pending = pending.Path (k ∷ []) } ≡ s' = cc in same))
+  | inl below ↦ (let ok : Ok (record s { pending = pending.Path (k ∷ []) }) ≡ Ok s' = rw below at e in (in_quotes k, refl, ltb-true (length s.paths) 4 below, let same : record s { pending = pending.Path (k ∷ []) } ≡ s' = cc in same))
   | inr full ↦ (let no = rw full at e in cc)
 ]
 item_taken s (word And) s' e = cc
@@ -265,11 +265,11 @@ segment_taken : (s : State) (path : List (List ℕ)) (t : Token) (s' : State) �
     → (seg : Segment) × (segment_token seg ≡ t) × (length path < 8) × (record s { pending = pending.Path (path ++ segment_key seg ∷ []) } ≡ s')
 unfolding on_segment
 segment_taken s path (name k) s' e = elim (tested (nat_lt (length path) 8)) [
-  | inl room ↦ (let ok : Ok (record s { pending = pending.Path (path ++ k ∷ []) }) ≡ Ok s' = rw room at e in (bare k, refl, ltb-true (length path) 8 room, let same : record s { pending = pending.Path (path ++ k ∷ []) } ≡ s' = cc in same))
+  | inl below ↦ (let ok : Ok (record s { pending = pending.Path (path ++ k ∷ []) }) ≡ Ok s' = rw below at e in (bare k, refl, ltb-true (length path) 8 below, let same : record s { pending = pending.Path (path ++ k ∷ []) } ≡ s' = cc in same))
   | inr full ↦ (let no = rw full at e in cc)
 ]
 segment_taken s path (quoted k) s' e = elim (tested (nat_lt (length path) 8)) [
-  | inl room ↦ (let ok : Ok (record s { pending = pending.Path (path ++ k ∷ []) }) ≡ Ok s' = rw room at e in (in_quotes k, refl, ltb-true (length path) 8 room, let same : record s { pending = pending.Path (path ++ k ∷ []) } ≡ s' = cc in same))
+  | inl below ↦ (let ok : Ok (record s { pending = pending.Path (path ++ k ∷ []) }) ≡ Ok s' = rw below at e in (in_quotes k, refl, ltb-true (length path) 8 below, let same : record s { pending = pending.Path (path ++ k ∷ []) } ≡ s' = cc in same))
   | inr full ↦ (let no = rw full at e in cc)
 ]
 segment_taken s path (word And) s' e = cc
@@ -293,27 +293,27 @@ segment_taken s path (sign CloseList) s' e = cc
 segment_taken s path (sign Comma) s' e = cc
 segment_taken s path (sign Dot) s' e = cc
 
-item_follows : (is : List Item) (p : Place) (s : State) (t : Token) (s' : State) → length is ≡ length s.paths → ListFits is → ((rest : List Token) → rest ≡ place_before p rest)
+item_follows : (is : List Item) (p : Position) (s : State) (t : Token) (s' : State) → length is ≡ length s.paths → ListFits is → ((rest : List Token) → rest ≡ position_before p rest)
     → on_item s (segment_of t) ≡ Ok s' → Follows (within is p) t s'
 item_follows is p s t s' count fits before e =
-    let (seg, token, room, same) = item_taken s t s' e in
+    let (seg, token, below, same) = item_taken s t s' e in
     subst (Follows (within is p) t) same (record {
       shadow = within is (behind_segment seg []);
       same_pending = refl;
       same_count = count;
       fits = (fits, (omega arith, omega arith));
-      before = λ rest. ap (items_before is) (before (segment_token seg ∷ rest) ∙ ap (λ k. place_before p (k ∷ rest)) token);
+      before = λ rest. ap (items_before is) (before (segment_token seg ∷ rest) ∙ ap (λ k. position_before p (k ∷ rest)) token);
     })
 
 segment_follows : (is : List Item) (seg : Segment) (ss : List Segment) (s : State) (t : Token) (s' : State) → length is ≡ length s.paths → ShadowFits (within is (behind_dot seg ss))
     → on_segment s (path_keys seg ss) (segment_of t) ≡ Ok s' → Follows (within is (behind_dot seg ss)) t s'
-segment_follows is seg ss s t s' count (fits, (room, short)) e =
+segment_follows is seg ss s t s' count (fits, (below, short)) e =
     let (more, token, left, same) = segment_taken s (path_keys seg ss) t s' e in
     subst (Follows (within is (behind_dot seg ss)) t) same (record {
       shadow = within is (behind_segment seg (ss ++ more ∷ []));
       same_pending = ap (λ ks. pending.Path (segment_key seg ∷ ks)) (map-append segment_key ss (more ∷ []));
       same_count = count;
-      fits = (fits, (room, omega (arith, length-append ss (more ∷ []), length-map ss segment_key)));
+      fits = (fits, (below, omega (arith, length-append ss (more ∷ []), length-map ss segment_key)));
       before = λ rest. ap (items_before is) (path_tokens-append seg ss more rest ∙ ap (λ k. path_tokens seg ss (sign Dot ∷ k ∷ rest)) token);
     })
 
@@ -321,21 +321,21 @@ segment_follows is seg ss s t s' count (fits, (room, short)) e =
 path_follows : (is : List Item) (seg : Segment) (ss : List Segment) (s : State) (t : Token) (s' : State) → length is ≡ length s.paths → ShadowFits (within is (behind_segment seg ss))
     → on_path s (path_keys seg ss) t ≡ Ok s' → Follows (within is (behind_segment seg ss)) t s'
 unfolding on_path
-path_follows is seg ss s (sign Dot) s' count (fits, (room, short)) e =
+path_follows is seg ss s (sign Dot) s' count (fits, (below, short)) e =
     taken (within is (behind_segment seg ss)) (sign Dot) (record s { pending = pending.Segment (path_keys seg ss) }) s' e
-    (record { shadow = within is (behind_dot seg ss); same_pending = refl; same_count = count; fits = (fits, (room, short)); before = λ rest. refl })
-path_follows is seg ss s (sign Comma) s' count (fits, (room, short)) e =
+    (record { shadow = within is (behind_dot seg ss); same_pending = refl; same_count = count; fits = (fits, (below, short)); before = λ rest. refl })
+path_follows is seg ss s (sign Comma) s' count (fits, (below, short)) e =
     let i : Item = record { first = seg; others = ss; direction = None } in
     taken (within is (behind_segment seg ss)) (sign Comma) (with_path (path_keys seg ss) false pending.Item s) s' e
     (record { shadow = within (i ∷ is) item_here; same_pending = refl; same_count = omega (arith, length-append s.paths ((path_keys seg ss, false) ∷ [])); fits = ((short, fits), omega arith); before = λ rest. refl })
-path_follows is seg ss s (word Asc) s' count (fits, (room, short)) e =
+path_follows is seg ss s (word Asc) s' count (fits, (below, short)) e =
     let i : Item = record { first = seg; others = ss; direction = Some false } in
     taken (within is (behind_segment seg ss)) (word Asc) (with_path (path_keys seg ss) false pending.Joint s) s' e
-    (record { shadow = complete is i; same_pending = refl; same_count = omega (arith, length-append s.paths ((path_keys seg ss, false) ∷ [])); fits = (fits, room, short); before = λ rest. refl })
-path_follows is seg ss s (word Desc) s' count (fits, (room, short)) e =
+    (record { shadow = complete is i; same_pending = refl; same_count = omega (arith, length-append s.paths ((path_keys seg ss, false) ∷ [])); fits = (fits, below, short); before = λ rest. refl })
+path_follows is seg ss s (word Desc) s' count (fits, (below, short)) e =
     let i : Item = record { first = seg; others = ss; direction = Some true } in
     taken (within is (behind_segment seg ss)) (word Desc) (with_path (path_keys seg ss) true pending.Joint s) s' e
-    (record { shadow = complete is i; same_pending = refl; same_count = omega (arith, length-append s.paths ((path_keys seg ss, true) ∷ [])); fits = (fits, room, short); before = λ rest. refl })
+    (record { shadow = complete is i; same_pending = refl; same_count = omega (arith, length-append s.paths ((path_keys seg ss, true) ∷ [])); fits = (fits, below, short); before = λ rest. refl })
 path_follows is seg ss s (word And) s' count fits e = cc
 path_follows is seg ss s (word Or) s' count fits e = cc
 path_follows is seg ss s (word Not) s' count fits e = cc
@@ -356,7 +356,7 @@ path_follows is seg ss s (sign OpenList) s' count fits e = cc
 path_follows is seg ss s (sign CloseList) s' count fits e = cc
 
 joint_follows : (is : List Item) (i : Item) (s : State) (t : Token) (s' : State) → suc (length is) ≡ length s.paths → ShadowFits (complete is i) → on_joint s t ≡ Ok s' → Follows (complete is i) t s'
-joint_follows is i s (sign Comma) s' count (fits, room, short) e =
+joint_follows is i s (sign Comma) s' count (fits, below, short) e =
     taken (complete is i) (sign Comma) (record s { pending = pending.Item }) s' e
     (record { shadow = within (i ∷ is) item_here; same_pending = refl; same_count = count; fits = ((short, fits), omega arith); before = λ rest. refl })
 joint_follows is i s (word And) s' count fits e = cc
@@ -410,7 +410,7 @@ abbrev pub HasItems : List Token → Type 0
 HasItems ts = (is : List Item) × (length is ≤ 4) × ItemsFit is × (order_tokens is [] ≡ ts)
 
 pub items_of : (is : List Item) (i : Item) → ListFits is → length is < 4 → length i.others < 8 → HasItems (items_before is (item_tokens i []))
-items_of is i fits room short = (listed_items is i [], omega (arith, listed_len is i []), listed_fit is i [] fits (short, tt), listed_tokens is i [] [])
+items_of is i fits below short = (listed_items is i [], omega (arith, listed_len is i []), listed_fit is i [] fits (short, tt), listed_tokens is i [] [])
 
 end_items : (c : Shadow) (paths o : Order) → ShadowFits c → got (ended 0 (shadow_pending c) paths) ≡ Some o → HasItems (shadow_before c [])
 unfolding ended
@@ -418,8 +418,8 @@ end_items (within [] start_here) paths o (fits, none_yet) e = ([], omega arith, 
 end_items (within (i ∷ is) start_here) paths o (fits, none_yet) e = absurd (omega (arith, none_yet))
 end_items (within is item_here) paths o fits e = cc
 end_items (within is (behind_dot seg ss)) paths o fits e = cc
-end_items (within is (behind_segment seg ss)) paths o (fits, (room, short)) e = items_of is (record { first = seg; others = ss; direction = None }) fits room short
-end_items (complete is i) paths o (fits, room, short) e = items_of is i fits room short
+end_items (within is (behind_segment seg ss)) paths o (fits, (below, short)) e = items_of is (record { first = seg; others = ss; direction = None }) fits below short
+end_items (complete is i) paths o (fits, below, short) e = items_of is i fits below short
 
 abbrev ReadsItems : List Token → Type 0
 ReadsItems ts = (c : Shadow) (s : State) (o : Order) → shadow_pending c ≡ s.pending → shadow_count c ≡ length s.paths → ShadowFits c → outcome s ts ≡ Some o → HasItems (shadow_before c ts)
@@ -442,7 +442,7 @@ outcome_items (t ∷ ts) c s o same count fits e = after_items ts (outcome_items
 pub order_text_read : (bytes : List ℕ) (o : Order) → IsOrderText bytes o → read_order bytes ≡ Ok o
 unfolding read_order tokens
 order_text_read bytes o text =
-    list_run (length bytes) (tokens bytes) (order_tokens text.items []) start o (spelled_read (order_tokens text.items []) (suc (length bytes)) bytes text.spells (omega arith))
+    list_run (length bytes) (tokens bytes) (order_tokens text.items []) start o (spelled_read (order_tokens text.items []) (suc (length bytes)) bytes text.tokenizes (omega arith))
     (order_read text.items text.few text.fits ∙ ap Some text.means)
 
 -- what is read is a text of the grammar
@@ -451,7 +451,7 @@ unfolding read_order tokens
 read_order_text bytes o e =
     let l = run_list (length bytes) (tokens bytes) start o e in
     let (items, few, fits, item_list) = outcome_items l.list (within [] start_here) start o refl refl (tt, refl) l.same in
-    let spells = read_spelled (suc (length bytes)) bytes l.list (omega arith) l.reads (good_tokens l.list start o l.same) in
+    let tokenizes = read_spelled (suc (length bytes)) bytes l.list (omega arith) l.reads (good_tokens l.list start o l.same) in
     let reads : Some (order_meaning items) ≡ Some o = sym (order_read items few fits) ∙ ap (outcome start) item_list ∙ l.same in
     let means : order_meaning items ≡ o = cc in
-    record { items = items; spells = subst (Spells bytes) (sym item_list) spells; few = few; fits = fits; means = means }
+    record { items = items; tokenizes = subst (Tokenizes bytes) (sym item_list) tokenizes; few = few; fits = fits; means = means }

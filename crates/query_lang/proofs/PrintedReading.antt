@@ -16,7 +16,7 @@ use Rattle.query_lang.specs.OrderText.{IsOrderText}
 use Rattle.query_lang.specs.Printed.{IsPrinted}
 use Rattle.query_lang.specs.Queries.{read_query}
 use Rattle.query_lang.specs.QueryText.{IsFilterField, filter_text as field_filter, number_text}
-use Rattle.query_lang.specs.Spelling.{Spells}
+use Rattle.query_lang.specs.Spelling.{Tokenizes}
 use Rattle.query_lang.specs.Tokens.{Token, word, sign}
 use Rattle.query_lang.specs.declared.token.Reserved.TheVariants.{Desc}
 use Rattle.query_lang.specs.declared.token.Sign.TheVariants.{Comma}
@@ -29,7 +29,7 @@ printed_filter f is low =
     let right = filter_right f is in
     record {
       tree = (built f).as_filter;
-      spells = subst (λ x. Spells x (filter_tokens (built f).as_filter [])) (append-nil (filter_text f)) (right.whole_writes [] [] (record { no_word = refl; no_equals = refl }) refl);
+      tokenizes = subst (λ x. Tokenizes x (filter_tokens (built f).as_filter [])) (append-nil (filter_text f)) (right.whole_writes [] [] (record { no_word = refl; no_equals = refl }) refl);
       fits = right.whole_fits 0 (omega arith);
       means = right.whole_means;
     }
@@ -61,8 +61,8 @@ one_item : (p : List (List ℕ)) (down : Bool) → IsUtf8Path p → Writes (orde
 one_item [] down is = absurd (omega (arith, is.length_fits.0))
 one_item (k ∷ ks) down is = item_writes k ks down
 
-items_write : (ps : Order) → ArePaths ps → (rest : List ℕ) (ts : List Token) → Stops rest → Spells rest ts
-    → Spells (flat_map (λ y. codes "," ++ order_item_text y) ps ++ rest) (more_items (items_of ps) ts) × Stops (flat_map (λ y. codes "," ++ order_item_text y) ps ++ rest)
+items_write : (ps : Order) → ArePaths ps → (rest : List ℕ) (ts : List Token) → Stops rest → Tokenizes rest ts
+    → Tokenizes (flat_map (λ y. codes "," ++ order_item_text y) ps ++ rest) (more_items (items_of ps) ts) × Stops (flat_map (λ y. codes "," ++ order_item_text y) ps ++ rest)
 items_write [] all rest ts stops more = (more, stops)
 items_write (p ∷ ps) all rest ts stops more =
     let (tail, tail_stops) = items_write ps all.1 rest ts stops more in
@@ -75,7 +75,7 @@ items_write (p ∷ ps) all rest ts stops more =
       stops_at 44 _ refl refl,
     )
 
-order_writes : (ps : Order) → ArePaths ps → Spells (order_text ps) (order_tokens (items_of ps) [])
+order_writes : (ps : Order) → ArePaths ps → Tokenizes (order_text ps) (order_tokens (items_of ps) [])
 order_writes [] all = refl
 order_writes (p ∷ ps) all =
     let (tail, stops) = items_write ps all.1 [] [] (record { no_word = refl; no_equals = refl }) refl in
@@ -108,7 +108,7 @@ items_len (p ∷ ps) = ap suc (items_len ps)
 pub printed_order : (ps : Order) → AllByRecursion (λ p. IsUtf8Path p.0) ps → length ps ≤ 4 → IsOrderText (order_text ps) ps
 printed_order ps all few = record {
   items = items_of ps;
-  spells = order_writes ps all;
+  tokenizes = order_writes ps all;
   few = omega (arith, items_len ps);
   fits = items_fit ps all;
   means = items_mean ps all;

@@ -14,7 +14,7 @@ use Rattle.query_core.specs.Print.{is_bare, segment_text, path_text, value_text,
 use Rattle.query_lang.specs.Bytes.{is_letter, is_digit, is_word_byte}
 use Rattle.query_lang.specs.Grammar.{Segment, bare, in_quotes, segment_token, segment_key, path_tokens, path_keys, Value, text_value, number_value, truth_value, null_value, value_token, value_tree, more_values, value_tokens, FilterTree, alternatives, OrTail, no_or, or_and, AndTree, conjuncts, AndTail, no_and, and_not, NotTree, negation, one, Atom, nested, always, never, existing, comparing, listing, holding, filter_tokens, or_tokens, and_tokens, further_tokens, not_tokens, atom_tokens, filter_meaning, or_meanings, and_meaning, further_meanings, not_meaning, all_of, any_of, FilterFits, OrsFit, AndFits, FurtherFit, NotFits}
 use Rattle.query_lang.specs.Lexing.{fits}
-use Rattle.query_lang.specs.Spelling.{spelled, IsToken, ends_before, Spells}
+use Rattle.query_lang.specs.Spelling.{spelled, IsToken, ends_before, Tokenizes}
 use Rattle.query_lang.specs.Tokens.{Token, word, name, quoted, number, bad_number, sign}
 use Rattle.query_lang.specs.declared.token.Reserved.TheVariants.{And, Or, Not, In, Has, Exists, True, False, Null}
 use Rattle.query_lang.specs.declared.token.Sign.TheVariants.{Compare, Open, Close, OpenList, CloseList, Comma, Dot}
@@ -52,22 +52,22 @@ stops_before (sign CloseList) rest s = refl
 stops_before (sign Comma) rest s = refl
 stops_before (sign Dot) rest s = refl
 
--- a token in front
-pub spell : (t : Token) (rest : List ℕ) (ts : List Token) → IsToken t → ends_before t rest ≡ true → Spells rest ts → Spells (spelled t ++ rest) (t ∷ ts)
+-- a token before
+pub spell : (t : Token) (rest : List ℕ) (ts : List Token) → IsToken t → ends_before t rest ≡ true → Tokenizes rest ts → Tokenizes (spelled t ++ rest) (t ∷ ts)
 spell t rest ts is longest more = ([], rest, record { blank = refl; parts = refl; is_token = is; longest = longest }, more)
 
--- a space in front
-pub space : (rest : List ℕ) (ts : List Token) → Spells rest ts → Spells (32 ∷ rest) ts
-space rest [] spells = spells
+-- a space before
+pub space : (rest : List ℕ) (ts : List Token) → Tokenizes rest ts → Tokenizes (32 ∷ rest) ts
+space rest [] tokenizes = tokenizes
 space rest (t ∷ ts) (blanks, after, begins, more) =
     (32 ∷ blanks, after, record { blank = begins.blank; parts = ap (λ r. 32 ∷ r) begins.parts; is_token = begins.is_token; longest = begins.longest }, more)
 
 -- this text is written with these tokens, before anything at which each token ends
 abbrev pub Writes : List ℕ → (List Token → List Token) → Type 0
-Writes bytes tokens = (rest : List ℕ) (ts : List Token) → Stops rest → Spells rest ts → Spells (bytes ++ rest) (tokens ts)
+Writes bytes tokens = (rest : List ℕ) (ts : List Token) → Stops rest → Tokenizes rest ts → Tokenizes (bytes ++ rest) (tokens ts)
 
-pub regrouped : (a b : List ℕ) (ts : List Token) → a ≡ b → Spells b ts → Spells a ts
-regrouped a b ts same spells = subst (λ x. Spells x ts) (sym same) spells
+pub regrouped : (a b : List ℕ) (ts : List Token) → a ≡ b → Tokenizes b ts → Tokenizes a ts
+regrouped a b ts same tokenizes = subst (λ x. Tokenizes x ts) (sym same) tokenizes
 
 pub stops_at : (b : ℕ) (rest : List ℕ) → is_word_byte b ≡ false → (b == 61) ≡ false → Stops (b ∷ rest)
 stops_at b rest no_word no_equals = record { no_word = no_word; no_equals = no_equals }
@@ -83,7 +83,7 @@ segment_keys k = go (is_bare k) where
   go true = refl
   go false = refl
 
-segment_writes : (k rest : List ℕ) (ts : List Token) → Stops rest → Spells rest ts → Spells (segment_text k ++ rest) (segment_token (segment_of k) ∷ ts)
+segment_writes : (k rest : List ℕ) (ts : List Token) → Stops rest → Tokenizes rest ts → Tokenizes (segment_text k ++ rest) (segment_token (segment_of k) ∷ ts)
 segment_writes k rest ts stops more =
     elim (tested (is_bare k)) [
       | inl plain ↦ rw plain (spell (name k) rest ts plain (stops_before (name k) rest stops) more)
@@ -139,9 +139,9 @@ value_writes (text k) s rest ts stops more = spell (quoted k) rest ts tt refl mo
 value_writes (array us) s rest ts stops more = let no : false ≡ true = s.scalar in cc
 value_writes (object ms) s rest ts stops more = let no : false ≡ true = s.scalar in cc
 
--- the values of a list behind the first
-values_write : (vs : List Tree) → AllByRecursion IsScalar vs → (rest : List ℕ) (ts : List Token) → Spells (93 ∷ rest) (sign CloseList ∷ ts)
-    → Spells (flat_map (λ y. codes ", " ++ value_text y) vs ++ 93 ∷ rest) (more_values (map value_in vs) (sign CloseList ∷ ts)) × Stops (flat_map (λ y. codes ", " ++ value_text y) vs ++ 93 ∷ rest)
+-- the values of a list after the first
+values_write : (vs : List Tree) → AllByRecursion IsScalar vs → (rest : List ℕ) (ts : List Token) → Tokenizes (93 ∷ rest) (sign CloseList ∷ ts)
+    → Tokenizes (flat_map (λ y. codes ", " ++ value_text y) vs ++ 93 ∷ rest) (more_values (map value_in vs) (sign CloseList ∷ ts)) × Stops (flat_map (λ y. codes ", " ++ value_text y) vs ++ 93 ∷ rest)
 values_write [] all rest ts more = (more, stops_at 93 rest refl refl)
 values_write (v ∷ vs) all rest ts more =
     let (tail, stops) = values_write vs all.1 rest ts more in
@@ -155,8 +155,8 @@ values_write (v ∷ vs) all rest ts more =
       stops_at 44 _ refl refl,
     )
 
-list_writes : (vs : List Tree) → AllByRecursion IsScalar vs → (rest : List ℕ) (ts : List Token) → Spells rest ts
-    → Spells (join_by value_text (codes ", ") vs ++ 93 ∷ rest) (value_tokens (map value_in vs) (sign CloseList ∷ ts))
+list_writes : (vs : List Tree) → AllByRecursion IsScalar vs → (rest : List ℕ) (ts : List Token) → Tokenizes rest ts
+    → Tokenizes (join_by value_text (codes ", ") vs ++ 93 ∷ rest) (value_tokens (map value_in vs) (sign CloseList ∷ ts))
 list_writes [] all rest ts more = spell (sign CloseList) rest ts tt refl more
 list_writes (v ∷ vs) all rest ts more =
     let (tail, stops) = values_write vs all.1 rest ts (spell (sign CloseList) rest ts tt refl more) in
@@ -283,11 +283,11 @@ from_not_right n f bytes means writes fits_at = record {
   and_writes = writes;
   whole_writes = writes;
   not_fits = fits_at;
-  and_fits = λ k room. (fits_at k room, tt);
-  whole_fits = λ k room. ((fits_at k room, tt), tt);
+  and_fits = λ k below. (fits_at k below, tt);
+  whole_fits = λ k below. ((fits_at k below, tt), tt);
 }
 
--- a filter with its text in each place
+-- a filter with its text in each context
 abbrev pub RightFilter : Filter → Type 0
 RightFilter f = Right (built f) f (in_parentheses (is_every f || is_some f) (filter_text f)) (in_parentheses (is_some f) (filter_text f)) (filter_text f)
 
@@ -296,8 +296,8 @@ RightOperands no_operands = Unit {0}
 RightOperands (operand f fs) = RightFilter f × RightOperands fs
 
 -- further operands of `and`
-every_rest_writes : (fs : Operands) → RightOperands fs → (rest : List ℕ) (ts : List Token) → Stops rest → Spells rest ts
-    → Spells (every_rest fs ++ rest) (further_tokens (and_tail (all_built fs)) ts) × Stops (every_rest fs ++ rest)
+every_rest_writes : (fs : Operands) → RightOperands fs → (rest : List ℕ) (ts : List Token) → Stops rest → Tokenizes rest ts
+    → Tokenizes (every_rest fs ++ rest) (further_tokens (and_tail (all_built fs)) ts) × Stops (every_rest fs ++ rest)
 every_rest_writes no_operands right rest ts stops more = (more, stops)
 every_rest_writes (operand f fs) right rest ts stops more =
     let (tail, tail_stops) = every_rest_writes fs right.1 rest ts stops more in
@@ -312,8 +312,8 @@ every_rest_writes (operand f fs) right rest ts stops more =
     )
 
 -- further operands of `or`
-some_rest_writes : (fs : Operands) → RightOperands fs → (rest : List ℕ) (ts : List Token) → Stops rest → Spells rest ts
-    → Spells (some_rest fs ++ rest) (or_tokens (or_tail (all_built fs)) ts) × Stops (some_rest fs ++ rest)
+some_rest_writes : (fs : Operands) → RightOperands fs → (rest : List ℕ) (ts : List Token) → Stops rest → Tokenizes rest ts
+    → Tokenizes (some_rest fs ++ rest) (or_tokens (or_tail (all_built fs)) ts) × Stops (some_rest fs ++ rest)
 some_rest_writes no_operands right rest ts stops more = (more, stops)
 some_rest_writes (operand f fs) right rest ts stops more =
     let (tail, tail_stops) = some_rest_writes fs right.1 rest ts stops more in
@@ -340,12 +340,12 @@ operands_same no_operands = refl
 operands_same (operand f fs) = ap (operand f) (operands_same fs)
 
 further_fit : (fs : Operands) → RightOperands fs → (k : ℕ) → k + operands_height fs ≤ 64 → FurtherFit k (and_tail (all_built fs))
-further_fit no_operands right k room = tt
-further_fit (operand f fs) right k room = (right.0.not_fits k (omega arith), further_fit fs right.1 k (omega arith))
+further_fit no_operands right k below = tt
+further_fit (operand f fs) right k below = (right.0.not_fits k (omega arith), further_fit fs right.1 k (omega arith))
 
 ors_fit : (fs : Operands) → RightOperands fs → (k : ℕ) → k + operands_height fs ≤ 64 → OrsFit k (or_tail (all_built fs))
-ors_fit no_operands right k room = tt
-ors_fit (operand f fs) right k room = (right.0.and_fits k (omega arith), ors_fit fs right.1 k (omega arith))
+ors_fit no_operands right k below = tt
+ors_fit (operand f fs) right k below = (right.0.and_fits k (omega arith), ors_fit fs right.1 k (omega arith))
 
 -- a text in parentheses
 nested_writes : (t : FilterTree) (bytes : List ℕ) → Writes bytes (filter_tokens t) → Writes (codes "(" ++ bytes ++ codes ")") (not_tokens (one (nested t)))
@@ -370,9 +370,9 @@ every_right (operand f (operand g fs)) right two =
     let t = in_parentheses (is_every f || is_some f) (filter_text f) in
     regrouped ((t ++ every_rest rest_of) ++ rest) (t ++ (every_rest rest_of ++ rest)) (and_tokens a ts) (append_assoc t (every_rest rest_of) rest)
     (right.0.not_writes (every_rest rest_of ++ rest) (further_tokens (and_tail bs) ts) tail_stops tail)) in
-    let fit : (k : ℕ) → k + height whole_filter ≤ 64 → AndFits k a = λ k room. (right.0.not_fits k (omega arith), further_fit rest_of right.1 k (omega arith)) in
+    let fit : (k : ℕ) → k + height whole_filter ≤ 64 → AndFits k a = λ k below. (right.0.not_fits k (omega arith), further_fit rest_of right.1 k (omega arith)) in
     let inner : (k : ℕ) → k + height whole_filter ≤ 64 → (k < 64) × FilterFits (suc k) (alternatives a no_or) =
-    λ k room. (omega arith, ((right.0.not_fits (suc k) (omega arith), further_fit rest_of right.1 (suc k) (omega arith)), tt)) in
+    λ k below. (omega arith, ((right.0.not_fits (suc k) (omega arith), further_fit rest_of right.1 (suc k) (omega arith)), tt)) in
     record {
       not_means = means;
       and_means = means;
@@ -382,7 +382,7 @@ every_right (operand f (operand g fs)) right two =
       whole_writes = writes;
       not_fits = inner;
       and_fits = fit;
-      whole_fits = λ k room. (fit k room, tt);
+      whole_fits = λ k below. (fit k below, tt);
     }
 
 some_right : (fs : Operands) → RightOperands fs → 2 ≤ length (operand_list fs) → RightFilter (some fs)
@@ -401,7 +401,7 @@ some_right (operand f (operand g fs)) right two =
     regrouped ((u ++ some_rest rest_of) ++ rest) (u ++ (some_rest rest_of ++ rest)) (filter_tokens t ts) (append_assoc u (some_rest rest_of) rest)
     (right.0.and_writes (some_rest rest_of ++ rest) (or_tokens (or_tail bs) ts) tail_stops tail)) in
     let inner : (k : ℕ) → k + height whole_filter ≤ 64 → (k < 64) × FilterFits (suc k) t =
-    λ k room. (omega arith, (right.0.and_fits (suc k) (omega arith), ors_fit rest_of right.1 (suc k) (omega arith))) in
+    λ k below. (omega arith, (right.0.and_fits (suc k) (omega arith), ors_fit rest_of right.1 (suc k) (omega arith))) in
     let in_parens = nested_writes t (some_text (operand f rest_of)) writes in
     record {
       not_means = means;
@@ -411,8 +411,8 @@ some_right (operand f (operand g fs)) right two =
       and_writes = in_parens;
       whole_writes = writes;
       not_fits = inner;
-      and_fits = λ k room. (inner k room, tt);
-      whole_fits = λ k room. (right.0.and_fits k (omega arith), ors_fit rest_of right.1 k (omega arith));
+      and_fits = λ k below. (inner k below, tt);
+      whole_fits = λ k below. (right.0.and_fits k (omega arith), ors_fit rest_of right.1 k (omega arith));
     }
 
 negated_right : (f : Filter) → RightFilter f → RightFilter (negated f)
@@ -420,33 +420,33 @@ negated_right f right =
     let t = in_parentheses (is_every f || is_some f) (filter_text f) in
     from_not_right (negation (built f).as_not) (negated f) (codes "not " ++ t) (ap negated right.not_means)
     (λ rest ts stops more. spell (word Not) (32 ∷ (t ++ rest)) (not_tokens (built f).as_not ts) tt refl (space (t ++ rest) (not_tokens (built f).as_not ts) (right.not_writes rest ts stops more)))
-    (λ k room. right.not_fits k (omega arith))
+    (λ k below. right.not_fits k (omega arith))
 
 mutual
   -- each filter of the language is written with the tokens of its trees
   pub filter_right : (f : Filter) → IsFilter f → RightFilter f
-  filter_right (constant true) is = from_not_right (one always) (constant true) (codes "true") refl (λ rest ts stops more. spell (word True) rest ts tt (stops_before (word True) rest stops) more) (λ k room. tt)
-  filter_right (constant false) is = from_not_right (one never) (constant false) (codes "false") refl (λ rest ts stops more. spell (word False) rest ts tt (stops_before (word False) rest stops) more) (λ k room. tt)
+  filter_right (constant true) is = from_not_right (one always) (constant true) (codes "true") refl (λ rest ts stops more. spell (word True) rest ts tt (stops_before (word True) rest stops) more) (λ k below. tt)
+  filter_right (constant false) is = from_not_right (one never) (constant false) (codes "false") refl (λ rest ts stops more. spell (word False) rest ts tt (stops_before (word False) rest stops) more) (λ k below. tt)
   filter_right (compared [] op v) (path, scalar) = absurd (omega (arith, path.length_fits.0))
   filter_right (compared (k ∷ ks) op v) (path, scalar) =
       from_not_right (one (comparing (segment_of k) (map segment_of ks) op (value_in v))) (compared (k ∷ ks) op v) (filter_text (compared (k ∷ ks) op v))
       (ap (λ p. compared p op (value_tree (value_in v))) (path_same k ks) ∙ ap (compared (k ∷ ks) op) (value_same v scalar.scalar))
-      (compared_text k ks op v scalar) (λ i room. omega (arith, path.length_fits.1, length-map ks segment_of))
+      (compared_text k ks op v scalar) (λ i below. omega (arith, path.length_fits.1, length-map ks segment_of))
   filter_right (listed [] vs) (path, all) = absurd (omega (arith, path.length_fits.0))
   filter_right (listed (k ∷ ks) vs) (path, all) =
       let each = recursion_from_All IsScalar vs all in
       from_not_right (one (listing (segment_of k) (map segment_of ks) (map value_in vs))) (listed (k ∷ ks) vs) (filter_text (listed (k ∷ ks) vs))
       (ap (λ p. listed p (map value_tree (map value_in vs))) (path_same k ks) ∙ ap (listed (k ∷ ks)) (values_same vs each))
-      (listed_text k ks vs each) (λ i room. omega (arith, path.length_fits.1, length-map ks segment_of))
+      (listed_text k ks vs each) (λ i below. omega (arith, path.length_fits.1, length-map ks segment_of))
   filter_right (having [] v) (path, scalar) = absurd (omega (arith, path.length_fits.0))
   filter_right (having (k ∷ ks) v) (path, scalar) =
       from_not_right (one (holding (segment_of k) (map segment_of ks) (value_in v))) (having (k ∷ ks) v) (filter_text (having (k ∷ ks) v))
       (ap (λ p. having p (value_tree (value_in v))) (path_same k ks) ∙ ap (having (k ∷ ks)) (value_same v scalar.scalar))
-      (having_text k ks v scalar) (λ i room. omega (arith, path.length_fits.1, length-map ks segment_of))
+      (having_text k ks v scalar) (λ i below. omega (arith, path.length_fits.1, length-map ks segment_of))
   filter_right (present []) path = absurd (omega (arith, path.length_fits.0))
   filter_right (present (k ∷ ks)) path =
       from_not_right (one (existing (segment_of k) (map segment_of ks))) (present (k ∷ ks)) (filter_text (present (k ∷ ks))) (ap present (path_same k ks))
-      (present_text k ks) (λ i room. omega (arith, path.length_fits.1, length-map ks segment_of))
+      (present_text k ks) (λ i below. omega (arith, path.length_fits.1, length-map ks segment_of))
   filter_right (negated f) is = negated_right f (filter_right f is)
   filter_right (every fs) (two, each) = every_right fs (operands_right fs each) two
   filter_right (some fs) (two, each) = some_right fs (operands_right fs each) two

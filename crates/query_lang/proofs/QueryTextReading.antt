@@ -31,7 +31,7 @@ use Rattle.query_lang.proofs.FilterTextReading.{text_read, read_text}
 use Rattle.query_lang.proofs.NumberSpelling.{number_read, at_number, first_digit, no_letter, number_lexeme, or_left}
 use Rattle.query_lang.proofs.OrderTextReading.{order_text_read, read_order_text}
 use Rattle.query_lang.proofs.SignSpelling.{some_byte}
-use Rattle.query_lang.proofs.TokenSpelling.{token_written, Fronts}
+use Rattle.query_lang.proofs.TokenSpelling.{token_written, StartsWith}
 use Rattle.query_lang.proofs.Utf8Lemmas.{tested}
 use Rattle.query_lang.proofs.WordSpelling.{first}
 
@@ -117,7 +117,7 @@ number_lexeme_found : (field low high default b : ℕ) (bs : List ℕ) (n : ℕ)
 number_lexeme_found field low high default b bs n (found t left span rest) is e =
     let (token, above, below, none) = number_token_found field low high (length (b ∷ bs)) rest t n e in
     let f = token_written (b ∷ bs) t left span rest is (λ bad. let no : number (pos n) ≡ bad_number = sym token ∙ bad in cc) in
-    let f' = subst (Fronts (b ∷ bs) rest) token f in
+    let f' = subst (StartsWith (b ∷ bs) rest) token f in
     number_text (f'.parts ∙ ap (λ r. decimal n ++ r) (nothing_left rest none) ∙ append-nil (decimal n)) above below
 number_lexeme_found field low high default b bs n ends is e = cc
 number_lexeme_found field low high default b bs n (unfinished what left) is e = cc

@@ -25,7 +25,7 @@ use Rattle.query_lang.specs.OrderText.{IsOrderText}
 use Rattle.query_lang.specs.Queries.{filter_field, number_field}
 use Rattle.query_lang.specs.Quoted.{unescaped, unescaped_byte}
 use Rattle.query_lang.specs.QueryText.{IsFilterField, no_filter, filter_text, IsNumberField, no_number, number_text}
-use Rattle.query_lang.specs.Spelling.{word_text, sign_text, spelled, IsToken, Spells}
+use Rattle.query_lang.specs.Spelling.{word_text, sign_text, spelled, IsToken, Tokenizes}
 use Rattle.query_lang.specs.Tokens.{Token, word, name, quoted, number, bad_number, sign}
 use Rattle.query_lang.specs.declared.refusal.QueryRefusal.{QueryRefusal}
 use Rattle.query_lang.specs.declared.token.Reserved.{Reserved}
@@ -37,7 +37,7 @@ use Rattle.query_lang.proofs.QueryTextReading.{filter_found, number_found}
 use Rattle.query_lang.proofs.QuotedSpelling.{unescape_spelled}
 use Rattle.query_lang.proofs.Utf8Lemmas.{IsUtf8-split, IsUtf8-unescaped}
 
--- ---- texts in front of a text that is UTF-8
+-- ---- texts before a text that is UTF-8
 
 -- each byte is ASCII
 abbrev Ascii : List ℕ → Type 0
@@ -51,8 +51,8 @@ ascii_at (b ∷ bs) all (suc i) = ascii_at bs all.1 i
 ascii_utf8 : (bs : List ℕ) → Ascii bs → IsUtf8 bs
 ascii_utf8 bs all = IsUtf8-from_ascii bs (ascii_at bs all)
 
--- behind ASCII the text is UTF-8 too
-behind_ascii : (front rest : List ℕ) → IsAscii front → IsUtf8 (front ++ rest) → IsUtf8 rest
+-- after ASCII the text is UTF-8 too
+behind_ascii : (prefix rest : List ℕ) → IsAscii prefix → IsUtf8 (prefix ++ rest) → IsUtf8 rest
 behind_ascii [] rest ascii utf8 = utf8
 behind_ascii (b ∷ bs) rest ascii utf8 = behind_ascii bs rest (λ i. ascii (suc i)) (IsUtf8-split [] (bs ++ rest) b (ascii 0) utf8).1
 
@@ -66,14 +66,14 @@ blank_ascii b e = grind (arith, nat_tests)
 word_ascii : (b : ℕ) → is_word_byte b ≡ true → b < 128
 word_ascii b e = grind (arith, nat_tests)
 
--- in quotes: what escapes stand for is UTF-8 where they are
-unescaped_utf8 : (front body : List ℕ) (n : ℕ) → IsUtf8 (front ++ drop n body) → IsUtf8 (front ++ unescaped n body)
-unescaped_utf8 front [] zero utf8 = utf8
-unescaped_utf8 front [] (suc n) utf8 = utf8
-unescaped_utf8 front (b ∷ bs) (suc n) utf8 = unescaped_utf8 front bs n utf8
-unescaped_utf8 front (b ∷ bs) zero utf8 =
+-- in quotes: what escapes decode to is UTF-8 where they are
+unescaped_utf8 : (prefix body : List ℕ) (n : ℕ) → IsUtf8 (prefix ++ drop n body) → IsUtf8 (prefix ++ unescaped n body)
+unescaped_utf8 prefix [] zero utf8 = utf8
+unescaped_utf8 prefix [] (suc n) utf8 = utf8
+unescaped_utf8 prefix (b ∷ bs) (suc n) utf8 = unescaped_utf8 prefix bs n utf8
+unescaped_utf8 prefix (b ∷ bs) zero utf8 =
     let p = unescaped_byte b bs in
-    subst IsUtf8 (append_assoc front (p.0 ∷ []) (unescaped p.1 bs)) (unescaped_utf8 (front ++ p.0 ∷ []) bs p.1 (IsUtf8-unescaped front b bs utf8))
+    subst IsUtf8 (append_assoc prefix (p.0 ∷ []) (unescaped p.1 bs)) (unescaped_utf8 (prefix ++ p.0 ∷ []) bs p.1 (IsUtf8-unescaped prefix b bs utf8))
 
 -- ---- tokens
 
@@ -140,12 +140,12 @@ token_sound (quoted s) rest is utf8 =
 abbrev AreSound : List Token → Type 0
 AreSound = AllByRecursion IsSound
 
-spells_sound : (ts : List Token) (text : List ℕ) → IsUtf8 text → Spells text ts → AreSound ts
-spells_sound [] text utf8 spells = tt
-spells_sound (t ∷ ts) text utf8 (blanks, rest, begins, more) =
+tokenizes_sound : (ts : List Token) (text : List ℕ) → IsUtf8 text → Tokenizes text ts → AreSound ts
+tokenizes_sound [] text utf8 tokenizes = tt
+tokenizes_sound (t ∷ ts) text utf8 (blanks, rest, begins, more) =
     let blank = ascii_at blanks (tested_ascii is_blank blank_ascii blanks begins.blank) in
     let (sound, after) = token_sound t rest begins.is_token (behind_ascii blanks (spelled t ++ rest) blank (subst IsUtf8 begins.parts utf8)) in
-    (sound, spells_sound ts rest after more)
+    (sound, tokenizes_sound ts rest after more)
 
 -- ---- paths and values
 
@@ -245,7 +245,7 @@ mutual
 
 filter_text_sound : (text : List ℕ) (f : Filter) → IsUtf8 text → IsFilterText text f → IsFilter f
 filter_text_sound text f utf8 is =
-    subst IsFilter is.means (filter_sound 0 is.tree [] is.fits (spells_sound (filter_tokens is.tree []) text utf8 is.spells)).0
+    subst IsFilter is.means (filter_sound 0 is.tree [] is.fits (tokenizes_sound (filter_tokens is.tree []) text utf8 is.tokenizes)).0
 
 -- ---- orders
 
@@ -275,7 +275,7 @@ order_sound (i ∷ is) fit all = let (here, behind) = item_sound i (more_items i
 
 order_text_sound : (text : List ℕ) (order : Order) → IsUtf8 text → IsOrderText text order → ArePaths order
 order_text_sound text order utf8 is =
-    subst ArePaths is.means (order_sound is.items is.fits (spells_sound (order_tokens is.items []) text utf8 is.spells))
+    subst ArePaths is.means (order_sound is.items is.fits (tokenizes_sound (order_tokens is.items []) text utf8 is.tokenizes))
 
 -- ---- queries
 

@@ -8,12 +8,12 @@ use Rattle.query_lang.specs.FilterReading.{State, step, ended, without_pending, 
 use Rattle.query_lang.specs.Refusals.{refused}
 use Rattle.query_lang.specs.Tokens.{Token, word, name, quoted, number, bad_number, sign}
 
--- goes on behind a token
+-- continues after a token
 abbrev pub go_on : {S A : Type 0} → (S → Result A QueryRefusal) → Result S Cause → Result A QueryRefusal
 go_on more (Ok s) = more s
 go_on more (Err e) = Err (refused 102 0 e)
 
--- the tokens are taken in turn, and then the text ends; no place is told
+-- the tokens are taken in turn, and then the text ends; no offset is given
 abbrev pub outcome : State → List Token → Result Filter QueryRefusal
 outcome s [] = judged_if 0 (ended s.pending (without_pending s))
 outcome s (t ∷ ts) = go_on (λ after. outcome after ts) (step s t)

@@ -2,8 +2,8 @@
 use Rattle.std.proofs.Common.{◌≡◌, ℕ, zero, suc, ◌<◌, List, [], ◌∷◌, ◌++◌, length, map, refl, ap}
 use Rattle.query_lang.specs.declared.filter_reader.PathUse.{PathUse}
 use Rattle.query_lang.specs.declared.filter_reader.PathUse.TheVariants.{Exists as ForExists, Tested}
-use Rattle.query_lang.specs.declared.filter_reader.Asked.{Asked}
-use Rattle.query_lang.specs.declared.filter_reader.Asked.TheVariants.{Compare as AsksCompare, Has as AsksHas}
+use Rattle.query_lang.specs.declared.filter_reader.ValueTest.{ValueTest}
+use Rattle.query_lang.specs.declared.filter_reader.ValueTest.TheVariants.{Compare as AsksCompare, Has as AsksHas}
 use Rattle.query_lang.specs.declared.filter_reader.Pending.{Pending}
 use Rattle.query_lang.specs.declared.filter_reader.Pending.TheVariants as pending
 use Rattle.query_lang.specs.declared.token.Reserved.TheVariants.{And, Or, Not, In, Has, Exists}
@@ -11,7 +11,7 @@ use Rattle.query_lang.specs.declared.token.Sign.TheVariants.{Compare, Open, Open
 use Rattle.query_lang.specs.Grammar.{FilterTree, alternatives, OrTail, or_and, AndTree, conjuncts, AndTail, and_not, NotTree, negation, filter_tokens, or_tokens, and_tokens, further_tokens, not_tokens, FilterFits, OrsFit, AndFits, FurtherFit, NotFits, Segment, segment_token, path_tokens, path_keys, Value, value_token, value_tree, value_tokens, more_values}
 use Rattle.query_lang.specs.Tokens.{Token, word, sign}
 
--- ---- levels: what stands before an operand, the newest first
+-- ---- levels: what is before an operand, the newest first
 
 pub record Waiting : Type 0 where
   pub ors : List AndTree
@@ -36,7 +36,7 @@ nots_before (suc k) rest = nots_before k (word Not ∷ rest)
 abbrev pub waiting_before : Waiting → List Token → List Token
 waiting_before w rest = ors_before w.ors (ands_before w.ands (nots_before w.nots rest))
 
--- each level is behind the opening parenthesis of the one around it, the innermost first
+-- each level is after the opening parenthesis of the one around it, the innermost first
 abbrev pub outer_before : List Waiting → List Token → List Token
 outer_before [] rest = rest
 outer_before (w ∷ ws) rest = outer_before ws (waiting_before w (sign Open ∷ rest))
@@ -96,57 +96,57 @@ OuterFits (w ∷ ws) = (length ws < 64) × AlternativesFit (length ws) w.ors × 
 -- ---- atoms
 
 -- what was read of an atom, or the operand that is whole
-pub data Place : Type 0 where
-  operand_here : Place
-  exists_here : Place
-  behind_dot : PathUse → Segment → List Segment → Place
-  behind_segment : PathUse → Segment → List Segment → Place
-  value_here : Asked → Segment → List Segment → Place
-  list_here : Segment → List Segment → Place
-  first_here : Segment → List Segment → Place
-  behind_comma : Segment → List Segment → Value → List Value → Place
-  behind_value : Segment → List Segment → Value → List Value → Place
+pub data Position : Type 0 where
+  operand_here : Position
+  exists_here : Position
+  behind_dot : PathUse → Segment → List Segment → Position
+  behind_segment : PathUse → Segment → List Segment → Position
+  value_here : ValueTest → Segment → List Segment → Position
+  list_here : Segment → List Segment → Position
+  first_here : Segment → List Segment → Position
+  behind_comma : Segment → List Segment → Value → List Value → Position
+  behind_value : Segment → List Segment → Value → List Value → Position
 
 abbrev pub use_before : PathUse → List Token → List Token
 use_before ForExists rest = word Exists ∷ rest
 use_before Tested rest = rest
 
-abbrev pub asked_before : Asked → List Token → List Token
+abbrev pub asked_before : ValueTest → List Token → List Token
 asked_before (AsksCompare op) rest = sign (Compare op) ∷ rest
 asked_before AsksHas rest = word Has ∷ rest
 
-abbrev pub place_before : Place → List Token → List Token
-place_before operand_here rest = rest
-place_before exists_here rest = word Exists ∷ rest
-place_before (behind_dot used seg ss) rest = use_before used (path_tokens seg ss (sign Dot ∷ rest))
-place_before (behind_segment used seg ss) rest = use_before used (path_tokens seg ss rest)
-place_before (value_here asks seg ss) rest = path_tokens seg ss (asked_before asks rest)
-place_before (list_here seg ss) rest = path_tokens seg ss (word In ∷ rest)
-place_before (first_here seg ss) rest = path_tokens seg ss (word In ∷ sign OpenList ∷ rest)
-place_before (behind_comma seg ss v vs) rest = path_tokens seg ss (word In ∷ sign OpenList ∷ value_tokens (v ∷ vs) (sign Comma ∷ rest))
-place_before (behind_value seg ss v vs) rest = path_tokens seg ss (word In ∷ sign OpenList ∷ value_tokens (v ∷ vs) rest)
+abbrev pub position_before : Position → List Token → List Token
+position_before operand_here rest = rest
+position_before exists_here rest = word Exists ∷ rest
+position_before (behind_dot used seg ss) rest = use_before used (path_tokens seg ss (sign Dot ∷ rest))
+position_before (behind_segment used seg ss) rest = use_before used (path_tokens seg ss rest)
+position_before (value_here asks seg ss) rest = path_tokens seg ss (asked_before asks rest)
+position_before (list_here seg ss) rest = path_tokens seg ss (word In ∷ rest)
+position_before (first_here seg ss) rest = path_tokens seg ss (word In ∷ sign OpenList ∷ rest)
+position_before (behind_comma seg ss v vs) rest = path_tokens seg ss (word In ∷ sign OpenList ∷ value_tokens (v ∷ vs) (sign Comma ∷ rest))
+position_before (behind_value seg ss v vs) rest = path_tokens seg ss (word In ∷ sign OpenList ∷ value_tokens (v ∷ vs) rest)
 
-abbrev pub place_pending : Place → Pending
-place_pending operand_here = pending.Operand
-place_pending exists_here = pending.ExistsSegment
-place_pending (behind_dot used seg ss) = pending.Segment used (path_keys seg ss)
-place_pending (behind_segment used seg ss) = pending.Path used (path_keys seg ss)
-place_pending (value_here asks seg ss) = pending.Value (path_keys seg ss) asks
-place_pending (list_here seg ss) = pending.List (path_keys seg ss)
-place_pending (first_here seg ss) = pending.FirstItem (path_keys seg ss)
-place_pending (behind_comma seg ss v vs) = pending.Item (path_keys seg ss) (map value_tree (v ∷ vs))
-place_pending (behind_value seg ss v vs) = pending.AfterItem (path_keys seg ss) (map value_tree (v ∷ vs))
+abbrev pub position_pending : Position → Pending
+position_pending operand_here = pending.Operand
+position_pending exists_here = pending.ExistsSegment
+position_pending (behind_dot used seg ss) = pending.Segment used (path_keys seg ss)
+position_pending (behind_segment used seg ss) = pending.Path used (path_keys seg ss)
+position_pending (value_here asks seg ss) = pending.Value (path_keys seg ss) asks
+position_pending (list_here seg ss) = pending.List (path_keys seg ss)
+position_pending (first_here seg ss) = pending.FirstItem (path_keys seg ss)
+position_pending (behind_comma seg ss v vs) = pending.Item (path_keys seg ss) (map value_tree (v ∷ vs))
+position_pending (behind_value seg ss v vs) = pending.AfterItem (path_keys seg ss) (map value_tree (v ∷ vs))
 
-abbrev pub PlaceFits : Place → Type 0
-PlaceFits operand_here = Unit {0}
-PlaceFits exists_here = Unit {0}
-PlaceFits (behind_dot used seg ss) = length ss < 8
-PlaceFits (behind_segment used seg ss) = length ss < 8
-PlaceFits (value_here asks seg ss) = length ss < 8
-PlaceFits (list_here seg ss) = length ss < 8
-PlaceFits (first_here seg ss) = length ss < 8
-PlaceFits (behind_comma seg ss v vs) = length ss < 8
-PlaceFits (behind_value seg ss v vs) = length ss < 8
+abbrev pub PositionFits : Position → Type 0
+PositionFits operand_here = Unit {0}
+PositionFits exists_here = Unit {0}
+PositionFits (behind_dot used seg ss) = length ss < 8
+PositionFits (behind_segment used seg ss) = length ss < 8
+PositionFits (value_here asks seg ss) = length ss < 8
+PositionFits (list_here seg ss) = length ss < 8
+PositionFits (first_here seg ss) = length ss < 8
+PositionFits (behind_comma seg ss v vs) = length ss < 8
+PositionFits (behind_value seg ss v vs) = length ss < 8
 
 -- one segment more
 pub path_tokens-append : (seg : Segment) (ss : List Segment) (more : Segment) (rest : List Token) → path_tokens seg (ss ++ more ∷ []) rest ≡ path_tokens seg ss (sign Dot ∷ segment_token more ∷ rest)
@@ -161,16 +161,16 @@ more_values-append (w ∷ vs) v rest = ap (λ ts. sign Comma ∷ value_token w �
 -- ---- all of it
 
 pub data Shadow : Type 0 where
-  inside : List Waiting → Waiting → Place → Shadow
+  inside : List Waiting → Waiting → Position → Shadow
   whole : List Waiting → List AndTree → List NotTree → NotTree → Shadow
 
 -- the tokens that were read
 abbrev pub shadow_before : Shadow → List Token → List Token
-shadow_before (inside ws w p) rest = outer_before ws (waiting_before w (place_before p rest))
+shadow_before (inside ws w p) rest = outer_before ws (waiting_before w (position_before p rest))
 shadow_before (whole ws ors ands n) rest = outer_before ws (ors_before ors (ands_before ands (not_tokens n rest)))
 
 abbrev pub shadow_pending : Shadow → Pending
-shadow_pending (inside ws w p) = place_pending p
+shadow_pending (inside ws w p) = position_pending p
 shadow_pending (whole ws ors ands n) = pending.Joint
 
 abbrev pub shadow_outer : Shadow → List Waiting
@@ -178,5 +178,5 @@ shadow_outer (inside ws w p) = ws
 shadow_outer (whole ws ors ands n) = ws
 
 abbrev pub ShadowFits : Shadow → Type 0
-ShadowFits (inside ws w p) = OuterFits ws × AlternativesFit (length ws) w.ors × AndsFit (length ws) w.ands × PlaceFits p
+ShadowFits (inside ws w p) = OuterFits ws × AlternativesFit (length ws) w.ors × AndsFit (length ws) w.ands × PositionFits p
 ShadowFits (whole ws ors ands n) = OuterFits ws × AlternativesFit (length ws) ors × AndsFit (length ws) ands × NotFits (length ws) n

@@ -14,14 +14,14 @@ use Rattle.query_lang.proofs.WordSpelling.{first, not_true}
 pub some_byte : (n : ℕ) → (suc n == 0) ≡ false
 some_byte n = ne_eqb (suc n) 0 (λ e. omega arith)
 
--- a sign of so many bytes, or none
+-- a sign and its number of bytes, or none
 abbrev at : Sign → ℕ → Option (Sign × ℕ)
 at s n = Some (s, n)
 
 abbrev no_sign : Option (Sign × ℕ)
 no_sign = None
 
--- a sign in front of a text is found
+-- a sign before a text is found
 pub sign_read : (s : Sign) (rest : List ℕ) → ends_before (sign s) rest ≡ true
     → lexeme_at (sign_text s ++ rest) ≡ found (sign s) (length (sign_text s ++ rest)) (sign_text s) rest
 sign_read (Compare Equal) rest longest = rw (some_byte (length rest)) refl

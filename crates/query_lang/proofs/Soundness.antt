@@ -7,8 +7,8 @@ use Rattle.query_core.specs.Filters.{Filter, constant, compared, listed, having,
 use Rattle.query_lang.specs.declared.filter_reader.Level.{Level}
 use Rattle.query_lang.specs.declared.filter_reader.PathUse.{PathUse}
 use Rattle.query_lang.specs.declared.filter_reader.PathUse.TheVariants.{Exists as ForExists, Tested}
-use Rattle.query_lang.specs.declared.filter_reader.Asked.{Asked}
-use Rattle.query_lang.specs.declared.filter_reader.Asked.TheVariants.{Compare as AsksCompare, Has as AsksHas}
+use Rattle.query_lang.specs.declared.filter_reader.ValueTest.{ValueTest}
+use Rattle.query_lang.specs.declared.filter_reader.ValueTest.TheVariants.{Compare as AsksCompare, Has as AsksHas}
 use Rattle.query_lang.specs.declared.filter_reader.Pending.TheVariants as pending
 use Rattle.query_lang.specs.Limits.{most_open}
 use Rattle.query_lang.specs.declared.refusal.Cause.{Cause}
@@ -21,7 +21,7 @@ use Rattle.query_lang.specs.FilterText.{IsWhole}
 use Rattle.query_lang.specs.Grammar.{FilterTree, no_or, AndTree, no_and, NotTree, one, Atom, nested, always, never, existing, comparing, listing, holding, filter_tokens, not_tokens, atom_tokens, FilterFits, AtomFits, Segment, bare, in_quotes, segment_token, segment_key, path_tokens, path_keys, Value, text_value, number_value, truth_value, null_value, value_token, value_tree, more_values}
 use Rattle.query_lang.specs.Tokens.{Token, word, name, quoted, number, bad_number, sign}
 use Rattle.query_lang.proofs.Runs.{outcome, go_on}
-use Rattle.query_lang.proofs.Shadows.{Waiting, nothing, ors_before, ands_before, nots_before, waiting_before, outer_before, negations, negations_tokens, conjunction, conjunction_tokens, disjunction, disjunction_tokens, negations_fit, conjunction_fits, disjunction_fits, Place, operand_here, exists_here, behind_dot, behind_segment, value_here, list_here, first_here, behind_comma, behind_value, use_before, place_before, place_pending, PlaceFits, path_tokens-append, more_values-append, Shadow, inside, whole, shadow_before, shadow_pending, shadow_outer, ShadowFits}
+use Rattle.query_lang.proofs.Shadows.{Waiting, nothing, ors_before, ands_before, nots_before, waiting_before, outer_before, negations, negations_tokens, conjunction, conjunction_tokens, disjunction, disjunction_tokens, negations_fit, conjunction_fits, disjunction_fits, Position, operand_here, exists_here, behind_dot, behind_segment, value_here, list_here, first_here, behind_comma, behind_value, use_before, position_before, position_pending, PositionFits, path_tokens-append, more_values-append, Shadow, inside, whole, shadow_before, shadow_pending, shadow_outer, ShadowFits}
 use Rattle.query_lang.proofs.Utf8Lemmas.{tested}
 
 -- what was read together with a token is the beginning of a tree again
@@ -37,8 +37,8 @@ taken : (c : Shadow) (t : Token) (x s : State) → ◌≡◌ {A = Result State C
 taken c t x s e follows = let same : x ≡ s = cc in subst (Follows c t) same follows
 
 -- an atom is whole
-atom_follows : (ws : List Waiting) (w : Waiting) (p : Place) (t : Token) (a : Atom) (x : State) → pending.Joint ≡ x.pending → length ws ≡ length x.outer
-    → ShadowFits (inside ws w p) → AtomFits (length ws) a → ((rest : List Token) → atom_tokens a rest ≡ place_before p (t ∷ rest)) → Follows (inside ws w p) t x
+atom_follows : (ws : List Waiting) (w : Waiting) (p : Position) (t : Token) (a : Atom) (x : State) → pending.Joint ≡ x.pending → length ws ≡ length x.outer
+    → ShadowFits (inside ws w p) → AtomFits (length ws) a → ((rest : List Token) → atom_tokens a rest ≡ position_before p (t ∷ rest)) → Follows (inside ws w p) t x
 atom_follows ws w p t a x joint outer fits here tokens = record {
   shadow = whole ws w.ors w.ands (negations w.nots (one a));
   same_pending = joint;
@@ -47,10 +47,10 @@ atom_follows ws w p t a x joint outer fits here tokens = record {
   before = λ rest. ap (λ ts. outer_before ws (ors_before w.ors (ands_before w.ands ts))) (negations_tokens w.nots (one a) rest ∙ ap (nots_before w.nots) (tokens rest));
 }
 
--- another place of the same atom
-place_follows : (ws : List Waiting) (w : Waiting) (p q : Place) (t : Token) (x : State) → place_pending q ≡ x.pending → length ws ≡ length x.outer
-    → ShadowFits (inside ws w p) → PlaceFits q → ((rest : List Token) → place_before q rest ≡ place_before p (t ∷ rest)) → Follows (inside ws w p) t x
-place_follows ws w p q t x same outer fits here tokens = record {
+-- another position in the same atom
+position_follows : (ws : List Waiting) (w : Waiting) (p q : Position) (t : Token) (x : State) → position_pending q ≡ x.pending → length ws ≡ length x.outer
+    → ShadowFits (inside ws w p) → PositionFits q → ((rest : List Token) → position_before q rest ≡ position_before p (t ∷ rest)) → Follows (inside ws w p) t x
+position_follows ws w p q t x same outer fits here tokens = record {
   shadow = inside ws w q;
   same_pending = same;
   same_outer = outer;
@@ -65,15 +65,15 @@ segment_room : (s : State) (used : PathUse) (path : List (List ℕ)) (k : List �
 unfolding segment_at
 segment_room s used path k s' e =
     elim (tested (nat_lt (length path) 8)) [
-      | inl room ↦ (let got : Ok (record s { pending = pending.Path used (path ++ k ∷ []) }) ≡ Ok s' = rw room at e in (ltb-true (length path) 8 room, let same : record s { pending = pending.Path used (path ++ k ∷ []) } ≡ s' = cc in same))
+      | inl below ↦ (let got : Ok (record s { pending = pending.Path used (path ++ k ∷ []) }) ≡ Ok s' = rw below at e in (ltb-true (length path) 8 below, let same : record s { pending = pending.Path used (path ++ k ∷ []) } ≡ s' = cc in same))
       | inr full ↦ (let no = rw full at e in cc)
     ]
 
 segment_taken : (s : State) (used : PathUse) (path : List (List ℕ)) (t : Token) (s' : State) → segment_at s used path (segment_of t) ≡ Ok s'
     → (seg : Segment) × (segment_token seg ≡ t) × (length path < 8) × (record s { pending = pending.Path used (path ++ segment_key seg ∷ []) } ≡ s')
 unfolding segment_at
-segment_taken s used path (name k) s' e = let (room, same) = segment_room s used path k s' e in (bare k, refl, room, same)
-segment_taken s used path (quoted k) s' e = let (room, same) = segment_room s used path k s' e in (in_quotes k, refl, room, same)
+segment_taken s used path (name k) s' e = let (below, same) = segment_room s used path k s' e in (bare k, refl, below, same)
+segment_taken s used path (quoted k) s' e = let (below, same) = segment_room s used path k s' e in (in_quotes k, refl, below, same)
 segment_taken s used path (word And) s' e = cc
 segment_taken s used path (word Or) s' e = cc
 segment_taken s used path (word Not) s' e = cc
@@ -120,29 +120,29 @@ value_taken (sign Comma) v e = cc
 value_taken (sign Dot) v e = cc
 
 -- the first segment of a path
-first_follows : (ws : List Waiting) (w : Waiting) (p : Place) (used : PathUse) (s : State) (t : Token) (s' : State) → length ws ≡ length s.outer → ShadowFits (inside ws w p)
-    → ((rest : List Token) → use_before used rest ≡ place_before p rest) → segment_at s used [] (segment_of t) ≡ Ok s' → Follows (inside ws w p) t s'
+first_follows : (ws : List Waiting) (w : Waiting) (p : Position) (used : PathUse) (s : State) (t : Token) (s' : State) → length ws ≡ length s.outer → ShadowFits (inside ws w p)
+    → ((rest : List Token) → use_before used rest ≡ position_before p rest) → segment_at s used [] (segment_of t) ≡ Ok s' → Follows (inside ws w p) t s'
 first_follows ws w p used s t s' outer fits before e =
-    let (seg, token, room, same) = segment_taken s used [] t s' e in
+    let (seg, token, below, same) = segment_taken s used [] t s' e in
     subst (Follows (inside ws w p) t) same
-    (place_follows ws w p (behind_segment used seg []) t (record s { pending = pending.Path used (segment_key seg ∷ []) }) refl outer fits (omega arith)
-    (λ rest. before (segment_token seg ∷ rest) ∙ ap (λ k. place_before p (k ∷ rest)) token))
+    (position_follows ws w p (behind_segment used seg []) t (record s { pending = pending.Path used (segment_key seg ∷ []) }) refl outer fits (omega arith)
+    (λ rest. before (segment_token seg ∷ rest) ∙ ap (λ k. position_before p (k ∷ rest)) token))
 
 keys_more : (seg : Segment) (ss : List Segment) (more : Segment) → path_keys seg (ss ++ more ∷ []) ≡ path_keys seg ss ++ segment_key more ∷ []
 keys_more seg ss more = ap (λ ks. segment_key seg ∷ ks) (map-append segment_key ss (more ∷ []))
 
--- a segment behind a dot
+-- a segment after a dot
 segment_follows : (ws : List Waiting) (w : Waiting) (used : PathUse) (seg : Segment) (ss : List Segment) (s : State) (t : Token) (s' : State) → length ws ≡ length s.outer
     → ShadowFits (inside ws w (behind_dot used seg ss)) → segment_at s used (path_keys seg ss) (segment_of t) ≡ Ok s' → Follows (inside ws w (behind_dot used seg ss)) t s'
 segment_follows ws w used seg ss s t s' outer fits e =
-    let (more, token, room, same) = segment_taken s used (path_keys seg ss) t s' e in
+    let (more, token, below, same) = segment_taken s used (path_keys seg ss) t s' e in
     subst (Follows (inside ws w (behind_dot used seg ss)) t) same
-    (place_follows ws w (behind_dot used seg ss) (behind_segment used seg (ss ++ more ∷ [])) t (record s { pending = pending.Path used (path_keys seg ss ++ segment_key more ∷ []) })
+    (position_follows ws w (behind_dot used seg ss) (behind_segment used seg (ss ++ more ∷ [])) t (record s { pending = pending.Path used (path_keys seg ss ++ segment_key more ∷ []) })
     (ap (pending.Path used) (keys_more seg ss more)) outer fits (omega (arith, length-append ss (more ∷ []), length-map ss segment_key))
     (λ rest. ap (use_before used) (path_tokens-append seg ss more rest ∙ ap (λ k. path_tokens seg ss (sign Dot ∷ k ∷ rest)) token)))
 
 -- the one value of a test
-value_follows : (ws : List Waiting) (w : Waiting) (asks : Asked) (seg : Segment) (ss : List Segment) (s : State) (t : Token) (s' : State) → length ws ≡ length s.outer
+value_follows : (ws : List Waiting) (w : Waiting) (asks : ValueTest) (seg : Segment) (ss : List Segment) (s : State) (t : Token) (s' : State) → length ws ≡ length s.outer
     → ShadowFits (inside ws w (value_here asks seg ss)) → (r : Result Tree Cause) → value_of t ≡ r → on_value s (path_keys seg ss) asks r ≡ Ok s' → Follows (inside ws w (value_here asks seg ss)) t s'
 unfolding on_value
 value_follows ws w (AsksCompare op) seg ss s t s' outer fits (Ok v) is e =
@@ -164,7 +164,7 @@ unfolding item_at
 first_item_follows ws w seg ss s t s' outer fits (Ok v) is e =
     let (val, token, tree) = value_taken t v is in
     taken _ t (record s { pending = pending.AfterItem (path_keys seg ss) (v ∷ []) }) s' e
-    (place_follows ws w (first_here seg ss) (behind_value seg ss val []) t (record s { pending = pending.AfterItem (path_keys seg ss) (v ∷ []) })
+    (position_follows ws w (first_here seg ss) (behind_value seg ss val []) t (record s { pending = pending.AfterItem (path_keys seg ss) (v ∷ []) })
     (ap (λ x. pending.AfterItem (path_keys seg ss) (x ∷ [])) tree) outer fits fits.3
     (λ rest. ap (λ k. path_tokens seg ss (word In ∷ sign OpenList ∷ k ∷ rest)) token))
 first_item_follows ws w seg ss s t s' outer fits (Err x) is e = cc
@@ -178,14 +178,14 @@ item_follows ws w seg ss u us s t s' outer fits (Ok v) is e =
     let (val, token, tree) = value_taken t v is in
     let vals = map value_tree (u ∷ us) in
     taken _ t (record s { pending = pending.AfterItem (path_keys seg ss) (vals ++ v ∷ []) }) s' e
-    (place_follows ws w (behind_comma seg ss u us) (behind_value seg ss u (us ++ val ∷ [])) t (record s { pending = pending.AfterItem (path_keys seg ss) (vals ++ v ∷ []) })
+    (position_follows ws w (behind_comma seg ss u us) (behind_value seg ss u (us ++ val ∷ [])) t (record s { pending = pending.AfterItem (path_keys seg ss) (vals ++ v ∷ []) })
     (ap (pending.AfterItem (path_keys seg ss)) (map-append value_tree (u ∷ us) (val ∷ []) ∙ ap (λ x. vals ++ x ∷ []) tree)) outer fits fits.3
     (λ rest. ap (λ ts. path_tokens seg ss (word In ∷ sign OpenList ∷ value_token u ∷ ts)) (more_values-append us val rest ∙ ap (λ k. more_values us (sign Comma ∷ k ∷ rest)) token)))
 item_follows ws w seg ss u us s t s' outer fits (Err x) is e = cc
 
 -- ---- where an operand is whole
 
--- what is whole inside a parenthesis is one operand behind it
+-- what is whole inside a parenthesis is one operand after it
 pub close_shadow : (w : Waiting) (ws : List Waiting) (ors : List AndTree) (ands : List NotTree) (n : NotTree) → ShadowFits (whole (w ∷ ws) ors ands n)
     → (m : NotTree) × ShadowFits (whole ws w.ors w.ands m) × ((rest : List Token) → shadow_before (whole ws w.ors w.ands m) rest ≡ shadow_before (whole (w ∷ ws) ors ands n) (sign Close ∷ rest))
 close_shadow w ws ors ands n fits =
@@ -193,10 +193,10 @@ close_shadow w ws ors ands n fits =
     let tokens : (rest : List Token) → filter_tokens t rest ≡ ors_before ors (ands_before ands (not_tokens n rest)) =
     λ rest. disjunction_tokens ors (conjunction ands n no_and) no_or rest ∙ ap (ors_before ors) (conjunction_tokens ands n no_and rest) in
     let (outer_fits, ors_fit, ands_fit, n_fits) = fits in
-    let (room, w_ors, w_ands, ws_fit) = outer_fits in
+    let (below, w_ors, w_ands, ws_fit) = outer_fits in
     let inner_fits = disjunction_fits (suc (length ws)) ors (conjunction ands n no_and) no_or ors_fit (conjunction_fits (suc (length ws)) ands n no_and ands_fit n_fits tt) tt in (
       negations w.nots (one (nested t)),
-      (ws_fit, w_ors, w_ands, negations_fit (length ws) w.nots (one (nested t)) (room, inner_fits)),
+      (ws_fit, w_ors, w_ands, negations_fit (length ws) w.nots (one (nested t)) (below, inner_fits)),
       λ rest. ap (λ ts. outer_before ws (ors_before w.ors (ands_before w.ands ts)))
           (negations_tokens w.nots (one (nested t)) rest ∙ ap (λ ts. nots_before w.nots (sign Open ∷ ts)) (tokens (sign Close ∷ rest))),
     )
@@ -252,12 +252,12 @@ joint_follows ws ors ands n s (sign CloseList) s' outer fits e = cc
 joint_follows ws ors ands n s (sign Comma) s' outer fits e = cc
 joint_follows ws ors ands n s (sign Dot) s' outer fits e = cc
 
--- behind the path of an `exists`
+-- after the path of an `exists`
 exists_follows : (ws : List Waiting) (w : Waiting) (seg : Segment) (ss : List Segment) (s : State) (t : Token) (s' : State) → length ws ≡ length s.outer
     → ShadowFits (inside ws w (behind_segment ForExists seg ss)) → on_joint (atom (present (path_keys seg ss)) 0 s) t ≡ Ok s' → Follows (inside ws w (behind_segment ForExists seg ss)) t s'
-exists_follows ws w seg ss s t s' outer (ws_fit, ors_fit, ands_fit, room) e =
+exists_follows ws w seg ss s t s' outer (ws_fit, ors_fit, ands_fit, below) e =
     let n = negations w.nots (one (existing seg ss)) in
-    let f = joint_follows ws w.ors w.ands n (atom (present (path_keys seg ss)) 0 s) t s' outer (ws_fit, ors_fit, ands_fit, negations_fit (length ws) w.nots (one (existing seg ss)) room) e in
+    let f = joint_follows ws w.ors w.ands n (atom (present (path_keys seg ss)) 0 s) t s' outer (ws_fit, ors_fit, ands_fit, negations_fit (length ws) w.nots (one (existing seg ss)) below) e in
     record {
       shadow = f.shadow;
       same_pending = f.same_pending;
@@ -271,7 +271,7 @@ on_exists_follows : (ws : List Waiting) (w : Waiting) (seg : Segment) (ss : List
 unfolding on_exists
 on_exists_follows ws w seg ss s (sign Dot) s' outer fits e =
     taken (inside ws w (behind_segment ForExists seg ss)) (sign Dot) (record s { pending = pending.Segment ForExists (path_keys seg ss) }) s' e
-    (place_follows ws w (behind_segment ForExists seg ss) (behind_dot ForExists seg ss) (sign Dot) (record s { pending = pending.Segment ForExists (path_keys seg ss) }) refl outer fits fits.3 (λ rest. refl))
+    (position_follows ws w (behind_segment ForExists seg ss) (behind_dot ForExists seg ss) (sign Dot) (record s { pending = pending.Segment ForExists (path_keys seg ss) }) refl outer fits fits.3 (λ rest. refl))
 on_exists_follows ws w seg ss s (word And) s' outer fits e = exists_follows ws w seg ss s (word And) s' outer fits e
 on_exists_follows ws w seg ss s (word Or) s' outer fits e = exists_follows ws w seg ss s (word Or) s' outer fits e
 on_exists_follows ws w seg ss s (word Not) s' outer fits e = exists_follows ws w seg ss s (word Not) s' outer fits e
@@ -299,16 +299,16 @@ on_path_follows : (ws : List Waiting) (w : Waiting) (seg : Segment) (ss : List S
 unfolding on_path
 on_path_follows ws w seg ss s (sign Dot) s' outer fits e =
     taken (inside ws w (behind_segment Tested seg ss)) (sign Dot) (record s { pending = pending.Segment Tested (path_keys seg ss) }) s' e
-    (place_follows ws w (behind_segment Tested seg ss) (behind_dot Tested seg ss) (sign Dot) (record s { pending = pending.Segment Tested (path_keys seg ss) }) refl outer fits fits.3 (λ rest. refl))
+    (position_follows ws w (behind_segment Tested seg ss) (behind_dot Tested seg ss) (sign Dot) (record s { pending = pending.Segment Tested (path_keys seg ss) }) refl outer fits fits.3 (λ rest. refl))
 on_path_follows ws w seg ss s (sign (Compare op)) s' outer fits e =
     taken (inside ws w (behind_segment Tested seg ss)) (sign (Compare op)) (record s { pending = pending.Value (path_keys seg ss) (AsksCompare op) }) s' e
-    (place_follows ws w (behind_segment Tested seg ss) (value_here (AsksCompare op) seg ss) (sign (Compare op)) (record s { pending = pending.Value (path_keys seg ss) (AsksCompare op) }) refl outer fits fits.3 (λ rest. refl))
+    (position_follows ws w (behind_segment Tested seg ss) (value_here (AsksCompare op) seg ss) (sign (Compare op)) (record s { pending = pending.Value (path_keys seg ss) (AsksCompare op) }) refl outer fits fits.3 (λ rest. refl))
 on_path_follows ws w seg ss s (word Has) s' outer fits e =
     taken (inside ws w (behind_segment Tested seg ss)) (word Has) (record s { pending = pending.Value (path_keys seg ss) AsksHas }) s' e
-    (place_follows ws w (behind_segment Tested seg ss) (value_here AsksHas seg ss) (word Has) (record s { pending = pending.Value (path_keys seg ss) AsksHas }) refl outer fits fits.3 (λ rest. refl))
+    (position_follows ws w (behind_segment Tested seg ss) (value_here AsksHas seg ss) (word Has) (record s { pending = pending.Value (path_keys seg ss) AsksHas }) refl outer fits fits.3 (λ rest. refl))
 on_path_follows ws w seg ss s (word In) s' outer fits e =
     taken (inside ws w (behind_segment Tested seg ss)) (word In) (record s { pending = pending.List (path_keys seg ss) }) s' e
-    (place_follows ws w (behind_segment Tested seg ss) (list_here seg ss) (word In) (record s { pending = pending.List (path_keys seg ss) }) refl outer fits fits.3 (λ rest. refl))
+    (position_follows ws w (behind_segment Tested seg ss) (list_here seg ss) (word In) (record s { pending = pending.List (path_keys seg ss) }) refl outer fits fits.3 (λ rest. refl))
 on_path_follows ws w seg ss s (word And) s' outer fits e = cc
 on_path_follows ws w seg ss s (word Or) s' outer fits e = cc
 on_path_follows ws w seg ss s (word Not) s' outer fits e = cc
@@ -333,7 +333,7 @@ on_list_follows : (ws : List Waiting) (w : Waiting) (seg : Segment) (ss : List S
 unfolding on_list
 on_list_follows ws w seg ss s (sign OpenList) s' outer fits e =
     taken (inside ws w (list_here seg ss)) (sign OpenList) (record s { pending = pending.FirstItem (path_keys seg ss) }) s' e
-    (place_follows ws w (list_here seg ss) (first_here seg ss) (sign OpenList) (record s { pending = pending.FirstItem (path_keys seg ss) }) refl outer fits fits.3 (λ rest. refl))
+    (position_follows ws w (list_here seg ss) (first_here seg ss) (sign OpenList) (record s { pending = pending.FirstItem (path_keys seg ss) }) refl outer fits fits.3 (λ rest. refl))
 on_list_follows ws w seg ss s (word And) s' outer fits e = cc
 on_list_follows ws w seg ss s (word Or) s' outer fits e = cc
 on_list_follows ws w seg ss s (word Not) s' outer fits e = cc
@@ -389,7 +389,7 @@ on_after_follows : (ws : List Waiting) (w : Waiting) (seg : Segment) (ss : List 
 unfolding on_after_item
 on_after_follows ws w seg ss u us s (sign Comma) s' outer fits e =
     taken (inside ws w (behind_value seg ss u us)) (sign Comma) (record s { pending = pending.Item (path_keys seg ss) (map value_tree (u ∷ us)) }) s' e
-    (place_follows ws w (behind_value seg ss u us) (behind_comma seg ss u us) (sign Comma) (record s { pending = pending.Item (path_keys seg ss) (map value_tree (u ∷ us)) }) refl outer fits fits.3 (λ rest. refl))
+    (position_follows ws w (behind_value seg ss u us) (behind_comma seg ss u us) (sign Comma) (record s { pending = pending.Item (path_keys seg ss) (map value_tree (u ∷ us)) }) refl outer fits fits.3 (λ rest. refl))
 on_after_follows ws w seg ss u us s (sign CloseList) s' outer fits e =
     taken (inside ws w (behind_value seg ss u us)) (sign CloseList) (atom (listed (path_keys seg ss) (map value_tree (u ∷ us))) (length (map value_tree (u ∷ us))) s) s' e
     (atom_follows ws w (behind_value seg ss u us) (sign CloseList) (listing seg ss (u ∷ us)) (atom (listed (path_keys seg ss) (map value_tree (u ∷ us))) (length (map value_tree (u ∷ us))) s) refl outer fits fits.3 (λ rest. refl))
@@ -420,9 +420,9 @@ open_follows : (ws : List Waiting) (w : Waiting) (s : State) (s' : State) → le
 unfolding opened
 open_follows ws w s s' outer (ws_fit, ors_fit, ands_fit, here) e =
     elim (tested (nat_lt (length s.outer) most_open)) [
-      | inl room ↦ (
-          let lt : length s.outer < most_open = ltb-true (length s.outer) most_open room in
-          taken (inside ws w operand_here) (sign Open) _ s' (rw room at e) (record {
+      | inl below ↦ (
+          let lt : length s.outer < most_open = ltb-true (length s.outer) most_open below in
+          taken (inside ws w operand_here) (sign Open) _ s' (rw below at e) (record {
             shadow = inside (w ∷ ws) nothing operand_here;
             same_pending = refl;
             same_outer = ap suc outer;
@@ -449,7 +449,7 @@ operand_follows ws w s (word False) s' outer fits e =
     taken (inside ws w operand_here) (word False) (atom (constant false) 0 s) s' e (atom_follows ws w operand_here (word False) never (atom (constant false) 0 s) refl outer fits tt (λ rest. refl))
 operand_follows ws w s (word Exists) s' outer fits e =
     taken (inside ws w operand_here) (word Exists) (record s { pending = pending.ExistsSegment }) s' e
-    (place_follows ws w operand_here exists_here (word Exists) (record s { pending = pending.ExistsSegment }) refl outer fits tt (λ rest. refl))
+    (position_follows ws w operand_here exists_here (word Exists) (record s { pending = pending.ExistsSegment }) refl outer fits tt (λ rest. refl))
 operand_follows ws w s (sign Open) s' outer fits e = open_follows ws w s s' outer fits e
 operand_follows ws w s (word And) s' outer fits e = first_follows ws w operand_here Tested s (word And) s' outer fits (λ rest. refl) e
 operand_follows ws w s (word Or) s' outer fits e = first_follows ws w operand_here Tested s (word Or) s' outer fits (λ rest. refl) e
@@ -515,9 +515,9 @@ end_tree : (c : Shadow) (s : State) → length (shadow_outer c) ≡ length s.out
 unfolding ended
 end_tree (whole [] ors ands n) s outer fits good = whole_tree ors ands n fits
 end_tree (whole (w ∷ ws) ors ands n) s outer fits good = absurd (omega (arith, none_open s s.outer refl good))
-end_tree (inside [] w (behind_segment ForExists seg ss)) s outer (ws_fit, ors_fit, ands_fit, room) good =
+end_tree (inside [] w (behind_segment ForExists seg ss)) s outer (ws_fit, ors_fit, ands_fit, below) good =
     let n = negations w.nots (one (existing seg ss)) in
-    let (t, fits, tokens) = whole_tree w.ors w.ands n (tt, ors_fit, ands_fit, negations_fit 0 w.nots (one (existing seg ss)) room) in
+    let (t, fits, tokens) = whole_tree w.ors w.ands n (tt, ors_fit, ands_fit, negations_fit 0 w.nots (one (existing seg ss)) below) in
     (t, fits, tokens ∙ ap (λ ts. ors_before w.ors (ands_before w.ands ts)) (negations_tokens w.nots (one (existing seg ss)) []))
 end_tree (inside (x ∷ ws) w (behind_segment ForExists seg ss)) s outer fits good =
     absurd (omega (arith, none_open (atom (present (path_keys seg ss)) 0 s) s.outer refl good))
@@ -538,7 +538,7 @@ refused_not_whole cause.TooManyPaths good = good
 refused_not_whole cause.TooNested good = good
 refused_not_whole cause.Memory good = good
 
--- what is read well behind what was read is the rest of a tree
+-- what is read well after what was read is the rest of a tree
 abbrev pub ReadsTree : List Token → Type 0
 ReadsTree ts = (c : Shadow) (s : State) → shadow_pending c ≡ s.pending → length (shadow_outer c) ≡ length s.outer → ShadowFits c → IsWhole (outcome s ts) → HasTree (shadow_before c ts)
 

@@ -1,4 +1,4 @@
--- Worked places of refusals, said of the definitions, so that a slip in one does not check.
+-- Worked offsets of refusals, said of the definitions, so that a slip in one does not check.
 use Rattle.std.proofs.Common.{◌≡◌, codes, Err, refl}
 use Rattle.query_lang.specs.FilterReading.{segment_at, on_operand, on_path, on_value, on_token, ended, read_filter}
 use Rattle.query_lang.specs.Lexing.{lexeme}
@@ -11,7 +11,7 @@ ends : (read_filter (codes "a =") ≡ Err (Syntax 102 3)) × (read_filter (codes
 unfolding read_filter tokens lexeme on_token on_operand segment_at on_path on_value ended
 ends = (refl, refl, refl)
 
--- a token that may not stand is refused where it begins, and so is a number that is none
+-- a token that is not allowed is refused where it begins, and so is a number that is none
 begins :
     (read_filter (codes "fase") ≡ Err (Syntax 102 4)) × (read_filter (codes "a, >=1") ≡ Err (Syntax 102 1)) × (read_filter (codes "a 01") ≡ Err (Syntax 102 2))
     × (read_filter (codes "a = -0") ≡ Err (BadNumber 102 4))

@@ -7,7 +7,7 @@ use Rattle.query_core.specs.Filters.{present}
 use Rattle.query_lang.specs.declared.filter_reader.Level.{Level}
 use Rattle.query_lang.specs.declared.filter_reader.PathUse.{PathUse}
 use Rattle.query_lang.specs.declared.filter_reader.PathUse.TheVariants.{Exists as ForExists, Tested}
-use Rattle.query_lang.specs.declared.filter_reader.Asked.{Asked}
+use Rattle.query_lang.specs.declared.filter_reader.ValueTest.{ValueTest}
 use Rattle.query_lang.specs.declared.filter_reader.Pending.TheVariants as pending
 use Rattle.query_lang.specs.declared.token.Reserved.TheVariants.{And, Or, Not, In, Has, Exists, True, False, Null, Asc, Desc}
 use Rattle.query_lang.specs.declared.token.Sign.TheVariants.{Compare, Open, Close, OpenList, CloseList, Comma, Dot}
@@ -27,7 +27,7 @@ unfolding on_token on_operand segment_at
 first_tested s (bare k) ts = refl
 first_tested s (in_quotes k) ts = refl
 
--- the first segment behind `exists`
+-- the first segment after `exists`
 pub first_exists : (s : State) (seg : Segment) (ts : List Token) → outcome (record s { pending = pending.Operand }) (word Exists ∷ segment_token seg ∷ ts) ≡ outcome (record s { pending = pending.Path ForExists (segment_key seg ∷ []) }) ts
 unfolding on_token on_operand segment_at
 first_exists s (bare k) ts = refl
@@ -37,10 +37,10 @@ first_exists s (in_quotes k) ts = refl
 next_segment : (used : PathUse) (path : List (List ℕ)) (s : State) (seg : Segment) (ts : List Token) → length path < 8
     → outcome (record s { pending = pending.Path used path }) (sign Dot ∷ segment_token seg ∷ ts) ≡ outcome (record s { pending = pending.Path used (path ++ segment_key seg ∷ []) }) ts
 unfolding on_token on_exists on_path segment_at
-next_segment ForExists path s (bare k) ts room = rw (lt-ltb (length path) 8 room) refl
-next_segment ForExists path s (in_quotes k) ts room = rw (lt-ltb (length path) 8 room) refl
-next_segment Tested path s (bare k) ts room = rw (lt-ltb (length path) 8 room) refl
-next_segment Tested path s (in_quotes k) ts room = rw (lt-ltb (length path) 8 room) refl
+next_segment ForExists path s (bare k) ts below = rw (lt-ltb (length path) 8 below) refl
+next_segment ForExists path s (in_quotes k) ts below = rw (lt-ltb (length path) 8 below) refl
+next_segment Tested path s (bare k) ts below = rw (lt-ltb (length path) 8 below) refl
+next_segment Tested path s (in_quotes k) ts below = rw (lt-ltb (length path) 8 below) refl
 
 -- the tokens of further segments
 abbrev pub dotted : List Segment → List Token → List Token
@@ -53,8 +53,8 @@ path_tokens_dotted seg (more ∷ ss) rest = ap (λ ts. segment_token seg ∷ sig
 
 next_segments : (used : PathUse) (path : List (List ℕ)) (s : State) (ss : List Segment) (rest : List Token) → length path + length ss ≤ 8
     → outcome (record s { pending = pending.Path used path }) (dotted ss rest) ≡ outcome (record s { pending = pending.Path used (path ++ map segment_key ss) }) rest
-next_segments used path s [] rest room = ap (λ p. outcome (record s { pending = pending.Path used p }) rest) (sym (append-nil path))
-next_segments used path s (seg ∷ ss) rest room =
+next_segments used path s [] rest below = ap (λ p. outcome (record s { pending = pending.Path used p }) rest) (sym (append-nil path))
+next_segments used path s (seg ∷ ss) rest below =
     next_segment used path s seg (dotted ss rest) (omega arith)
     ∙ next_segments used (path ++ segment_key seg ∷ []) s ss rest (omega (arith, length-append path (segment_key seg ∷ [])))
     ∙ ap (λ p. outcome (record s { pending = pending.Path used p }) rest) (append_assoc path (segment_key seg ∷ []) (map segment_key ss))
@@ -62,18 +62,18 @@ next_segments used path s (seg ∷ ss) rest room =
 -- a tested path
 pub tested_path : (s : State) (seg : Segment) (ss : List Segment) (rest : List Token) → length ss < 8
     → outcome (record s { pending = pending.Operand }) (path_tokens seg ss rest) ≡ outcome (record s { pending = pending.Path Tested (path_keys seg ss) }) rest
-tested_path s seg ss rest room =
+tested_path s seg ss rest below =
     ap (outcome (record s { pending = pending.Operand })) (path_tokens_dotted seg ss rest) ∙ first_tested s seg (dotted ss rest)
     ∙ next_segments Tested (segment_key seg ∷ []) s ss rest (omega arith)
 
--- a path behind `exists`
+-- a path after `exists`
 pub existing_path : (s : State) (seg : Segment) (ss : List Segment) (rest : List Token) → length ss < 8
     → outcome (record s { pending = pending.Operand }) (word Exists ∷ path_tokens seg ss rest) ≡ outcome (record s { pending = pending.Path ForExists (path_keys seg ss) }) rest
-existing_path s seg ss rest room =
+existing_path s seg ss rest below =
     ap (λ ts. outcome (record s { pending = pending.Operand }) (word Exists ∷ ts)) (path_tokens_dotted seg ss rest) ∙ first_exists s seg (dotted ss rest)
     ∙ next_segments ForExists (segment_key seg ∷ []) s ss rest (omega arith)
 
--- ---- what stands behind a path
+-- ---- what comes after a path
 
 pub value_of_token : (v : Value) → value_of (value_token v) ≡ Ok (value_tree v)
 value_of_token (text_value k) = refl
@@ -83,7 +83,7 @@ value_of_token (truth_value false) = refl
 value_of_token null_value = refl
 
 -- the one value of a test
-pub asked_value : (s : State) (path : List (List ℕ)) (asks : Asked) (v : Value) (ts : List Token)
+pub asked_value : (s : State) (path : List (List ℕ)) (asks : ValueTest) (v : Value) (ts : List Token)
     → outcome (record s { pending = pending.Value path asks }) (value_token v ∷ ts) ≡ outcome (atom (asked asks path (value_tree v)) 0 s) ts
 unfolding on_token on_value
 asked_value s path asks v ts = rw (value_of_token v) refl

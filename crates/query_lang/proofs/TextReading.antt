@@ -4,8 +4,8 @@ use Rattle.std.proofs.lemmas.List.{take-append-drop}
 use Rattle.std.specs.List.{prefix_len, list_all}
 use Rattle.query_lang.specs.Bytes.{is_blank, is_letter, is_digit, after_blanks}
 use Rattle.query_lang.specs.Lexing.{lexeme, lexeme_at, number_of_digits, minus_len, by_scan, by_sign, sign_at}
-use Rattle.query_lang.specs.Quoted.{Scan, closed, open_end, bad, scan}
-use Rattle.query_lang.specs.Spelling.{spelled, IsToken, Begins, Spells}
+use Rattle.query_lang.specs.Quoted.{QuotedScan, closed, open_end, bad, scan}
+use Rattle.query_lang.specs.Spelling.{spelled, IsToken, Begins, Tokenizes}
 use Rattle.query_lang.specs.Tokens.{Token, bad_number, Lexeme, ends, found, unfinished, bad_text, unknown}
 use Rattle.query_lang.specs.Reading.{Tokens, done, next, inside, stuck, none, by_lexeme, tokens_in}
 use Rattle.query_lang.specs.declared.token.Sign.{Sign}
@@ -53,10 +53,10 @@ begins_shorter : (text blanks rest : List ℕ) (t : Token) → Begins text blank
 begins_shorter text blanks rest t b =
     omega (arith, spelled_some t b.is_token, ap length b.parts, length-append blanks (spelled t ++ rest), length-append (spelled t) rest)
 
-pub spelled_read : (ts : List Token) (n : ℕ) (text : List ℕ) → Spells text ts → length text < n → Reads (tokens_in n text) ts
-spelled_read ts zero text spells room = absurd (omega arith)
-spelled_read [] (suc n) text spells room = subst (λ x. Reads (by_lexeme (tokens_in n) x) []) (sym (blanks_end text spells)) tt
-spelled_read (t ∷ ts) (suc n) text (blanks, rest, begins, more) room =
+pub spelled_read : (ts : List Token) (n : ℕ) (text : List ℕ) → Tokenizes text ts → length text < n → Reads (tokens_in n text) ts
+spelled_read ts zero text tokenizes below = absurd (omega arith)
+spelled_read [] (suc n) text tokenizes below = subst (λ x. Reads (by_lexeme (tokens_in n) x) []) (sym (blanks_end text tokenizes)) tt
+spelled_read (t ∷ ts) (suc n) text (blanks, rest, begins, more) below =
     subst (λ x. Reads (by_lexeme (tokens_in n) x) (t ∷ ts)) (sym (next_read text blanks rest t begins))
     (refl, spelled_read ts n rest more (omega (arith, begins_shorter text blanks rest t begins)))
 
@@ -72,7 +72,7 @@ digits_no_end bytes count e =
       ]
     ]
 
-scan_no_end : (bytes : List ℕ) (x : Scan) → by_scan bytes x ≡ ends → ⊥
+scan_no_end : (bytes : List ℕ) (x : QuotedScan) → by_scan bytes x ≡ ends → ⊥
 scan_no_end bytes (closed body) e = cc
 scan_no_end bytes open_end e = cc
 scan_no_end bytes (bad at) e = cc
@@ -109,17 +109,17 @@ ends_blank : (text : List ℕ) → lexeme text ≡ ends → list_all is_blank te
 unfolding lexeme
 ends_blank text e = end_blanks text (after_blanks text) refl e
 
-pub read_spelled : (n : ℕ) (text : List ℕ) (ts : List Token) → length text < n → Reads (tokens_in n text) ts → NoBad ts → Spells text ts
-read_spelled zero text ts room reads good = absurd (omega arith)
-read_spelled (suc n) text ts room reads good = by_next n text ts (lexeme text) refl room reads good (λ rest us less r g. read_spelled n rest us less r g) where
+pub read_spelled : (n : ℕ) (text : List ℕ) (ts : List Token) → length text < n → Reads (tokens_in n text) ts → NoBad ts → Tokenizes text ts
+read_spelled zero text ts below reads good = absurd (omega arith)
+read_spelled (suc n) text ts below reads good = by_next n text ts (lexeme text) refl below reads good (λ rest us less r g. read_spelled n rest us less r g) where
   by_next : (n : ℕ) (text : List ℕ) (ts : List Token) (x : Lexeme) → lexeme text ≡ x → length text < suc n → Reads (by_lexeme (tokens_in n) x) ts → NoBad ts
-      → ((rest : List ℕ) (us : List Token) → length rest < n → Reads (tokens_in n rest) us → NoBad us → Spells rest us) → Spells text ts
-  by_next n text [] ends is room reads good more = ends_blank text is
-  by_next n text (u ∷ us) ends is room reads good more = absurd reads
-  by_next n text [] (found t left span rest) is room reads good more = absurd reads
-  by_next n text (u ∷ us) (found t left span rest) is room reads good more =
+      → ((rest : List ℕ) (us : List Token) → length rest < n → Reads (tokens_in n rest) us → NoBad us → Tokenizes rest us) → Tokenizes text ts
+  by_next n text [] ends is below reads good more = ends_blank text is
+  by_next n text (u ∷ us) ends is below reads good more = absurd reads
+  by_next n text [] (found t left span rest) is below reads good more = absurd reads
+  by_next n text (u ∷ us) (found t left span rest) is below reads good more =
       let (blanks, begins) = next_written text t left span rest is (λ b. good.0 (sym reads.0 ∙ b)) in
-      subst (λ v. Spells text (v ∷ us)) reads.0 (blanks, rest, begins, more rest us (omega (arith, begins_shorter text blanks rest t begins)) reads.1 good.1)
-  by_next n text ts (unfinished what left) is room reads good more = absurd reads
-  by_next n text ts (bad_text left there) is room reads good more = absurd reads
-  by_next n text ts (unknown left) is room reads good more = absurd reads
+      subst (λ v. Tokenizes text (v ∷ us)) reads.0 (blanks, rest, begins, more rest us (omega (arith, begins_shorter text blanks rest t begins)) reads.1 good.1)
+  by_next n text ts (unfinished what left) is below reads good more = absurd reads
+  by_next n text ts (bad_text left there) is below reads good more = absurd reads
+  by_next n text ts (unknown left) is below reads good more = absurd reads

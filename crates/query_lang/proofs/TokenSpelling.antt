@@ -10,7 +10,7 @@ use Rattle.query_core.specs.Print.{starts_word, quoted_byte, quoted as quoted_te
 use Rattle.query_core.specs.declared.filter.Op.TheVariants.{Equal, Unequal, Less, AtMost, Greater, AtLeast}
 use Rattle.query_lang.specs.Bytes.{is_blank, is_letter, is_digit, is_word_byte, after_blanks}
 use Rattle.query_lang.specs.Lexing.{lexeme, lexeme_at, word_token, number_of_digits, number_token, minus_len, quoted_at, by_scan, by_sign, sign_at, fits}
-use Rattle.query_lang.specs.Quoted.{Scan, closed, open_end, bad, scan, unescaped}
+use Rattle.query_lang.specs.Quoted.{QuotedScan, closed, open_end, bad, scan, unescaped}
 use Rattle.query_lang.specs.Spelling.{spelled, word_text, IsToken, ends_before, Begins}
 use Rattle.query_lang.specs.Tokens.{Token, word, name, quoted, number, bad_number, sign, found}
 use Rattle.query_lang.specs.declared.token.Reserved.TheVariants.{And, Or, Not, In, Has, Exists, True, False, Null, Asc, Desc}
@@ -24,7 +24,7 @@ use Rattle.query_lang.proofs.SignSpelling.{sign_read, sign_is, some_byte}
 use Rattle.query_lang.proofs.Utf8Lemmas.{tested}
 use Rattle.query_lang.proofs.WordSpelling.{first, prefix_len-run, run_passes, run_stops, word_lexeme, at_word, word_read, word_starts, word_bytes, name_read, not_true, word_is, reserved_word, other_word}
 
--- ---- a token in front of a text
+-- ---- a token before a text
 
 pub at_quote : (bs : List ℕ) → lexeme_at (34 ∷ bs) ≡ quoted_at (34 ∷ bs)
 at_quote bs = rw (some_byte (length bs)) refl
@@ -37,13 +37,13 @@ quoted_read s rest =
     let behind : drop 1 bytes ≡ body ++ 34 ∷ rest = append_assoc body (34 ∷ []) rest in
     let closes : scan 0 (drop 1 bytes) ≡ closed body = ap (scan 0) behind ∙ scan_spelled s rest in
     let len : length (quoted_text s) ≡ length body + 2 = omega (arith, length-append body (34 ∷ [])) in
-    let front : take (length body + 2) bytes ≡ quoted_text s = take_at (quoted_text s) rest (length body + 2) len in
+    let prefix : take (length body + 2) bytes ≡ quoted_text s = take_at (quoted_text s) rest (length body + 2) len in
     let left : drop (length body + 2) bytes ≡ rest = drop_at (quoted_text s) rest (length body + 2) len in
     at_quote ((body ++ 34 ∷ []) ++ rest) ∙ ap (by_scan bytes) closes
     ∙ ap (λ k. found (quoted k) (length bytes) (take (length body + 2) bytes) (drop (length body + 2) bytes)) (unescape_spelled s)
-    ∙ ap (λ x. found (quoted s) (length bytes) x (drop (length body + 2) bytes)) front ∙ ap (found (quoted s) (length bytes) (quoted_text s)) left
+    ∙ ap (λ x. found (quoted s) (length bytes) x (drop (length body + 2) bytes)) prefix ∙ ap (found (quoted s) (length bytes) (quoted_text s)) left
 
--- the token is found in front of a text that it ends before
+-- the token is found before a text that it ends before
 pub token_read : (t : Token) (rest : List ℕ) → IsToken t → ends_before t rest ≡ true → lexeme_at (spelled t ++ rest) ≡ found t (length (spelled t ++ rest)) (spelled t) rest
 token_read (word r) rest is longest =
     word_lexeme (word_text r) rest (word_starts r) (word_bytes r) (not_true (is_word_byte (first rest)) longest) ∙ ap (λ t. found t (length (word_text r ++ rest)) (word_text r) rest) (word_read r)
@@ -58,22 +58,22 @@ token_read (sign s) rest is longest = sign_read s rest longest
 -- ---- and back
 
 -- the text begins with the token as it is written
-pub record Fronts (bytes rest : List ℕ) (t : Token) : Type 0 where
+pub record StartsWith (bytes rest : List ℕ) (t : Token) : Type 0 where
   pub parts : bytes ≡ spelled t ++ rest
   pub is_token : IsToken t
   pub longest : ends_before t rest ≡ true
 
-found_is : (t t' : Token) (left left' : ℕ) (span span' rest rest' bytes : List ℕ) → found t left span rest ≡ found t' left' span' rest' → Fronts bytes rest t → Fronts bytes rest' t'
+found_is : (t t' : Token) (left left' : ℕ) (span span' rest rest' bytes : List ℕ) → found t left span rest ≡ found t' left' span' rest' → StartsWith bytes rest t → StartsWith bytes rest' t'
 found_is t t' left left' span span' rest rest' bytes e f =
     let same : t ≡ t' = cc in
     let behind : rest ≡ rest' = cc in
-    subst (λ r. Fronts bytes r t') behind (subst (Fronts bytes rest) same f)
+    subst (λ r. StartsWith bytes r t') behind (subst (StartsWith bytes rest) same f)
 
 not_false : (b : Bool) → b ≡ false → not b ≡ true
 not_false b e = ap not e
 
-word_fronts : (b : ℕ) (bs : List ℕ) → is_letter b ≡ true → Fronts (b ∷ bs) (drop (prefix_len is_word_byte (b ∷ bs)) (b ∷ bs)) (word_token (take (prefix_len is_word_byte (b ∷ bs)) (b ∷ bs)))
-word_fronts b bs letter =
+word_begins : (b : ℕ) (bs : List ℕ) → is_letter b ≡ true → StartsWith (b ∷ bs) (drop (prefix_len is_word_byte (b ∷ bs)) (b ∷ bs)) (word_token (take (prefix_len is_word_byte (b ∷ bs)) (b ∷ bs)))
+word_begins b bs letter =
     let bytes = b ∷ bs in
     let n = prefix_len is_word_byte bytes in
     let s = take n bytes in
@@ -83,12 +83,12 @@ word_fronts b bs letter =
     let starts : starts_word s ≡ true = ap (λ k. starts_word (take k bytes)) count ∙ letter in
     let stops : is_word_byte (first (drop n bytes)) ≡ false = run_stops is_word_byte bytes refl in
     elim (word_is s starts (run_passes is_word_byte bytes)) [
-      | reserved_word r token spelling ↦ subst (Fronts bytes (drop n bytes)) (sym token) (record {
+      | reserved_word r token spelling ↦ subst (StartsWith bytes (drop n bytes)) (sym token) (record {
         parts = sym (take-append-drop n bytes) ∙ ap (λ x. x ++ drop n bytes) spelling;
         is_token = tt;
         longest = not_false (is_word_byte (first (drop n bytes))) stops;
       })
-      | other_word token bare ↦ subst (Fronts bytes (drop n bytes)) (sym token) (record {
+      | other_word token bare ↦ subst (StartsWith bytes (drop n bytes)) (sym token) (record {
         parts = sym (take-append-drop n bytes);
         is_token = bare;
         longest = not_false (is_word_byte (first (drop n bytes))) stops;
@@ -114,9 +114,9 @@ first_take (suc n) (b ∷ bs) some = refl
 drop_sum : (m n : ℕ) (bytes : List ℕ) → drop (m + n) bytes ≡ drop n (drop m bytes)
 drop_sum m n bytes = sym (drop-drop n m bytes)
 
-number_fronts : (bytes : List ℕ) (count : ℕ) → prefix_len is_digit (drop (minus_len bytes) bytes) ≡ count → 0 < count → (is_digit (first bytes) || first bytes == 45) ≡ true
-    → (number_token (take (minus_len bytes + count) bytes) ≡ bad_number → ⊥) → Fronts bytes (drop (minus_len bytes + count) bytes) (number_token (take (minus_len bytes + count) bytes))
-number_fronts bytes count is some starts good =
+number_begins : (bytes : List ℕ) (count : ℕ) → prefix_len is_digit (drop (minus_len bytes) bytes) ≡ count → 0 < count → (is_digit (first bytes) || first bytes == 45) ≡ true
+    → (number_token (take (minus_len bytes + count) bytes) ≡ bad_number → ⊥) → StartsWith bytes (drop (minus_len bytes + count) bytes) (number_token (take (minus_len bytes + count) bytes))
+number_begins bytes count is some starts good =
     let m = minus_len bytes in
     let span = take (m + count) bytes in
     let rest = drop (m + count) bytes in
@@ -126,9 +126,9 @@ number_fronts bytes count is some starts good =
     let behind : rest ≡ drop count (drop m bytes) = drop_sum m count bytes in
     let stops : is_digit (first rest) ≡ false = ap (λ r. is_digit (first r)) behind ∙ ap (λ k. is_digit (first (drop k (drop m bytes)))) (sym is) ∙ run_stops is_digit (drop m bytes) refl in
     elim (number_or_bad span) [
-      | inl told ↦ (
-          let (spelling, within) = numeral_written span told.0 numeral starts_span told.1 in
-          subst (Fronts bytes rest) (sym told.1) (record {
+      | inl determined ↦ (
+          let (spelling, within) = numeral_written span determined.0 numeral starts_span determined.1 in
+          subst (StartsWith bytes rest) (sym determined.1) (record {
             parts = sym (take-append-drop (m + count) bytes) ∙ ap (λ x. x ++ rest) spelling;
             is_token = within;
             longest = not_false (is_digit (first rest)) stops;
@@ -136,8 +136,8 @@ number_fronts bytes count is some starts good =
       | inr bad_one ↦ absurd (good bad_one)
     ]
 
-quoted_fronts : (bs body : List ℕ) → scan 0 bs ≡ closed body → Fronts (34 ∷ bs) (drop (length body + 2) (34 ∷ bs)) (quoted (unescaped 0 body))
-quoted_fronts bs body closes =
+quoted_begins : (bs body : List ℕ) → scan 0 bs ≡ closed body → StartsWith (34 ∷ bs) (drop (length body + 2) (34 ∷ bs)) (quoted (unescaped 0 body))
+quoted_begins bs body closes =
     let w = scan_written 0 bs body closes in
     let (rest, parts) = scan_parts 0 bs body closes in
     let whole : 34 ∷ bs ≡ (34 ∷ body ++ 34 ∷ []) ++ rest = ap (λ r. 34 ∷ r) (parts ∙ sym (append_assoc body (34 ∷ []) rest)) in
@@ -148,8 +148,8 @@ quoted_fronts bs body closes =
       longest = refl;
     }
 
-sign_fronts : (b : ℕ) (bs : List ℕ) (s : Sign) (n : ℕ) → sign_at b (first bs) ≡ Some (s, n) → Fronts (b ∷ bs) (drop n (b ∷ bs)) (sign s)
-sign_fronts b bs s n e =
+sign_begins : (b : ℕ) (bs : List ℕ) (s : Sign) (n : ℕ) → sign_at b (first bs) ≡ Some (s, n) → StartsWith (b ∷ bs) (drop n (b ∷ bs)) (sign s)
+sign_begins b bs s n e =
     let is = sign_is b bs s n e in
     record {
       parts = sym (take-append-drop n (b ∷ bs)) ∙ ap (λ x. x ++ drop n (b ∷ bs)) is.spelling;
@@ -157,31 +157,31 @@ sign_fronts b bs s n e =
       longest = is.longest;
     }
 
-by_sign_fronts : (b : ℕ) (bs : List ℕ) (o : Option (Sign × ℕ)) → sign_at b (first bs) ≡ o → (t : Token) (left : ℕ) (span rest : List ℕ) → by_sign (b ∷ bs) o ≡ found t left span rest → Fronts (b ∷ bs) rest t
-by_sign_fronts b bs (Some p) is t left span rest e =
-    found_is (sign p.0) t (length (b ∷ bs)) left (take p.1 (b ∷ bs)) span (drop p.1 (b ∷ bs)) rest (b ∷ bs) e (sign_fronts b bs p.0 p.1 is)
-by_sign_fronts b bs None is t left span rest e =
+by_sign_begins : (b : ℕ) (bs : List ℕ) (o : Option (Sign × ℕ)) → sign_at b (first bs) ≡ o → (t : Token) (left : ℕ) (span rest : List ℕ) → by_sign (b ∷ bs) o ≡ found t left span rest → StartsWith (b ∷ bs) rest t
+by_sign_begins b bs (Some p) is t left span rest e =
+    found_is (sign p.0) t (length (b ∷ bs)) left (take p.1 (b ∷ bs)) span (drop p.1 (b ∷ bs)) rest (b ∷ bs) e (sign_begins b bs p.0 p.1 is)
+by_sign_begins b bs None is t left span rest e =
     elim (tested (b == 33 && length (b ∷ bs) == 1)) [
       | inl cut_off ↦ (let no = rw cut_off at e in cc)
       | inr other ↦ (let no = rw other at e in cc)
     ]
 
-by_scan_fronts : (bs : List ℕ) (x : Scan) → scan 0 bs ≡ x → (t : Token) (left : ℕ) (span rest : List ℕ) → by_scan (34 ∷ bs) x ≡ found t left span rest → Fronts (34 ∷ bs) rest t
-by_scan_fronts bs (closed body) is t left span rest e =
-    found_is (quoted (unescaped 0 body)) t (length (34 ∷ bs)) left (take (length body + 2) (34 ∷ bs)) span (drop (length body + 2) (34 ∷ bs)) rest (34 ∷ bs) e (quoted_fronts bs body is)
-by_scan_fronts bs open_end is t left span rest e = cc
-by_scan_fronts bs (bad at) is t left span rest e = cc
+by_scan_begins : (bs : List ℕ) (x : QuotedScan) → scan 0 bs ≡ x → (t : Token) (left : ℕ) (span rest : List ℕ) → by_scan (34 ∷ bs) x ≡ found t left span rest → StartsWith (34 ∷ bs) rest t
+by_scan_begins bs (closed body) is t left span rest e =
+    found_is (quoted (unescaped 0 body)) t (length (34 ∷ bs)) left (take (length body + 2) (34 ∷ bs)) span (drop (length body + 2) (34 ∷ bs)) rest (34 ∷ bs) e (quoted_begins bs body is)
+by_scan_begins bs open_end is t left span rest e = cc
+by_scan_begins bs (bad at) is t left span rest e = cc
 
-by_digits_fronts : (bytes : List ℕ) (count : ℕ) → prefix_len is_digit (drop (minus_len bytes) bytes) ≡ count → (is_digit (first bytes) || first bytes == 45) ≡ true
-    → (t : Token) (left : ℕ) (span rest : List ℕ) → number_of_digits bytes count ≡ found t left span rest → (t ≡ bad_number → ⊥) → Fronts bytes rest t
-by_digits_fronts bytes count is starts t left span rest e good =
+by_digits_begins : (bytes : List ℕ) (count : ℕ) → prefix_len is_digit (drop (minus_len bytes) bytes) ≡ count → (is_digit (first bytes) || first bytes == 45) ≡ true
+    → (t : Token) (left : ℕ) (span rest : List ℕ) → number_of_digits bytes count ≡ found t left span rest → (t ≡ bad_number → ⊥) → StartsWith bytes rest t
+by_digits_begins bytes count is starts t left span rest e good =
     elim (tested (nat_lt 0 count)) [
       | inl some ↦ (
           let token = number_token (take (minus_len bytes + count) bytes) in
           let got : found token (length bytes) (take (minus_len bytes + count) bytes) (drop (minus_len bytes + count) bytes) ≡ found t left span rest = rw some at e in
           let same : token ≡ t = cc in
           found_is token t (length bytes) left (take (minus_len bytes + count) bytes) span (drop (minus_len bytes + count) bytes) rest bytes got
-          (number_fronts bytes count is (ltb-true 0 count some) starts (λ b. good (sym same ∙ b))))
+          (number_begins bytes count is (ltb-true 0 count some) starts (λ b. good (sym same ∙ b))))
       | inr none ↦ elim (tested (length (drop (minus_len bytes) bytes) == 0)) [
         | inl cut_off ↦ (let no = rw (none, cut_off) at e in cc)
         | inr other ↦ (let no = rw (none, other) at e in cc)
@@ -192,19 +192,19 @@ pub at_sign : (b : ℕ) (bs : List ℕ) → is_letter b ≡ false → (is_digit 
 at_sign b bs letter digit quote = rw (some_byte (length bs), letter, digit, quote) refl
 
 -- what is found in a text is written there
-pub token_written : (bytes : List ℕ) (t : Token) (left : ℕ) (span rest : List ℕ) → lexeme_at bytes ≡ found t left span rest → (t ≡ bad_number → ⊥) → Fronts bytes rest t
+pub token_written : (bytes : List ℕ) (t : Token) (left : ℕ) (span rest : List ℕ) → lexeme_at bytes ≡ found t left span rest → (t ≡ bad_number → ⊥) → StartsWith bytes rest t
 token_written [] t left span rest e good = cc
 token_written (b ∷ bs) t left span rest e good =
     elim (tested (is_letter b)) [
       | inl letter ↦ (
           let n = prefix_len is_word_byte (b ∷ bs) in
-          found_is (word_token (take n (b ∷ bs))) t (length (b ∷ bs)) left (take n (b ∷ bs)) span (drop n (b ∷ bs)) rest (b ∷ bs) (sym (at_word (b ∷ bs) (some_byte (length bs)) letter) ∙ e) (word_fronts b bs letter))
+          found_is (word_token (take n (b ∷ bs))) t (length (b ∷ bs)) left (take n (b ∷ bs)) span (drop n (b ∷ bs)) rest (b ∷ bs) (sym (at_word (b ∷ bs) (some_byte (length bs)) letter) ∙ e) (word_begins b bs letter))
       | inr no_word ↦ elim (tested (is_digit b || b == 45)) [
-        | inl starts ↦ by_digits_fronts (b ∷ bs) _ refl starts t left span rest (sym (at_number b bs no_word starts) ∙ e) good
+        | inl starts ↦ by_digits_begins (b ∷ bs) _ refl starts t left span rest (sym (at_number b bs no_word starts) ∙ e) good
         | inr no_number ↦ elim (tested (b == 34)) [
-          | inl quote ↦ subst (λ x. Fronts (x ∷ bs) rest t) (sym (eqb-true b 34 quote))
-              (by_scan_fronts bs (scan 0 bs) refl t left span rest (sym (at_quote bs) ∙ subst (λ x. lexeme_at (x ∷ bs) ≡ found t left span rest) (eqb-true b 34 quote) e))
-          | inr no_quote ↦ by_sign_fronts b bs (sign_at b (first bs)) refl t left span rest (sym (at_sign b bs no_word no_number no_quote) ∙ e)
+          | inl quote ↦ subst (λ x. StartsWith (x ∷ bs) rest t) (sym (eqb-true b 34 quote))
+              (by_scan_begins bs (scan 0 bs) refl t left span rest (sym (at_quote bs) ∙ subst (λ x. lexeme_at (x ∷ bs) ≡ found t left span rest) (eqb-true b 34 quote) e))
+          | inr no_quote ↦ by_sign_begins b bs (sign_at b (first bs)) refl t left span rest (sym (at_sign b bs no_word no_number no_quote) ∙ e)
         ]
       ]
     ]
@@ -252,13 +252,13 @@ no_blank (sign CloseList) rest is = refl
 no_blank (sign Comma) rest is = refl
 no_blank (sign Dot) rest is = refl
 
--- blanks in front of a token are passed over
+-- blanks before a token are passed over
 pub blanks_passed : (blanks : List ℕ) (t : Token) (rest : List ℕ) → list_all is_blank blanks ≡ true → IsToken t → after_blanks (blanks ++ (spelled t ++ rest)) ≡ spelled t ++ rest
 blanks_passed blanks t rest blank is =
     let more = spelled t ++ rest in
     ap (λ k. drop k (blanks ++ more)) (prefix_len-run is_blank blanks more blank (no_blank t rest is)) ∙ drop_at blanks more (length blanks) refl
 
--- what comes next behind blanks
+-- what comes next after blanks
 pub next_read : (text blanks rest : List ℕ) (t : Token) → Begins text blanks rest t → lexeme text ≡ found t (length (spelled t ++ rest)) (spelled t) rest
 unfolding lexeme
 next_read text blanks rest t b =

@@ -18,7 +18,7 @@ use Rattle.query_lang.proofs.Utf8Lemmas.{tested}
 abbrev pub first : List ℕ → ℕ
 first bytes = get_or bytes 0 0
 
--- a run is found again in front of a byte that does not pass
+-- a run is found again before a byte that does not pass
 pub prefix_len-run : (p : ℕ → Bool) (run rest : List ℕ) → list_all p run ≡ true → p (first rest) ≡ false → prefix_len p (run ++ rest) ≡ length run
 prefix_len-run p [] [] all stop = refl
 prefix_len-run p [] (c ∷ rest) all stop = rw stop refl
@@ -38,7 +38,7 @@ run_passes p (b ∷ bs) =
       | inr stop ↦ ap (λ k. list_all p (take k (b ∷ bs))) (let none : prefix_len p (b ∷ bs) ≡ 0 = rw stop refl in none)
     ]
 
--- the byte behind a run does not
+-- the byte after a run does not
 pub run_stops : (p : ℕ → Bool) (bytes : List ℕ) → p 0 ≡ false → p (first (drop (prefix_len p bytes) bytes)) ≡ false
 run_stops p [] none = none
 run_stops p (b ∷ bs) none =
@@ -151,16 +151,16 @@ pub at_word : (bytes : List ℕ) → (length bytes == 0) ≡ false → is_letter
     → lexeme_at bytes ≡ found (word_token (take (prefix_len is_word_byte bytes) bytes)) (length bytes) (take (prefix_len is_word_byte bytes) bytes) (drop (prefix_len is_word_byte bytes) bytes)
 at_word bytes some letter = rw (some, letter) refl
 
--- a word at the front of a text
+-- a word at the beginning of a text
 pub word_lexeme : (s rest : List ℕ) → starts_word s ≡ true → list_all is_word_byte s ≡ true → is_word_byte (first rest) ≡ false
     → lexeme_at (s ++ rest) ≡ found (word_token s) (length (s ++ rest)) s rest
 word_lexeme [] rest starts all stop = cc
 word_lexeme (b ∷ bs) rest starts all stop =
     let n : prefix_len is_word_byte ((b ∷ bs) ++ rest) ≡ length (b ∷ bs) = prefix_len-run is_word_byte (b ∷ bs) rest all stop in
     let some : (length ((b ∷ bs) ++ rest) == 0) ≡ false = ne_eqb (suc (length (bs ++ rest))) 0 (λ e. omega arith) in
-    let front : take (prefix_len is_word_byte ((b ∷ bs) ++ rest)) ((b ∷ bs) ++ rest) ≡ b ∷ bs = ap (λ k. take k ((b ∷ bs) ++ rest)) n ∙ take_at (b ∷ bs) rest (length (b ∷ bs)) refl in
+    let prefix : take (prefix_len is_word_byte ((b ∷ bs) ++ rest)) ((b ∷ bs) ++ rest) ≡ b ∷ bs = ap (λ k. take k ((b ∷ bs) ++ rest)) n ∙ take_at (b ∷ bs) rest (length (b ∷ bs)) refl in
     let behind : drop (prefix_len is_word_byte ((b ∷ bs) ++ rest)) ((b ∷ bs) ++ rest) ≡ rest = ap (λ k. drop k ((b ∷ bs) ++ rest)) n ∙ drop_at (b ∷ bs) rest (length (b ∷ bs)) refl in
-    at_word ((b ∷ bs) ++ rest) some starts ∙ ap (λ x. found (word_token x) (length ((b ∷ bs) ++ rest)) x (drop (prefix_len is_word_byte ((b ∷ bs) ++ rest)) ((b ∷ bs) ++ rest))) front
+    at_word ((b ∷ bs) ++ rest) some starts ∙ ap (λ x. found (word_token x) (length ((b ∷ bs) ++ rest)) x (drop (prefix_len is_word_byte ((b ∷ bs) ++ rest)) ((b ∷ bs) ++ rest))) prefix
     ∙ ap (found (word_token (b ∷ bs)) (length ((b ∷ bs) ++ rest)) (b ∷ bs)) behind
 
 pub not_true : (b : Bool) → not b ≡ true → b ≡ false

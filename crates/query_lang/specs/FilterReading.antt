@@ -1,11 +1,11 @@
--- Filters, read token by token from the left: what may stand next, and what waits.
+-- Internal. Filters, read token by token from the left: what is allowed next, and what is pending.
 use Rattle.std.specs.Prelude.{ℕ, zero, suc, ◌+◌, ◌-◌, ◌^◌, min, max, Bool, true, false, not, ◌&&◌, ◌==◌, nat_lt, if◌then◌else◌, List, [], ◌∷◌, ◌++◌, length, take, drop, reverse, Option, Some, None, Result, Ok, Err}
 use Rattle.q_doc.specs.Tree.{Tree, null, boolean, number as whole, text}
 use Rattle.query_core.specs.Filters.{Filter, constant, compared, listed, having, present, negated, every, some, Operands, no_operands, operands_of}
 use Rattle.query_lang.specs.declared.filter_reader.PathUse.{PathUse}
 use Rattle.query_lang.specs.declared.filter_reader.PathUse.TheVariants.{Exists as ForExists, Tested}
-use Rattle.query_lang.specs.declared.filter_reader.Asked.{Asked}
-use Rattle.query_lang.specs.declared.filter_reader.Asked.TheVariants.{Compare as AsksCompare, Has as AsksHas}
+use Rattle.query_lang.specs.declared.filter_reader.ValueTest.{ValueTest}
+use Rattle.query_lang.specs.declared.filter_reader.ValueTest.TheVariants.{Compare as AsksCompare, Has as AsksHas}
 use Rattle.query_lang.specs.declared.filter_reader.Pending.{Pending}
 use Rattle.query_lang.specs.declared.filter_reader.Pending.TheVariants as pending
 use Rattle.query_lang.specs.declared.filter_reader.Level.{Level}
@@ -33,18 +33,18 @@ pub record State : Type 0 where
   pub pending : Pending
   -- the atoms and listed values so far
   pub leaves : ℕ
-  -- the operands that wait, those of outer levels first
+  -- the pending operands, those of outer levels first
   pub operands : List Filter
-  -- what waits at the innermost level of parentheses
+  -- what is pending at the innermost level of parentheses
   pub level : Level
-  -- what waits at the levels around it, the innermost of these first
+  -- what is pending at the levels around it, the innermost of these first
   pub outer : List Level
 
 -- a reader of the code
 abbrev pub seen : FilterReader → State
 seen r = record { pending = r.pending; leaves = r.leaves; operands = r.operands.items; level = r.level; outer = reverse r.outer.items }
 
--- a level at which nothing waits, above so many operands
+-- a level at which nothing is pending, above this number of operands
 abbrev pub level_above : ℕ → Level
 level_above from = record { nots = 0; any_from = from; any_height = 0; all_from = from; all_height = 0 }
 
@@ -58,13 +58,13 @@ capped_sum a b = min (a + b) (2 ^ 64 - 1)
 
 -- ---- operands
 
--- so many negations of a filter
+-- a filter negated n times
 abbrev pub negated_times : ℕ → Filter → Filter
 negated_times zero f = f
 negated_times (suc n) f = negated_times n (negated f)
 
 -- A filter of this height, where the height is within the limit. A higher one is refused once the whole text was read,
--- and until then a constant stands in its place.
+-- and until then a constant is kept instead.
 abbrev pub kept : ℕ → Filter → Filter
 kept height f = if nat_lt most_height height then constant true else f
 
@@ -80,7 +80,7 @@ put f height s = record s {
   level = with_operand height s.level;
 }
 
--- an atom with so many listed values is whole
+-- an atom with this number of listed values is complete
 abbrev pub atom : Filter → ℕ → State → State
 atom f values s = put f 1 (record s { leaves = capped_sum (capped_sum s.leaves values) 1 })
 
@@ -91,7 +91,7 @@ abbrev pub join_of : Join → Operands → Filter
 join_of join.And fs = every fs
 join_of join.Or fs = some fs
 
--- filters of this greatest height, joined; one stands for itself
+-- filters of this greatest height, joined; one filter is itself
 abbrev pub joined : Join → ℕ → List Filter → Filter
 joined how height (f ∷ []) = f
 joined how height [] = kept (capped_sum height 1) (join_of how no_operands)
@@ -103,7 +103,7 @@ joined_height height (f ∷ []) = height
 joined_height height [] = capped_sum height 1
 joined_height height (f ∷ g ∷ fs) = capped_sum height 1
 
--- a level whose `and` is whole and has this height, below so many operands
+-- a level whose `and` is whole and has this height, below this number of operands
 abbrev pub with_all : ℕ → ℕ → Level → Level
 with_all height count level = record level { any_height = max level.any_height height; all_from = count; all_height = 0 }
 
@@ -143,13 +143,13 @@ value_of (sign s) = Err cause.Syntax
 
 -- ---- what a token does, by what was read before it
 
--- a segment behind these, of which a path has only so many
+-- a segment after these; a path has at most 8
 unfoldable pub segment_at : State → PathUse → List (List ℕ) → Option (List ℕ) → Result State Cause
 segment_at s used path None = Err cause.Syntax
 segment_at s used path (Some segment) =
     if nat_lt (length path) most_segments then Ok (record s { pending = pending.Path used (path ++ segment ∷ []) }) else Err cause.Syntax
 
--- a value of a list, behind these
+-- a value of a list, after these
 unfoldable pub item_at : State → List (List ℕ) → List Tree → Result Tree Cause → Result State Cause
 item_at s path values (Ok v) = Ok (record s { pending = pending.AfterItem path (values ++ v ∷ []) })
 item_at s path values (Err e) = Err e
@@ -169,7 +169,7 @@ on_operand s (word Exists) = Ok (record s { pending = pending.ExistsSegment })
 on_operand s (sign Open) = opened s
 on_operand s t = segment_at s Tested [] (segment_of t)
 
--- behind a closing parenthesis, given the levels around it
+-- after a closing parenthesis, given the levels around it
 unfoldable pub closed : State → List Level → Result State Cause
 closed s [] = Err cause.Syntax
 closed s (level ∷ outer) =
@@ -185,12 +185,12 @@ on_joint s (word Or) = Ok (record (join_all s) { pending = pending.Operand })
 on_joint s (sign Close) = closed s s.outer
 on_joint s t = Err cause.Syntax
 
--- behind a segment after `exists`
+-- after a segment after `exists`
 unfoldable pub on_exists : State → List (List ℕ) → Token → Result State Cause
 on_exists s path (sign Dot) = Ok (record s { pending = pending.Segment ForExists path })
 on_exists s path t = on_joint (atom (present path) 0 s) t
 
--- behind another segment
+-- after another segment
 unfoldable pub on_path : State → List (List ℕ) → Token → Result State Cause
 on_path s path (sign Dot) = Ok (record s { pending = pending.Segment Tested path })
 on_path s path (sign (Compare op)) = Ok (record s { pending = pending.Value path (AsksCompare op) })
@@ -199,12 +199,12 @@ on_path s path (word In) = Ok (record s { pending = pending.List path })
 on_path s path t = Err cause.Syntax
 
 -- what is asked of a value
-abbrev pub asked : Asked → List (List ℕ) → Tree → Filter
+abbrev pub asked : ValueTest → List (List ℕ) → Tree → Filter
 asked (AsksCompare op) path v = compared path op v
 asked AsksHas path v = having path v
 
 -- where a value must come
-unfoldable pub on_value : State → List (List ℕ) → Asked → Result Tree Cause → Result State Cause
+unfoldable pub on_value : State → List (List ℕ) → ValueTest → Result Tree Cause → Result State Cause
 on_value s path asks (Ok v) = Ok (atom (asked asks path v) 0 s)
 on_value s path asks (Err e) = Err e
 
@@ -213,18 +213,18 @@ unfoldable pub on_list : State → List (List ℕ) → Token → Result State Ca
 on_list s path (sign OpenList) = Ok (record s { pending = pending.FirstItem path })
 on_list s path t = Err cause.Syntax
 
--- behind `[`
+-- after `[`
 unfoldable pub on_first_item : State → List (List ℕ) → Token → Result State Cause
 on_first_item s path (sign CloseList) = Ok (atom (listed path []) 0 s)
 on_first_item s path t = item_at s path [] (value_of t)
 
--- behind a value of a list
+-- after a value of a list
 unfoldable pub on_after_item : State → List (List ℕ) → List Tree → Token → Result State Cause
 on_after_item s path values (sign Comma) = Ok (record s { pending = pending.Item path values })
 on_after_item s path values (sign CloseList) = Ok (atom (listed path values) (length values) s)
 on_after_item s path values t = Err cause.Syntax
 
--- behind this much of an atom
+-- after this much of an atom
 unfoldable pub on_token : Pending → State → Token → Result State Cause
 on_token pending.Operand s t = on_operand s t
 on_token pending.ExistsSegment s t = segment_at s ForExists [] (segment_of t)
@@ -238,7 +238,7 @@ on_token (pending.Item path values) s t = item_at s path values (value_of t)
 on_token (pending.AfterItem path values) s t = on_after_item s path values t
 on_token pending.Joint s t = on_joint s t
 
--- what waits, without what was read of an atom
+-- what is pending, without what was read of an atom
 abbrev pub without_pending : State → State
 without_pending s = record s { pending = pending.Operand }
 
@@ -258,19 +258,19 @@ is_unequal beginning.Unequal = true
 abbrev pub step : State → Token → Result State Cause
 step s t = on_token s.pending (without_pending s) t
 
--- whether a token of this kind may stand behind this much of an atom
-abbrev pub may_stand_behind : Pending → Beginning → Bool
-may_stand_behind pending.Operand what = is_text what
-may_stand_behind pending.ExistsSegment what = is_text what
-may_stand_behind (pending.Segment used path) what = is_text what && nat_lt (length path) most_segments
-may_stand_behind (pending.Path ForExists path) what = false
-may_stand_behind (pending.Path Tested path) what = is_unequal what
-may_stand_behind (pending.Value path asks) what = not (is_unequal what)
-may_stand_behind (pending.List path) what = false
-may_stand_behind (pending.FirstItem path) what = not (is_unequal what)
-may_stand_behind (pending.Item path values) what = not (is_unequal what)
-may_stand_behind (pending.AfterItem path values) what = false
-may_stand_behind pending.Joint what = false
+-- whether a token of this kind is allowed after this much of an atom
+abbrev pub is_allowed_after : Pending → Beginning → Bool
+is_allowed_after pending.Operand what = is_text what
+is_allowed_after pending.ExistsSegment what = is_text what
+is_allowed_after (pending.Segment used path) what = is_text what && nat_lt (length path) most_segments
+is_allowed_after (pending.Path ForExists path) what = false
+is_allowed_after (pending.Path Tested path) what = is_unequal what
+is_allowed_after (pending.Value path asks) what = not (is_unequal what)
+is_allowed_after (pending.List path) what = false
+is_allowed_after (pending.FirstItem path) what = not (is_unequal what)
+is_allowed_after (pending.Item path values) what = not (is_unequal what)
+is_allowed_after (pending.AfterItem path values) what = false
+is_allowed_after pending.Joint what = false
 
 -- ---- the end
 
@@ -278,7 +278,7 @@ may_stand_behind pending.Joint what = false
 abbrev pub at_end : State → Result State Cause
 at_end s = if length s.outer == 0 then Ok s else Err cause.Syntax
 
--- the text ends behind a whole operand, or behind the path of `exists`
+-- the text ends after a whole operand, or after the path of `exists`
 unfoldable pub ended : Pending → State → Result State Cause
 ended pending.Joint s = at_end s
 ended (pending.Path ForExists path) s = at_end (atom (present path) 0 s)

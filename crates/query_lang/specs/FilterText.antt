@@ -1,16 +1,16 @@
--- Which texts are filters, and what is told of one that passes a limit.
+-- Internal. Which texts are filters, and what is reported of one that passes a limit.
 use Rattle.std.specs.Prelude.{◌≡◌, ℕ, ◌-◌, ◌^◌, min, nat_lt, if◌then◌else◌, List, [], Result, Ok, Err}
 use Rattle.query_core.specs.Filters.{Filter, height}
 use Rattle.query_core.specs.Limits.{leaves, most_leaves, most_height}
 use Rattle.query_lang.specs.declared.refusal.QueryRefusal.{QueryRefusal}
 use Rattle.query_lang.specs.declared.refusal.QueryRefusal.TheVariants.{Syntax, BadNumber, TooManyPaths, TooMany, TooNested, TooDeep, Memory}
 use Rattle.query_lang.specs.Grammar.{FilterTree, filter_tokens, filter_meaning, FilterFits}
-use Rattle.query_lang.specs.Spelling.{Spells}
+use Rattle.query_lang.specs.Spelling.{Tokenizes}
 
 -- the text is written with the tokens of a tree of the grammar that means this filter
 pub record IsFilterText (bytes : List ℕ) (f : Filter) : Type 0 where
   pub tree : FilterTree
-  pub spells : Spells bytes (filter_tokens tree [])
+  pub tokenizes : Tokenizes bytes (filter_tokens tree [])
   pub fits : FilterFits 0 tree
   pub means : filter_meaning tree ≡ f
 
@@ -24,7 +24,7 @@ decided f =
     if nat_lt most_leaves (leaves f) then Err (TooMany (capped (leaves f)))
     else (if nat_lt most_height (height f) then Err (TooDeep (capped (height f))) else Ok f)
 
--- the answer is a filter, or tells a limit of whole filters
+-- the answer is a filter, or reports a limit of whole filters
 abbrev pub IsWhole : Result Filter QueryRefusal → Type 0
 IsWhole (Ok f) = Unit {0}
 IsWhole (Err (TooMany leaves)) = Unit {0}

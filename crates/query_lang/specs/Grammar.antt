@@ -1,4 +1,4 @@
--- The grammar of filters and orders: a tree for each way to write one, the tokens that it is written with, and what it
+-- Internal. The grammar of filters and orders: a tree for each way to write one, the tokens that it is written with, and what it
 -- means.
 --
 --   filter = and { "or" and }
@@ -12,7 +12,7 @@
 --   order  = [ item { "," item } ]
 --   item   = path [ "asc" | "desc" ]
 --
--- The tokens of a tree are told together with those that follow it.
+-- The tokens of a tree are given together with those that follow it.
 use Rattle.std.specs.Prelude.{ℕ, suc, ◌<◌, Bool, true, false, List, [], ◌∷◌, length, map, ℤ, Option, Some, None}
 use Rattle.q_doc.specs.Tree.{Tree, null, boolean, number as whole, text}
 use Rattle.query_core.specs.declared.filter.Op.{Op}
@@ -153,13 +153,13 @@ abbrev mutual
   atom_tokens (listing s ss vs) rest = path_tokens s ss (word In ∷ sign OpenList ∷ value_tokens vs (sign CloseList ∷ rest))
   atom_tokens (holding s ss v) rest = path_tokens s ss (word Has ∷ value_token v ∷ rest)
 
--- filters joined by `and`; one stands for itself
+-- filters joined by `and`; one filter is itself
 abbrev pub all_of : List Filter → Filter
 all_of [] = every (operands_of [])
 all_of (f ∷ []) = f
 all_of (f ∷ g ∷ fs) = every (operands_of (f ∷ g ∷ fs))
 
--- filters joined by `or`; one stands for itself
+-- filters joined by `or`; one filter is itself
 abbrev pub any_of : List Filter → Filter
 any_of [] = some (operands_of [])
 any_of (f ∷ []) = f
@@ -200,7 +200,7 @@ abbrev mutual
   atom_meaning (listing s ss vs) = listed (path_keys s ss) (map value_tree vs)
   atom_meaning (holding s ss v) = having (path_keys s ss) (value_tree v)
 
--- Each path has few segments, and few parentheses are open, where so many are open around the tree.
+-- The limits of segments and of open parentheses hold, where `open_around` are open around the tree.
 abbrev mutual
   -- of a filter
   pub FilterFits : ℕ → FilterTree → Type 0
@@ -276,7 +276,7 @@ item_meaning i = (path_keys i.first i.others, is_descending i.direction)
 abbrev pub order_meaning : List Item → Order
 order_meaning is = map item_meaning is
 
--- each path has few segments
+-- each path is within the limit of segments
 abbrev pub ItemsFit : List Item → Type 0
 ItemsFit [] = Unit {0}
 ItemsFit (i ∷ is) = (length i.others < most_segments) × ItemsFit is

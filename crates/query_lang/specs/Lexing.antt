@@ -1,11 +1,11 @@
--- What comes next in a text.
+-- Internal. What comes next in a text.
 use Rattle.std.specs.Prelude.{ℕ, ◌+◌, ◌^◌, Bool, ◌&&◌, ◌||◌, ◌==◌, nat_lt, if◌then◌else◌, List, length, take, drop, slice_index, codes, Option, Some, None, ℤ, pos, negsuc}
 use Rattle.std.specs.List.{prefix_len}
 use Rattle.std.specs.Str.{bytes_eq}
 use Rattle.std.specs.Str.Parse.{signed_digits_value}
 use Rattle.query_core.specs.declared.filter.Op.TheVariants.{Equal, Unequal, Less, AtMost, Greater, AtLeast}
 use Rattle.query_lang.specs.Bytes.{is_letter, is_digit, is_word_byte, after_blanks}
-use Rattle.query_lang.specs.Quoted.{Scan, closed, open_end, bad, scan, unescaped}
+use Rattle.query_lang.specs.Quoted.{QuotedScan, closed, open_end, bad, scan, unescaped}
 use Rattle.query_lang.specs.Tokens.{Token, word, name, quoted, number, bad_number, sign, Lexeme, ends, found, unfinished, bad_text, unknown}
 use Rattle.query_lang.specs.declared.token.Reserved.{Reserved}
 use Rattle.query_lang.specs.declared.token.Reserved.TheVariants.{And, Or, Not, In, Has, Exists, True, False, Null, Asc, Desc}
@@ -56,7 +56,7 @@ number_token span =
     if nat_lt 1 (length span) && slice_index span (minus_len span) == 48 then bad_number
     else (if fits (signed_digits_value 10 span) then number (signed_digits_value 10 span) else bad_number)
 
--- what begins with a digit or `-`, with so many digits
+-- what begins with a digit or `-`, given the number of digits
 abbrev pub number_of_digits : List ℕ → ℕ → Lexeme
 number_of_digits bytes count =
     if nat_lt 0 count then found (number_token (take (minus_len bytes + count) bytes)) (length bytes) (take (minus_len bytes + count) bytes) (drop (minus_len bytes + count) bytes)
@@ -68,8 +68,8 @@ number_at bytes = number_of_digits bytes (prefix_len is_digit (drop (minus_len b
 
 -- ---- texts in quotes
 
--- what begins with a quote, given how it goes on behind it
-abbrev pub by_scan : List ℕ → Scan → Lexeme
+-- what begins with a quote, given how it continues after it
+abbrev pub by_scan : List ℕ → QuotedScan → Lexeme
 by_scan bytes (closed body) = found (quoted (unescaped 0 body)) (length bytes) (take (length body + 2) bytes) (drop (length body + 2) bytes)
 by_scan bytes open_end = unfinished Text (length bytes)
 by_scan bytes (bad at) = bad_text (length bytes) (length at)
@@ -107,7 +107,7 @@ sign_lexeme bytes = by_sign bytes (sign_at (slice_index bytes 0) (slice_index by
 
 -- ---- any of them
 
--- what a text without blanks in front begins with
+-- what a text that begins with no blank begins with
 abbrev pub lexeme_at : List ℕ → Lexeme
 lexeme_at bytes =
     if length bytes == 0 then ends

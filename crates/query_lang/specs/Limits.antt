@@ -1,4 +1,4 @@
--- The limits of texts, beside those of queries.
+-- Internal. The limits of texts, beside those of queries.
 use Rattle.std.specs.Prelude.{ℕ}
 
 -- the most open parentheses

@@ -1,4 +1,4 @@
--- The fields of one number.
+-- Internal. The fields of one number.
 use Rattle.std.specs.Prelude.{ℕ, ◌-◌, ◌&&◌, ◌||◌, ◌==◌, nat_le, if◌then◌else◌, List, length, slice_index, ℤ, pos, negsuc, Result, Ok, Err}
 use Rattle.query_lang.specs.Bytes.{is_digit}
 use Rattle.query_lang.specs.declared.refusal.QueryRefusal.{QueryRefusal}
@@ -6,7 +6,7 @@ use Rattle.query_lang.specs.declared.refusal.QueryRefusal.TheVariants.{Syntax, B
 use Rattle.query_lang.specs.Lexing.{number_at}
 use Rattle.query_lang.specs.Tokens.{Token, word, name, quoted, number, bad_number, sign, Lexeme, ends, found, unfinished, bad_text, unknown}
 
--- a number from `low` to `high`, behind which so many bytes of a text of `total` bytes are left
+-- a number from `low` to `high`, after which `left` bytes of a text of `total` bytes are left
 abbrev pub number_within : ℕ → ℕ → ℕ → ℕ → ℕ → ℤ → Result ℕ QueryRefusal
 number_within field low high total left (pos n) =
     if nat_le low n && nat_le n high then (if left == 0 then Ok n else Err (Syntax field (total - left))) else Err (BadNumber field 0)
@@ -21,7 +21,7 @@ number_of_token field low high total left (name s) = Err (Syntax field 0)
 number_of_token field low high total left (quoted s) = Err (Syntax field 0)
 number_of_token field low high total left (sign s) = Err (Syntax field 0)
 
--- the number that a text begins with, and nothing behind it
+-- the number that a text begins with, and nothing after it
 abbrev pub number_of_lexeme : ℕ → ℕ → ℕ → ℕ → Lexeme → Result ℕ QueryRefusal
 number_of_lexeme field low high total ends = Err (Syntax field 0)
 number_of_lexeme field low high total (found t from span rest) = number_of_token field low high total (length rest) t

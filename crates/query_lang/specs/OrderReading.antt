@@ -1,4 +1,4 @@
--- Orders, read token by token from the left.
+-- Internal. Orders, read token by token from the left.
 use Rattle.std.specs.Prelude.{ℕ, Bool, true, false, ◌&&◌, nat_lt, if◌then◌else◌, List, [], ◌∷◌, ◌++◌, length, Option, Some, None, Result, Ok, Err}
 use Rattle.query_core.specs.Window.{Order}
 use Rattle.query_lang.specs.declared.order_reader.OrderPending.{OrderPending}
@@ -32,7 +32,7 @@ seen r = record { pending = r.pending; paths = r.paths.items }
 abbrev pub start : State
 start = record { pending = pending.Start; paths = [] }
 
--- a path is whole, behind which this may stand
+-- a path is whole, after which this is allowed
 abbrev pub with_path : List (List ℕ) → Bool → OrderPending → State → State
 with_path path descending after s = record { pending = after; paths = s.paths ++ (path, descending) ∷ [] }
 
@@ -42,13 +42,13 @@ on_item s None = Err cause.Syntax
 on_item s (Some segment) =
     if nat_lt (length s.paths) most_paths then Ok (record s { pending = pending.Path (segment ∷ []) }) else Err cause.TooManyPaths
 
--- where a segment must come behind these, of which a path has only so many
+-- where a segment must come after these; a path has at most 8
 unfoldable pub on_segment : State → List (List ℕ) → Option (List ℕ) → Result State Cause
 on_segment s path None = Err cause.Syntax
 on_segment s path (Some segment) =
     if nat_lt (length path) most_segments then Ok (record s { pending = pending.Path (path ++ segment ∷ []) }) else Err cause.Syntax
 
--- behind a segment
+-- after a segment
 unfoldable pub on_path : State → List (List ℕ) → Token → Result State Cause
 on_path s path (sign Dot) = Ok (record s { pending = pending.Segment path })
 on_path s path (sign Comma) = Ok (with_path path false pending.Item s)
@@ -56,12 +56,12 @@ on_path s path (word Asc) = Ok (with_path path false pending.Joint s)
 on_path s path (word Desc) = Ok (with_path path true pending.Joint s)
 on_path s path t = Err cause.Syntax
 
--- behind a direction
+-- after a direction
 abbrev pub on_joint : State → Token → Result State Cause
 on_joint s (sign Comma) = Ok (record s { pending = pending.Item })
 on_joint s t = Err cause.Syntax
 
--- behind this much of a path
+-- after this much of a path
 unfoldable pub on_token : OrderPending → State → Token → Result State Cause
 on_token pending.Start s t = on_item s (segment_of t)
 on_token pending.Item s t = on_item s (segment_of t)
@@ -77,15 +77,15 @@ without_pending s = record s { pending = pending.Joint }
 abbrev pub step : State → Token → Result State Cause
 step s t = on_token s.pending (without_pending s) t
 
--- whether a token of this kind may stand behind so many paths and this much of one
-abbrev pub may_stand_behind : ℕ → OrderPending → Beginning → Bool
-may_stand_behind count pending.Start what = is_text what && nat_lt count most_paths
-may_stand_behind count pending.Item what = is_text what && nat_lt count most_paths
-may_stand_behind count (pending.Segment path) what = is_text what && nat_lt (length path) most_segments
-may_stand_behind count (pending.Path path) what = false
-may_stand_behind count pending.Joint what = false
+-- whether a token of this kind is allowed after this number of paths and this much of one
+abbrev pub is_allowed_after : ℕ → OrderPending → Beginning → Bool
+is_allowed_after count pending.Start what = is_text what && nat_lt count most_paths
+is_allowed_after count pending.Item what = is_text what && nat_lt count most_paths
+is_allowed_after count (pending.Segment path) what = is_text what && nat_lt (length path) most_segments
+is_allowed_after count (pending.Path path) what = false
+is_allowed_after count pending.Joint what = false
 
--- the text ends behind nothing, behind a path, or behind its direction
+-- the text ends after nothing, after a path, or after its direction
 unfoldable pub ended : ℕ → OrderPending → Order → Result Order QueryRefusal
 ended total pending.Start paths = Ok paths
 ended total pending.Joint paths = Ok paths

@@ -1,4 +1,4 @@
--- The fields that print a query.
+-- Internal. The fields that print a query.
 use Rattle.std.specs.Prelude.{◌≡◌}
 use Rattle.std.specs.Fmt.{decimal}
 use Rattle.query_core.specs.Print.{filter_text, order_text}

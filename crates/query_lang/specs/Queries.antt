@@ -1,4 +1,4 @@
--- The fields of a query.
+-- Internal. The fields of a query.
 use Rattle.std.specs.Prelude.{ℕ, ◌==◌, if◌then◌else◌, List, [], length, codes, Option, Some, None, true, Result, Ok, Err}
 use Rattle.std.specs.Str.{bytes_eq}
 use Rattle.std.specs.Borrow.{Bor}
@@ -16,7 +16,7 @@ use Rattle.query_lang.specs.OrderReading.{read_order}
 use Rattle.query_lang.specs.Numbers.{read_number}
 
 infixl 10 ◌>>=◌
--- goes on with what was read
+-- continues with what was read
 abbrev pub ◌>>=◌ : {A B : Type 0} → Result A QueryRefusal → (A → Result B QueryRefusal) → Result B QueryRefusal
 (Ok a) >>= f = f a
 (Err e) >>= f = Err e

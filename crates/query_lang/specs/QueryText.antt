@@ -1,4 +1,4 @@
--- Which fields are a query, by the grammar and its limits.
+-- Internal. Which fields are a query, by the grammar and its limits.
 use Rattle.std.specs.Prelude.{◌≡◌, ℕ, ◌≤◌, true, List, [], codes}
 use Rattle.std.specs.Fmt.{decimal}
 use Rattle.query_core.specs.Filters.{Filter, constant, height}
@@ -12,12 +12,12 @@ use Rattle.query_lang.specs.Limits.{usual_take}
 use Rattle.query_lang.specs.OrderText.{IsOrderText}
 use Rattle.query_lang.specs.Queries.{bytes_of}
 
--- An empty field is the filter `true`. A filter has few atoms and listed values, and a low height.
+-- An empty field is the filter `true`. A filter is within the limits of leaves and of height.
 pub data IsFilterField (bytes : List ℕ) (f : Filter) : Type 0 where
   no_filter : bytes ≡ [] → f ≡ constant true → IsFilterField bytes f
   filter_text : IsFilterText bytes f → leaves f ≤ most_leaves → height f ≤ most_height → IsFilterField bytes f
 
--- An empty field is this default. A number stands in decimal, and is within these limits.
+-- An empty field is this default. A number is written in decimal, and is within these limits.
 pub data IsNumberField (low high default : ℕ) (bytes : List ℕ) (n : ℕ) : Type 0 where
   no_number : bytes ≡ [] → n ≡ default → IsNumberField low high default bytes n
   number_text : bytes ≡ decimal n → low ≤ n → n ≤ high → IsNumberField low high default bytes n

@@ -1,14 +1,14 @@
--- Texts in quotes, read from the front.
+-- Internal. Texts in quotes, read from the left.
 use Rattle.std.specs.Prelude.{ℕ, zero, suc, ◌+◌, ◌-◌, ◌||◌, ◌&&◌, ◌==◌, nat_le, nat_lt, if◌then◌else◌, List, [], ◌∷◌}
 use Rattle.query_lang.specs.Bytes.{is_digit}
 use Rattle.query_lang.specs.declared.quoted.Escape.{Escape as code_escape}
 use Rattle.query_lang.specs.declared.quoted.Escape.TheVariants.{Byte, Cut, Wrong}
-use Rattle.query_lang.specs.declared.quoted.Scan.{Scan as code_scan}
-use Rattle.query_lang.specs.declared.quoted.Scan.TheVariants.{Closed, Open, Bad}
+use Rattle.query_lang.specs.declared.quoted.QuotedScan.{QuotedScan as code_scan}
+use Rattle.query_lang.specs.declared.quoted.QuotedScan.TheVariants.{Closed, Open, Bad}
 
--- what stands behind a backslash: an escape for a byte with its number of bytes, one that the text cuts off, or none
+-- what comes after a backslash: an escape for a byte with its number of bytes, one that the text cuts off, or none
 pub data Escape : Type 0 where
-  stands : ℕ → ℕ → Escape
+  decodes : ℕ → ℕ → Escape
   cut : Escape
   wrong : Escape
 
@@ -16,8 +16,8 @@ pub data Escape : Type 0 where
 abbrev pub escape_low : ℕ → List ℕ → Escape
 escape_low high [] = cut
 escape_low high (b ∷ bs) =
-    if is_digit b then stands (high + (b - 48)) 5
-    else (if nat_le 97 b && nat_le b 102 then stands (high + (b - 97) + 10) 5 else wrong)
+    if is_digit b then decodes (high + (b - 48)) 5
+    else (if nat_le 97 b && nat_le b 102 then decodes (high + (b - 97) + 10) 5 else wrong)
 
 -- the third of four digits, `0` or `1`
 abbrev pub escape_high : List ℕ → Escape
@@ -37,29 +37,29 @@ escape_code (b ∷ bs) = if b == 48 then escape_second bs else wrong
 -- a quote, a backslash, or `u` and four digits
 abbrev pub escape : List ℕ → Escape
 escape [] = cut
-escape (b ∷ bs) = if b == 34 || b == 92 then stands b 1 else (if b == 117 then escape_code bs else wrong)
+escape (b ∷ bs) = if b == 34 || b == 92 then decodes b 1 else (if b == 117 then escape_code bs else wrong)
 
--- what a text in quotes is behind its first quote: its bytes up to the last quote, cut off by the end, or such that it
--- cannot go on from some place
-pub data Scan : Type 0 where
-  closed : List ℕ → Scan
-  open_end : Scan
-  bad : List ℕ → Scan
+-- what a text in quotes is after its first quote: its bytes up to the last quote, cut off by the end, or such that it
+-- cannot continue from some offset
+pub data QuotedScan : Type 0 where
+  closed : List ℕ → QuotedScan
+  open_end : QuotedScan
+  bad : List ℕ → QuotedScan
 
--- one byte more in front
-abbrev pub with_byte : ℕ → Scan → Scan
+-- one more byte before
+abbrev pub with_byte : ℕ → QuotedScan → QuotedScan
 with_byte b (closed body) = closed (b ∷ body)
 with_byte b open_end = open_end
 with_byte b (bad at) = bad at
 
--- goes on inside an escape, or ends
-abbrev pub after_escape : (ℕ → Scan) → List ℕ → Escape → Scan
-after_escape more at (stands byte length) = more length
+-- continues inside an escape, or ends
+abbrev pub after_escape : (ℕ → QuotedScan) → List ℕ → Escape → QuotedScan
+after_escape more at (decodes byte length) = more length
 after_escape more at cut = open_end
 after_escape more at wrong = bad at
 
--- a text in quotes behind its first quote, of which so many bytes belong to an escape that was read
-abbrev pub scan : ℕ → List ℕ → Scan
+-- a text in quotes after its first quote, of which `inside` bytes belong to an escape that was read
+abbrev pub scan : ℕ → List ℕ → QuotedScan
 scan inside [] = open_end
 scan (suc inside) (b ∷ bs) = with_byte b (scan inside bs)
 scan zero (b ∷ bs) =
@@ -69,15 +69,15 @@ scan zero (b ∷ bs) =
 
 -- the byte of an escape and its length, or the backslash alone where there is none
 abbrev pub byte_of_escape : ℕ → Escape → ℕ × ℕ
-byte_of_escape b (stands byte length) = (byte, length)
+byte_of_escape b (decodes byte length) = (byte, length)
 byte_of_escape b cut = (b, 0)
 byte_of_escape b wrong = (b, 0)
 
--- the byte for which a byte stands before these others, and how many of those belong to it
+-- the byte that a byte decodes to before these others, and how many of those belong to it
 abbrev pub unescaped_byte : ℕ → List ℕ → ℕ × ℕ
 unescaped_byte b bs = if b == 92 then byte_of_escape b (escape bs) else (b, 0)
 
--- the text for which bytes between quotes stand, of which so many belong to an escape that was read
+-- the text that the bytes between quotes decode to, of which the first `inside` belong to an escape that was read
 abbrev pub unescaped : ℕ → List ℕ → List ℕ
 unescaped inside [] = []
 unescaped (suc inside) (b ∷ bs) = unescaped inside bs
@@ -85,12 +85,12 @@ unescaped zero (b ∷ bs) = (unescaped_byte b bs).0 ∷ unescaped (unescaped_byt
 
 -- an escape of the code
 abbrev pub seen_escape : code_escape → Escape
-seen_escape (Byte byte length) = stands byte length
+seen_escape (Byte byte length) = decodes byte length
 seen_escape Cut = cut
 seen_escape Wrong = wrong
 
 -- an answer of the code
-abbrev pub seen_scan : code_scan → Scan
+abbrev pub seen_scan : code_scan → QuotedScan
 seen_scan (Closed body) = closed body.now
 seen_scan Open = open_end
 seen_scan (Bad at) = bad at.now

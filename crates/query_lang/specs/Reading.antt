@@ -1,4 +1,4 @@
--- Texts, read token by token from the left.
+-- Internal. Texts, read token by token from the left.
 use Rattle.std.specs.Prelude.{ℕ, zero, suc, ◌-◌, Bool, if◌then◌else◌, is_ok, List, [], length, pos, Result, Ok, Err}
 use Rattle.query_core.specs.declared.filter.Op.TheVariants.{Unequal}
 use Rattle.query_lang.specs.declared.refusal.Cause.{Cause}
@@ -11,8 +11,8 @@ use Rattle.query_lang.specs.Lexing.{lexeme}
 use Rattle.query_lang.specs.Refusals.{refused}
 use Rattle.query_lang.specs.Tokens.{Token, quoted, number, sign, Lexeme, ends, found, unfinished, bad_text, unknown}
 
--- The tokens of a text from the left, and how it ends: behind a token, inside one, or with bytes that are none. Of a
--- place the number of bytes from there to the end is told.
+-- The tokens of a text from the left, and how it ends: after a token, inside one, or with bytes that are none. An
+-- offset is given as the number of bytes from there to the end.
 pub data Tokens : Type 0 where
   done : Tokens
   next : ℕ → Token → Tokens → Tokens
@@ -50,21 +50,21 @@ example beginning.Text = quoted []
 example beginning.Number = number (pos 0)
 example beginning.Unequal = sign (Compare Unequal)
 
--- such a token may stand behind what was read
-abbrev pub may_stand : {S A : Type 0} → Rules S A → S → Beginning → Bool
-may_stand rules s what = is_ok (rules.takes s (example what))
+-- such a token is allowed after what was read
+abbrev pub is_allowed : {S A : Type 0} → Rules S A → S → Beginning → Bool
+is_allowed rules s what = is_ok (rules.takes s (example what))
 
--- goes on behind a token, or is refused at its place
+-- continues after a token, or is refused at its offset
 abbrev pub after_token : {S A : Type 0} → (S → Result A QueryRefusal) → ℕ → ℕ → Result S Cause → Result A QueryRefusal
 after_token more field place (Ok s) = more s
 after_token more field place (Err cause) = Err (refused field place cause)
 
--- Reads the tokens of a text of this length, behind what was read. What may not stand is refused: a token
+-- Reads the tokens of a text of this length, after what was read. What is not allowed is refused: a token
 -- where it begins, a text that ends inside a token at its end, and a byte that a text in quotes cannot have at that byte;
--- where no such token may stand, at its beginning.
+-- where no such token is allowed, at its beginning.
 abbrev pub run : {S A : Type 0} → Rules S A → ℕ → S → Tokens → Result A QueryRefusal
 run rules total s done = rules.ends total s
 run rules total s (next left t ts) = after_token (λ after. run rules total after ts) rules.field (total - left) (rules.takes s t)
-run rules total s (inside what left) = Err (Syntax rules.field (total - (if may_stand rules s what then 0 else left)))
-run rules total s (stuck left there) = Err (Syntax rules.field (total - (if may_stand rules s beginning.Text then there else left)))
+run rules total s (inside what left) = Err (Syntax rules.field (total - (if is_allowed rules s what then 0 else left)))
+run rules total s (stuck left there) = Err (Syntax rules.field (total - (if is_allowed rules s beginning.Text then there else left)))
 run rules total s (none left) = Err (Syntax rules.field (total - left))

@@ -1,11 +1,11 @@
--- Refusals, and how an answer of the code stands to the one that is wanted.
+-- Internal. Refusals, and when a result of the code is the one that is wanted.
 use Rattle.std.specs.Prelude.{◌≡◌, ℕ, List, codes, Result, Ok, Err}
 use Rattle.query_lang.specs.declared.refusal.QueryRefusal.{QueryRefusal}
 use Rattle.query_lang.specs.declared.refusal.QueryRefusal.TheVariants.{Syntax, BadNumber, TooManyPaths, TooMany, TooNested, TooDeep, Memory}
 use Rattle.query_lang.specs.declared.refusal.Cause.{Cause}
 use Rattle.query_lang.specs.declared.refusal.Cause.TheVariants as cause
 
--- the refusal of a field for a cause at a place
+-- the refusal of a field for a cause at an offset
 abbrev pub refused : ℕ → ℕ → Cause → QueryRefusal
 refused field place cause.Syntax = Syntax field place
 refused field place cause.BadNumber = BadNumber field place

@@ -1,4 +1,4 @@
--- The code's tokens as those of the definitions.
+-- Internal. The code's tokens as those of the definitions.
 use Rattle.std.specs.Prelude.{ℕ, ◌<◌, List, length}
 use Rattle.query_lang.specs.Quoted.{unescaped}
 use Rattle.query_lang.specs.Tokens.{Token, word, name, quoted, number, bad_number, sign, Lexeme, ends, found, unfinished, bad_text, unknown}
@@ -24,7 +24,7 @@ seen_lexeme (Unfinished what left) = unfinished what left
 seen_lexeme (BadText left there) = bad_text left there
 seen_lexeme (Unknown left) = unknown left
 
--- less text is left behind a token
+-- less text is left after a token
 abbrev pub Shortens : code_lexeme → List ℕ → Type 0
 Shortens End text = Unit {0}
 Shortens (Found t) text = length t.rest.now < length text

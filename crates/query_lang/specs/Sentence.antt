@@ -1,11 +1,11 @@
--- The refusal of a query in words.
+-- Internal. The refusal of a query in words.
 use Rattle.std.specs.Prelude.{ℕ, List, ◌++◌, codes}
 use Rattle.std.specs.Fmt.{decimal}
 use lib.Utf8.{encode}
 use Rattle.query_lang.specs.declared.refusal.QueryRefusal.{QueryRefusal}
 use Rattle.query_lang.specs.declared.refusal.QueryRefusal.TheVariants.{Syntax, BadNumber, TooManyPaths, TooMany, TooNested, TooDeep, Memory}
 
--- a sentence that names the field and the place, or the limit and by what it is passed
+-- a sentence that names the field and the offset, or the limit and the number above it
 abbrev pub sentence : QueryRefusal → List ℕ
 sentence (Syntax field place) = codes "field " ++ (encode field ++ (codes " cannot be read from byte " ++ (decimal place ++ codes " on")))
 sentence (BadNumber field place) = codes "the number at byte " ++ (decimal place ++ (codes " of field " ++ (encode field ++ codes " is not allowed")))

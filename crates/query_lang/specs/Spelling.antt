@@ -1,4 +1,4 @@
--- How tokens are written, and which texts are written with which tokens.
+-- Internal. How tokens are written, and which texts are written with which tokens.
 use Rattle.std.specs.Prelude.{◌≡◌, ℕ, Bool, true, not, ◌==◌, List, [], ◌∷◌, ◌++◌, slice_index, codes}
 use Rattle.std.specs.List.{list_all}
 use Rattle.std.specs.Fmt.{signed_decimal}
@@ -37,7 +37,7 @@ sign_text Comma = codes ","
 sign_text Dot = codes "."
 
 -- The one spelling of a token. A number is in decimal without leading zeros; in quotes a quote, a backslash and each
--- control character are escaped, and all else stands for itself. A refused number is no token of the grammar.
+-- control character are escaped, and all else is itself. A refused number is no token of the grammar.
 abbrev pub spelled : Token → List ℕ
 spelled (word reserved) = word_text reserved
 spelled (name s) = s
@@ -67,7 +67,7 @@ ends_before (sign (Compare Less)) rest = not (slice_index rest 0 == 61)
 ends_before (sign (Compare Greater)) rest = not (slice_index rest 0 == 61)
 ends_before (sign s) rest = true
 
--- a token stands behind these blanks, before this rest
+-- a token after these blanks, before this rest
 pub record Begins (text blanks rest : List ℕ) (t : Token) : Type 0 where
   pub blank : list_all is_blank blanks ≡ true
   pub parts : text ≡ blanks ++ (spelled t ++ rest)
@@ -75,6 +75,6 @@ pub record Begins (text blanks rest : List ℕ) (t : Token) : Type 0 where
   pub longest : ends_before t rest ≡ true
 
 -- the text is written with these tokens, and with blanks between them
-abbrev pub Spells : List ℕ → List Token → Type 0
-Spells text [] = list_all is_blank text ≡ true
-Spells text (t ∷ ts) = (blanks rest : List ℕ) × Begins text blanks rest t × Spells rest ts
+abbrev pub Tokenizes : List ℕ → List Token → Type 0
+Tokenizes text [] = list_all is_blank text ≡ true
+Tokenizes text (t ∷ ts) = (blanks rest : List ℕ) × Begins text blanks rest t × Tokenizes rest ts

@@ -1,4 +1,4 @@
--- The tokens of filters and orders.
+-- Internal. The tokens of filters and orders.
 use Rattle.std.specs.Prelude.{ℕ, ℤ, List}
 use Rattle.query_lang.specs.declared.token.Reserved.{Reserved}
 use Rattle.query_lang.specs.declared.token.Sign.{Sign}
@@ -13,9 +13,9 @@ pub data Token : Type 0 where
   bad_number : Token
   sign : Sign → Token
 
--- what comes next in a text: nothing, a token with its place, its span and the text behind it, the beginning of a token
--- inside which the text ends, a text in quotes that cannot go on, or bytes with which no token begins. Of a place the
--- number of bytes from there to the end is told
+-- what comes next in a text: nothing, a token with its offset, its span and the text after it, the beginning of a token
+-- inside which the text ends, a text in quotes that cannot continue, or bytes with which no token begins. An offset
+-- is given as the number of bytes from there to the end
 pub data Lexeme : Type 0 where
   ends : Lexeme
   found : Token → ℕ → List ℕ → List ℕ → Lexeme

@@ -1,4 +1,4 @@
-//! Steps over a text that allocate nothing.
+//! Functions on a text that take no memory.
 ghost use Rattle.std.specs.Prelude.{◌≡◌, ◌+◌, ◌-◌, ◌<◌, ◌≤◌, length, take, drop, slice_index};
 ghost use Rattle.std.specs.List.{prefix_len};
 ghost use Rattle.query_lang.specs.Bytes.{is_blank, is_letter, is_word_byte, after_blanks, class_test};
@@ -54,7 +54,7 @@ fn is_in(class: Class, byte: u8) -> bool
     }
 }
 
-/// How many bytes at the front are of the class.
+/// The number of bytes at the beginning that are of the class.
 #[inline]
 pub(crate) fn run_len(text: &str, class: Class) -> usize
     ensures len { result ≡ prefix_len (class_test class) text.now }
@@ -66,10 +66,10 @@ pub(crate) fn run_len(text: &str, class: Class) -> usize
         .count()
 }
 
-/// The longest front whose bytes are of the class, and the rest.
+/// The longest prefix whose bytes are of the class, and the rest.
 #[inline]
 pub(crate) fn split_run(text: &str, class: Class) -> (&str, &str)
-    ensures front { result.0.now ≡ take (prefix_len (class_test class) text.now) text.now }
+    ensures prefix { result.0.now ≡ take (prefix_len (class_test class) text.now) text.now }
     ensures rest { result.1.now ≡ drop (prefix_len (class_test class) text.now) text.now }
     ensures lengths { length result.0.now + length result.1.now ≡ length text.now }
 {
@@ -99,7 +99,7 @@ pub(crate) fn cut(text: &str, count: usize) -> (&str, &str)
     requires some { 0 < count }
     requires there { 0 < slice_index text.now (count - 1) }
     requires ascii { slice_index text.now (count - 1) < 128 }
-    ensures front { result.0.now ≡ take count text.now }
+    ensures prefix { result.0.now ≡ take count text.now }
     ensures rest { result.1.now ≡ drop count text.now }
     ensures shorter { length result.1.now < length text.now }
 {

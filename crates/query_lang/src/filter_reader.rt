@@ -1,12 +1,12 @@
 //! The reading of a filter, token by token.
 //!
-//! A reader knows what may stand next, and what waits: the operands of the `and` and the `or` of
+//! A reader knows what is allowed next, and what is pending: the operands of the `and` and the `or` of
 //! each open parenthesis. It takes each token in constant time but for the growth of its lists, and
 //! its own stack does not grow with the text.
 ghost use Rattle.std.specs.Prelude.{◌≡◌, ◌+◌, ◌-◌, ◌<◌, ◌≤◌, length, [], take, drop, IfOk, OnOk, ℕ, true, Ok};
 ghost use Rattle.query_lang.specs.Refusals.{Takes, Gives};
 ghost use Rattle.query_lang.specs.Seen.{seen_kind};
-ghost use Rattle.query_lang.specs.FilterReading.{seen, start, kept, negated_times, joined, joined_height, level_above, put, atom, join_all, segment_of, value_of, segment_at, item_at, opened, on_operand, on_exists, on_path, on_value, on_list, on_first_item, on_after_item, on_joint, closed, step, ended, judged, filter_rules, without_pending, may_stand_behind};
+ghost use Rattle.query_lang.specs.FilterReading.{seen, start, kept, negated_times, joined, joined_height, level_above, put, atom, join_all, segment_of, value_of, segment_at, item_at, opened, on_operand, on_exists, on_path, on_value, on_list, on_first_item, on_after_item, on_joint, closed, step, ended, judged, filter_rules, without_pending, is_allowed_after};
 ghost use Rattle.query_core.specs.Filters.{constant, listed};
 ghost use Rattle.query_core.specs.Shape.{filter_of};
 
@@ -24,7 +24,7 @@ use std::mem;
 /// For what a path is read.
 #[derive(Clone, Copy, Debug, PartialEq, Eq)]
 pub(crate) enum PathUse {
-    /// Behind `exists`.
+    /// After `exists`.
     Exists,
     /// Before a comparison, `in` or `has`.
     Tested,
@@ -32,40 +32,40 @@ pub(crate) enum PathUse {
 
 /// What is asked of the value at a path by the one value that follows.
 #[derive(Clone, Copy, Debug, PartialEq, Eq)]
-pub(crate) enum Asked {
+pub(crate) enum ValueTest {
     Compare(Op),
     Has,
 }
 
-/// What was read of an atom, and so what may stand next.
+/// What was read of an atom, and so what is allowed next.
 #[derive(Drop)]
 pub(crate) enum Pending {
     /// An operand must come.
     Operand,
-    /// The first segment of a path must come, behind `exists`.
+    /// The first segment of a path must come, after `exists`.
     ExistsSegment,
-    /// A segment must come, behind a dot.
+    /// A segment must come, after a dot.
     Segment { used: PathUse, path: Segments },
     /// A segment was read.
     Path { used: PathUse, path: Segments },
     /// A value must come.
-    Value { path: Segments, asked: Asked },
-    /// `[` must come, behind `in`.
+    Value { path: Segments, asked: ValueTest },
+    /// `[` must come, after `in`.
     List { path: Segments },
-    /// A value or `]` must come, behind `[`.
+    /// A value or `]` must come, after `[`.
     FirstItem { path: Segments },
-    /// A value must come, behind a comma.
+    /// A value must come, after a comma.
     Item { path: Segments, values: Values },
-    /// `,` or `]` must come, behind a value.
+    /// `,` or `]` must come, after a value.
     AfterItem { path: Segments, values: Values },
     /// An operand is whole: `and`, `or`, `)` or the end may come.
     Joint,
 }
 
-/// What waits at one level of parentheses. The operands themselves stand on the reader's stack.
+/// What is pending at one level of parentheses. The operands themselves are on the reader's stack.
 #[derive(Clone, Copy)]
 pub(crate) struct Level {
-    /// How many `not` stand before the next operand.
+    /// The number of `not` before the next operand.
     pub(crate) nots: usize,
     /// Where on the stack the operands of the open `or` begin, and their greatest height.
     pub(crate) any_from: usize,
@@ -76,7 +76,7 @@ pub(crate) struct Level {
 }
 
 impl Level {
-    /// A level at which nothing waits, above so many operands.
+    /// A level at which nothing is pending, above `from` operands.
     fn above(from: usize) -> Level
         ensures { result ≡ level_above from }
     {
@@ -97,7 +97,7 @@ pub(crate) struct FilterReader {
     pub(crate) pending: Pending,
     /// The atoms and listed values so far.
     pub(crate) leaves: usize,
-    /// The operands that wait, those of outer levels first.
+    /// The pending operands, those of outer levels first.
     pub(crate) operands: Vec<Filter>,
     /// The innermost level.
     pub(crate) level: Level,
@@ -178,7 +178,7 @@ impl FilterReader {
         Ok(())
     }
 
-    /// An atom with so many listed values is whole.
+    /// An atom with this number of listed values is complete.
     fn atom(&mut self, form: Form, values: usize) -> Result<(), Cause>
         ensures { Takes (λ _. seen self.new) result (Ok (atom (filter_of form) values (seen self.old))) }
     {
@@ -213,7 +213,7 @@ impl FilterReader {
         Ok(())
     }
 
-    /// Where a segment must come behind a dot.
+    /// Where a segment must come after a dot.
     #[tactic(auto, unfolding(crate::specs::FilterReading::segment_at))]
     fn on_segment(
         &mut self,
@@ -234,7 +234,7 @@ impl FilterReader {
         Ok(())
     }
 
-    /// Behind a segment after `exists`.
+    /// After a segment after `exists`.
     #[tactic(auto, unfolding(crate::specs::FilterReading::on_exists))]
     fn on_exists(&mut self, path: Segments, token: TokenKind<'_>) -> Result<(), Cause>
         ensures { Takes (λ _. seen self.new) result (on_exists (seen self.old) path (seen_kind token.entry)) }
@@ -251,7 +251,7 @@ impl FilterReader {
         self.on_joint(token)
     }
 
-    /// Behind another segment.
+    /// After another segment.
     #[tactic(auto, unfolding(crate::specs::FilterReading::on_path))]
     fn on_path(&mut self, path: Segments, token: TokenKind<'_>) -> Result<(), Cause>
         ensures { Takes (λ _. seen self.new) result (on_path (seen self.old) path (seen_kind token.entry)) }
@@ -263,11 +263,11 @@ impl FilterReader {
             },
             TokenKind::Sign(Sign::Compare(op)) => Pending::Value {
                 path,
-                asked: Asked::Compare(op),
+                asked: ValueTest::Compare(op),
             },
             TokenKind::Word(Reserved::Has) => Pending::Value {
                 path,
-                asked: Asked::Has,
+                asked: ValueTest::Has,
             },
             TokenKind::Word(Reserved::In) => Pending::List { path },
             _ => return Err(Cause::Syntax),
@@ -277,14 +277,19 @@ impl FilterReader {
 
     /// Where the one value of a test must come.
     #[tactic(auto, unfolding(crate::specs::FilterReading::on_value))]
-    fn on_value(&mut self, path: Segments, asked: Asked, token: TokenKind<'_>) -> Result<(), Cause>
+    fn on_value(
+        &mut self,
+        path: Segments,
+        asked: ValueTest,
+        token: TokenKind<'_>,
+    ) -> Result<(), Cause>
         ensures { Takes (λ _. seen self.new) result (on_value (seen self.old) path asked (value_of (seen_kind token.entry))) }
     {
         let value = value_of(self.alloc, token)?;
         let path = path.into_path();
         match asked {
-            Asked::Compare(op) => self.atom(Form::Compare { path, op, value }, 0),
-            Asked::Has => self.atom(Form::Has { path, value }, 0),
+            ValueTest::Compare(op) => self.atom(Form::Compare { path, op, value }, 0),
+            ValueTest::Has => self.atom(Form::Has { path, value }, 0),
         }
     }
 
@@ -300,7 +305,7 @@ impl FilterReader {
         Ok(())
     }
 
-    /// Behind `[`.
+    /// After `[`.
     #[tactic(auto, unfolding(crate::specs::FilterReading::on_first_item))]
     fn on_first_item(&mut self, path: Segments, token: TokenKind<'_>) -> Result<(), Cause>
         ensures { Takes (λ _. seen self.new) result (on_first_item (seen self.old) path (seen_kind token.entry)) }
@@ -323,7 +328,7 @@ impl FilterReader {
         Ok(())
     }
 
-    /// Behind a value of a list.
+    /// After a value of a list.
     #[tactic(auto, unfolding(crate::specs::FilterReading::on_after_item))]
     fn on_after_item(
         &mut self,
@@ -410,9 +415,9 @@ impl FilterReader {
         self.put(operand, height)
     }
 
-    /// Whether a token of this kind may stand next.
-    pub(crate) fn may_stand(&self, what: Beginning) -> bool
-        ensures { result ≡ may_stand_behind (seen self.now).pending what }
+    /// Whether a token of this kind is allowed next.
+    pub(crate) fn is_allowed(&self, what: Beginning) -> bool
+        ensures { result ≡ is_allowed_after (seen self.now).pending what }
     {
         match &self.pending {
             Pending::Operand => what.is_text(),

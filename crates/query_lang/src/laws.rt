@@ -17,8 +17,8 @@ pub fn filters_are_read_by_the_grammar()
     ensures { (bytes : List ℕ) (filter : Filter) → IsFilterText bytes filter → read_filter bytes ≡ decided filter }
 {}
 
-/// The limits of whole filters are told of filters of the grammar alone.
-pub fn limits_are_told_of_filters()
+/// The limits of whole filters are reported of filters of the grammar alone.
+pub fn limits_are_reported_of_filters()
     ensures { (bytes : List ℕ) → IsWhole (read_filter bytes) → (filter : Filter) × IsFilterText bytes filter × (read_filter bytes ≡ decided filter) }
 {}
 

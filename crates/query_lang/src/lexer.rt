@@ -6,7 +6,7 @@ ghost use Rattle.query_lang.specs.Lexing.{lexeme, lexeme_at, word_token, reserve
 ghost use Rattle.query_lang.specs.Seen.{seen_lexeme, seen_kind, Shortens};
 
 use crate::bytes::{Class, after_blanks, byte_at, cut, first, is_letter, run_len, skip, split_run};
-use crate::quoted::{Scan, find_end};
+use crate::quoted::{QuotedScan, find_end};
 use crate::token::{Beginning, Lexeme, Reserved, Sign, Token, TokenKind};
 use query_core::Op;
 
@@ -112,7 +112,7 @@ fn minus_len(text: &str) -> usize
     if first(text) == b'-' { 1 } else { 0 }
 }
 
-/// The text without a `-` at its front.
+/// The text without a `-` at its beginning.
 fn after_minus(text: &str) -> &str
     ensures { result.now ≡ drop (minus_len text.now) text.now }
 {
@@ -144,7 +144,7 @@ fn quoted(from: &str) -> Lexeme<'_>
     ensures shorter { Shortens result from.now }
 {
     match find_end(skip(from, 1)) {
-        Scan::Closed { body } => {
+        QuotedScan::Closed { body } => {
             let (span, rest) = cut(from, body.len() + 2);
             Lexeme::Found(Token {
                 kind: TokenKind::Quoted(body),
@@ -153,11 +153,11 @@ fn quoted(from: &str) -> Lexeme<'_>
                 rest,
             })
         }
-        Scan::Open => Lexeme::Unfinished {
+        QuotedScan::Open => Lexeme::Unfinished {
             what: Beginning::Text,
             left: from.len(),
         },
-        Scan::Bad { at } => Lexeme::BadText {
+        QuotedScan::Bad { at } => Lexeme::BadText {
             left: from.len(),
             left_there: at.len(),
         },

@@ -16,8 +16,8 @@ pub(crate) enum Join {
     Or,
 }
 
-/// The operands from a place of the stack on, of this greatest height, joined, with the height of
-/// that. One operand stands for itself.
+/// The operands from an index of the stack on, of this greatest height, joined, with the height of
+/// the result. One operand is the result itself.
 pub(crate) fn joined(
     operands: &mut Vec<Filter>,
     how: Join,
@@ -44,7 +44,7 @@ pub(crate) fn joined(
     Ok((Filter { form }, height))
 }
 
-/// So many negations of a filter, of which `height` is the height with these, where it is within the limit.
+/// A filter negated `nots` times, where its height with these, `height`, is within the limit.
 pub(crate) fn negated(
     alloc: Global,
     filter: Filter,
@@ -65,7 +65,7 @@ pub(crate) fn negated(
     Ok(filter)
 }
 
-/// What stands in the place of a filter that will be refused.
+/// What is built instead of a filter that will be refused.
 fn constant() -> Filter
     ensures { result ≡ constant true }
 {

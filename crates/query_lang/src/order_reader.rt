@@ -3,7 +3,7 @@ ghost use Rattle.std.specs.Prelude.{◌≡◌, ◌+◌, ◌-◌, ◌<◌, ◌≤
 ghost use Rattle.query_lang.specs.Refusals.{Takes, Gives};
 ghost use Rattle.query_lang.specs.Seen.{seen_kind};
 ghost use Rattle.query_lang.specs.FilterReading.{segment_of};
-ghost use Rattle.query_lang.specs.OrderReading.{seen, start, on_item, on_segment, on_path, step, with_path, may_stand_behind, ended, order_rules, without_pending};
+ghost use Rattle.query_lang.specs.OrderReading.{seen, start, on_item, on_segment, on_path, step, with_path, is_allowed_after, ended, order_rules, without_pending};
 
 use crate::limits::MAX_PATHS;
 use crate::parts::segment_text;
@@ -15,14 +15,14 @@ use query_core::Order;
 use std::alloc::Global;
 use std::mem;
 
-/// What was read of a path, and so what may stand next.
+/// What was read of a path, and so what is allowed next.
 #[derive(Drop)]
 pub(crate) enum OrderPending {
     /// A path or the end may come.
     Start,
-    /// A path must come, behind a comma.
+    /// A path must come, after a comma.
     Item,
-    /// A segment must come, behind a dot.
+    /// A segment must come, after a dot.
     Segment { path: Segments },
     /// A segment was read.
     Path { path: Segments },
@@ -86,7 +86,7 @@ impl OrderReader {
         Ok(())
     }
 
-    /// Where a segment must come behind a dot.
+    /// Where a segment must come after a dot.
     #[tactic(auto, unfolding(crate::specs::OrderReading::on_segment))]
     fn on_segment(&mut self, path: Segments, token: TokenKind<'_>) -> Result<(), Cause>
         ensures { Takes (λ _. seen self.new) result (on_segment (seen self.old) path (segment_of (seen_kind token.entry))) }
@@ -102,7 +102,7 @@ impl OrderReader {
         Ok(())
     }
 
-    /// Behind a segment.
+    /// After a segment.
     #[tactic(auto, unfolding(crate::specs::OrderReading::on_path))]
     fn on_path(&mut self, path: Segments, token: TokenKind<'_>) -> Result<(), Cause>
         ensures { Takes (λ _. seen self.new) result (on_path (seen self.old) path (seen_kind token.entry)) }
@@ -119,7 +119,7 @@ impl OrderReader {
         }
     }
 
-    /// A path is whole, behind which this may stand.
+    /// A path is whole, after which this is allowed.
     fn add(&mut self, path: Segments, descending: bool, pending: OrderPending) -> Result<(), Cause>
         ensures { Takes (λ _. seen self.new) result (Ok (with_path path descending pending (seen self.old))) }
     {
@@ -128,9 +128,9 @@ impl OrderReader {
         Ok(())
     }
 
-    /// Whether a token of this kind may stand next.
-    pub(crate) fn may_stand(&self, what: Beginning) -> bool
-        ensures { result ≡ may_stand_behind (length (seen self.now).paths) (seen self.now).pending what }
+    /// Whether a token of this kind is allowed next.
+    pub(crate) fn is_allowed(&self, what: Beginning) -> bool
+        ensures { result ≡ is_allowed_after (length (seen self.now).paths) (seen self.now).pending what }
     {
         match &self.pending {
             OrderPending::Start => what.is_text() && self.paths.len() < MAX_PATHS,

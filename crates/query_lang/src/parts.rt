@@ -37,9 +37,9 @@ pub(crate) fn segment_text(alloc: Global, token: TokenKind<'_>) -> Result<Option
     }
 }
 
-/// A copy of a text.
+/// A clone of a text.
 fn text_of(alloc: Global, text: &str) -> Result<Text, AllocError>
-    ensures { IfOk result (λ copy. copy ≡ text.now) }
+    ensures { IfOk result (λ cloned. cloned ≡ text.now) }
 {
     let bytes = text.as_bytes();
     Ok(Text::of(Vec::from_slice(alloc, bytes)?))

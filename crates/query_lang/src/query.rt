@@ -25,9 +25,9 @@ pub struct Fields<'a> {
     pub f: Option<&'a str>,
     /// The paths of the order.
     pub o: Option<&'a str>,
-    /// How many of the first rows are left out.
+    /// The number of first rows that are left out.
     pub s: Option<&'a str>,
-    /// How many rows are kept.
+    /// The greatest number of rows that are kept.
     pub n: Option<&'a str>,
     /// What is shown of the rows.
     pub k: Option<&'a str>,
@@ -47,7 +47,7 @@ pub fn read_query(
     // Such a query is read, unless memory runs out.
     ensures only { (query : Query) (kind : Kind) → IsQueryText collection fields.now query kind → Gives (λ read. read) result (Ok (query, kind)) }
 
-    // Which refusal it is, and its place.
+    // Which refusal it is, and its offset.
     ensures exact { Gives (λ read. read) result (read_query collection fields.now) }
 {
     read_fields(alloc, collection, fields)

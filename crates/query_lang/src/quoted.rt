@@ -1,14 +1,14 @@
-//! Texts in quotes: where one ends, and which text it stands for.
+//! Texts in quotes: where one ends, and the text that it decodes to.
 ghost use Rattle.std.specs.Prelude.{◌≡◌, ◌+◌, ◌<◌, ◌≤◌, length, IfOk, IfSome};
 ghost use Rattle.query_lang.specs.Quoted.{escape, escape_code, escape_second, escape_high, escape_low, scan, seen_escape, seen_scan, unescaped, unescaped_byte};
 
 use q_doc::Text;
 use std::alloc::{AllocError, Global};
 
-/// What stands behind a backslash.
+/// What comes after a backslash.
 #[derive(Clone, Copy)]
 pub(crate) enum Escape {
-    /// An escape of so many bytes behind the backslash, which stands for this byte.
+    /// An escape of `length` bytes after the backslash, which decodes to this byte.
     Byte { byte: u8, length: usize },
     /// The text ends inside an escape.
     Cut,
@@ -35,7 +35,7 @@ pub(crate) fn read_escape(bytes: &[u8]) -> Escape
     }
 }
 
-/// The escape behind `\u`: the first of four digits.
+/// The escape after `\u`: the first of four digits.
 fn escape_code(bytes: &[u8]) -> Escape
     ensures { seen_escape result ≡ escape_code bytes.now }
 {
@@ -49,7 +49,7 @@ fn escape_code(bytes: &[u8]) -> Escape
     }
 }
 
-/// The escape behind `\u0`.
+/// The escape after `\u0`.
 fn escape_second(bytes: &[u8]) -> Escape
     ensures { seen_escape result ≡ escape_second bytes.now }
 {
@@ -63,7 +63,7 @@ fn escape_second(bytes: &[u8]) -> Escape
     }
 }
 
-/// The escape behind `\u00`.
+/// The escape after `\u00`.
 fn escape_high(bytes: &[u8]) -> Escape
     ensures { seen_escape result ≡ escape_high bytes.now }
 {
@@ -102,18 +102,18 @@ fn escape_low(high: u8, bytes: &[u8]) -> Escape
     }
 }
 
-/// How a text in quotes goes on behind its first quote.
-pub(crate) enum Scan<'a> {
+/// How a text in quotes continues after its first quote.
+pub(crate) enum QuotedScan<'a> {
     /// The bytes up to the last quote.
     Closed { body: &'a str },
     /// The text ends before a quote.
     Open,
-    /// It cannot go on from here: a raw control character, or a backslash that begins no escape.
+    /// It cannot continue from here: a raw control character, or a backslash that begins no escape.
     Bad { at: &'a str },
 }
 
 /// Finds the end of a text in quotes, of which `text` is what follows the first quote.
-pub(crate) fn find_end(text: &str) -> Scan<'_>
+pub(crate) fn find_end(text: &str) -> QuotedScan<'_>
     ensures { seen_scan result ≡ scan 0 text.now }
 {
     let bytes = text.as_bytes();
@@ -123,23 +123,23 @@ pub(crate) fn find_end(text: &str) -> Scan<'_>
         if inside > 0 {
             inside -= 1;
         } else if byte == b'"' {
-            return Scan::Closed {
+            return QuotedScan::Closed {
                 body: &text[..index],
             };
         } else if byte == b'\\' {
             match read_escape(&bytes[index + 1..]) {
                 Escape::Byte { byte: _, length } => inside = length,
-                Escape::Cut => return Scan::Open,
-                Escape::Wrong => return Scan::Bad { at: &text[index..] },
+                Escape::Cut => return QuotedScan::Open,
+                Escape::Wrong => return QuotedScan::Bad { at: &text[index..] },
             }
         } else if byte < 32 {
-            return Scan::Bad { at: &text[index..] };
+            return QuotedScan::Bad { at: &text[index..] };
         }
     }
-    Scan::Open
+    QuotedScan::Open
 }
 
-/// The text that the bytes between quotes stand for.
+/// The text that the bytes between quotes decode to.
 pub(crate) fn unescape(alloc: Global, body: &str) -> Result<Text, AllocError>
     ensures { IfOk result (λ text. text ≡ unescaped 0 body.now) }
 {
@@ -158,7 +158,7 @@ pub(crate) fn unescape(alloc: Global, body: &str) -> Result<Text, AllocError>
     Ok(Text::of(out))
 }
 
-/// The byte for which a byte stands, before these others, and how many of those belong to it.
+/// The byte that a byte decodes to, before these others, and how many of those belong to it.
 fn unescaped_byte(byte: u8, rest: &[u8]) -> (u8, usize)
     ensures { result ≡ unescaped_byte byte rest.now }
 {

@@ -30,12 +30,12 @@ pub(crate) fn read_filter(alloc: Global, text: &str) -> Result<Filter, QueryRefu
             }
             Lexeme::End => return reader.finish(total),
             Lexeme::Unfinished { what, left } => {
-                let place = place_of(total, reader.may_stand(what), 0, left);
+                let place = place_of(total, reader.is_allowed(what), 0, left);
                 return Err(QueryRefusal::Syntax { field, place });
             }
             Lexeme::BadText { left, left_there } => {
-                let stands = reader.may_stand(Beginning::Text);
-                let place = place_of(total, stands, left_there, left);
+                let allowed = reader.is_allowed(Beginning::Text);
+                let place = place_of(total, allowed, left_there, left);
                 return Err(QueryRefusal::Syntax { field, place });
             }
             Lexeme::Unknown { left } => {
@@ -64,12 +64,12 @@ pub(crate) fn read_order(alloc: Global, text: &str) -> Result<Order, QueryRefusa
             }
             Lexeme::End => return reader.finish(total),
             Lexeme::Unfinished { what, left } => {
-                let place = place_of(total, reader.may_stand(what), 0, left);
+                let place = place_of(total, reader.is_allowed(what), 0, left);
                 return Err(QueryRefusal::Syntax { field, place });
             }
             Lexeme::BadText { left, left_there } => {
-                let stands = reader.may_stand(Beginning::Text);
-                let place = place_of(total, stands, left_there, left);
+                let allowed = reader.is_allowed(Beginning::Text);
+                let place = place_of(total, allowed, left_there, left);
                 return Err(QueryRefusal::Syntax { field, place });
             }
             Lexeme::Unknown { left } => {
@@ -80,10 +80,10 @@ pub(crate) fn read_order(alloc: Global, text: &str) -> Result<Order, QueryRefusa
     }
 }
 
-/// The place in a text of `total` bytes with so many bytes left: `there` where a token may stand, and
-/// else where it begins.
-fn place_of(total: usize, stands: bool, there: usize, begin: usize) -> usize
-    ensures { result ≡ total - (if stands then there else begin) }
+/// The offset in a text of `total` bytes, given the number of bytes from there to the end: `there`
+/// where the token is allowed, and else that of its beginning.
+fn place_of(total: usize, allowed: bool, there: usize, begin: usize) -> usize
+    ensures { result ≡ total - (if allowed then there else begin) }
 {
-    total.saturating_sub(if stands { there } else { begin })
+    total.saturating_sub(if allowed { there } else { begin })
 }

@@ -12,7 +12,7 @@ pub enum QueryRefusal {
     /// The text is not in the grammar.
     Syntax {
         field: u8,
-        /// The byte where that begins which may not stand there, or the text's length.
+        /// The offset where that begins which is not allowed there, or the text's length.
         place: usize,
     },
     /// A number has leading zeros, is `-0`, does not fit 64 bits, or is outside its field's limits.
@@ -118,7 +118,7 @@ impl From<AllocError> for QueryRefusal {
     }
 }
 
-/// Why a token does not go on what stands before it.
+/// Why a token does not go on what is before it.
 #[derive(Clone, Copy, Debug, PartialEq, Eq)]
 pub(crate) enum Cause {
     Syntax,
@@ -129,7 +129,7 @@ pub(crate) enum Cause {
 }
 
 impl Cause {
-    /// The refusal of a field for this cause at a place.
+    /// The refusal of a field for this cause at an offset.
     pub(crate) fn at(self, field: u8, place: usize) -> QueryRefusal
         ensures { result ≡ refused field place self }
     {

@@ -33,7 +33,7 @@ fn refusal_of_filter(alloc: Global, text: &str) -> Result<Option<QueryRefusal>, 
     Ok(read(alloc, &fields)?.err())
 }
 
-/// A text so many times, and then another.
+/// A text this number of times, and then another.
 fn repeated(alloc: Global, text: &str, count: usize, last: &str) -> Result<String, Fail> {
     let mut out = String::new(alloc);
     for _ in 0..count {

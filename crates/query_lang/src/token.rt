@@ -55,7 +55,7 @@ pub enum TokenKind<'a> {
     Sign(Sign),
 }
 
-/// A token with its span, the slice of the text that it was read from, and the text behind it.
+/// A token with its span, the slice of the text that it was read from, and the text after it.
 #[derive(Clone, Copy)]
 pub struct Token<'a> {
     pub kind: TokenKind<'a>,
@@ -70,9 +70,9 @@ pub struct Token<'a> {
 pub enum Beginning {
     /// A text in quotes.
     Text,
-    /// A number, behind its `-`.
+    /// A number, after its `-`.
     Number,
-    /// The sign `!=`, behind its `!`.
+    /// The sign `!=`, after its `!`.
     Unequal,
 }
 
@@ -94,7 +94,8 @@ impl Beginning {
     }
 }
 
-/// What comes next in a text, past blanks. Of a place the number of bytes from there to the end is told.
+/// What comes next in a text, past blanks. An offset is given as the number of bytes from there to
+/// the end.
 #[derive(Clone, Copy)]
 pub enum Lexeme<'a> {
     /// Nothing.
@@ -103,7 +104,7 @@ pub enum Lexeme<'a> {
     Found(Token<'a>),
     /// The beginning of a token, inside which the text ends.
     Unfinished { what: Beginning, left: usize },
-    /// The beginning of a text in quotes that cannot go on at a byte: a raw control character, or a
+    /// The beginning of a text in quotes that cannot continue at a byte: a raw control character, or a
     /// backslash that begins no escape.
     BadText { left: usize, left_there: usize },
     /// Bytes with which no token begins.

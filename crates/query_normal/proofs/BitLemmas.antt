@@ -20,60 +20,60 @@ unfolding flat_bits
 get_or-flat_bits bytes j d within = get_or-map-range_with_len (is_bit_set bytes) 0 (8 * length bytes) j j d within (omega arith)
 
 -- one bit of one byte was written
-pub record WritesBit (before after place : ℕ) (value : Bool) : Type 0 where
-  pub same : (bit_at after place == 1) ≡ value
-  pub others : (i : ℕ) → i < 8 → i ≢ place → bit_at after i ≡ bit_at before i
+pub record WritesBit (before after index : ℕ) (value : Bool) : Type 0 where
+  pub same : (bit_at after index == 1) ≡ value
+  pub others : (i : ℕ) → i < 8 → i ≢ index → bit_at after i ≡ bit_at before i
 
 -- the bit that was written
-is_bit_set-written_same : (bytes : List ℕ) (place new : ℕ) (value : Bool) → place / 8 < length bytes →
-    WritesBit (get_or bytes (place / 8) 0) new (place % 8) value → is_bit_set (set bytes (place / 8) new) place ≡ value
-is_bit_set-written_same bytes place new value within written =
-    ap (λ n. bit_at n (place % 8) == 1) (get_or-set_same bytes (place / 8) new 0 within) ∙ written.same
+is_bit_set-written_same : (bytes : List ℕ) (index new : ℕ) (value : Bool) → index / 8 < length bytes →
+    WritesBit (get_or bytes (index / 8) 0) new (index % 8) value → is_bit_set (set bytes (index / 8) new) index ≡ value
+is_bit_set-written_same bytes index new value within written =
+    ap (λ n. bit_at n (index % 8) == 1) (get_or-set_same bytes (index / 8) new 0 within) ∙ written.same
 
 -- every other bit
-is_bit_set-written_other : (bytes : List ℕ) (place new : ℕ) (value : Bool) → place / 8 < length bytes →
-    WritesBit (get_or bytes (place / 8) 0) new (place % 8) value → (j : ℕ) → j ≢ place → is_bit_set (set bytes (place / 8) new) j ≡ is_bit_set bytes j
-is_bit_set-written_other bytes place new value within written j other =
-    elim (cases_eq (j / 8) (place / 8)) [
+is_bit_set-written_other : (bytes : List ℕ) (index new : ℕ) (value : Bool) → index / 8 < length bytes →
+    WritesBit (get_or bytes (index / 8) 0) new (index % 8) value → (j : ℕ) → j ≢ index → is_bit_set (set bytes (index / 8) new) j ≡ is_bit_set bytes j
+is_bit_set-written_other bytes index new value within written j other =
+    elim (cases_eq (j / 8) (index / 8)) [
       | inl here ↦ (
-          let far : j % 8 ≢ place % 8 = omega arith in
-          ap (λ n. bit_at (get_or (set bytes (place / 8) new) n 0) (j % 8) == 1) here
-          ∙ ap (λ n. bit_at n (j % 8) == 1) (get_or-set_same bytes (place / 8) new 0 within)
+          let far : j % 8 ≢ index % 8 = omega arith in
+          ap (λ n. bit_at (get_or (set bytes (index / 8) new) n 0) (j % 8) == 1) here
+          ∙ ap (λ n. bit_at n (j % 8) == 1) (get_or-set_same bytes (index / 8) new 0 within)
           ∙ ap (λ n. n == 1) (written.others (j % 8) (omega arith) far)
           ∙ ap (λ n. bit_at (get_or bytes n 0) (j % 8) == 1) (sym here))
-      | inr far ↦ ap (λ n. bit_at n (j % 8) == 1) (get_or-set_other bytes (place / 8) (j / 8) new 0 far)
+      | inr far ↦ ap (λ n. bit_at n (j % 8) == 1) (get_or-set_other bytes (index / 8) (j / 8) new 0 far)
     ]
 
--- a bit at any place
-is_bit_set-written : (bytes : List ℕ) (place new : ℕ) (value : Bool) → place / 8 < length bytes →
-    WritesBit (get_or bytes (place / 8) 0) new (place % 8) value → (j : ℕ) → j < 8 * length bytes →
-    is_bit_set (set bytes (place / 8) new) j ≡ get_or (set (flat_bits bytes) place value) j false
-is_bit_set-written bytes place new value within written j low =
+-- a bit at any index
+is_bit_set-written : (bytes : List ℕ) (index new : ℕ) (value : Bool) → index / 8 < length bytes →
+    WritesBit (get_or bytes (index / 8) 0) new (index % 8) value → (j : ℕ) → j < 8 * length bytes →
+    is_bit_set (set bytes (index / 8) new) j ≡ get_or (set (flat_bits bytes) index value) j false
+is_bit_set-written bytes index new value within written j low =
     let long = length-flat_bits bytes in
-    elim (cases_eq j place) [
+    elim (cases_eq j index) [
       | inl here ↦ (
-          ap (λ n. is_bit_set (set bytes (place / 8) new) n) here
-          ∙ is_bit_set-written_same bytes place new value within written
-          ∙ sym (get_or-set_same (flat_bits bytes) place value false (omega (arith, long)))
-          ∙ ap (λ n. get_or (set (flat_bits bytes) place value) n false) (sym here))
+          ap (λ n. is_bit_set (set bytes (index / 8) new) n) here
+          ∙ is_bit_set-written_same bytes index new value within written
+          ∙ sym (get_or-set_same (flat_bits bytes) index value false (omega (arith, long)))
+          ∙ ap (λ n. get_or (set (flat_bits bytes) index value) n false) (sym here))
       | inr other ↦ (
-          is_bit_set-written_other bytes place new value within written j other
+          is_bit_set-written_other bytes index new value within written j other
           ∙ sym (get_or-flat_bits bytes j false low)
-          ∙ sym (get_or-set_other (flat_bits bytes) place j value false other))
+          ∙ sym (get_or-set_other (flat_bits bytes) index j value false other))
     ]
 
 -- the bits after one was written
-pub flat_bits-written : (bytes : List ℕ) (place new : ℕ) (value : Bool) → place / 8 < length bytes →
-    WritesBit (get_or bytes (place / 8) 0) new (place % 8) value → flat_bits (set bytes (place / 8) new) ≡ set (flat_bits bytes) place value
-flat_bits-written bytes place new value within written =
-    ext_get_or false (flat_bits (set bytes (place / 8) new)) (set (flat_bits bytes) place value)
-    (length-flat_bits (set bytes (place / 8) new) ∙ ap (λ n. 8 * n) (length-set bytes (place / 8) new) ∙ sym (length-flat_bits bytes)
-    ∙ sym (length-set (flat_bits bytes) place value))
+pub flat_bits-written : (bytes : List ℕ) (index new : ℕ) (value : Bool) → index / 8 < length bytes →
+    WritesBit (get_or bytes (index / 8) 0) new (index % 8) value → flat_bits (set bytes (index / 8) new) ≡ set (flat_bits bytes) index value
+flat_bits-written bytes index new value within written =
+    ext_get_or false (flat_bits (set bytes (index / 8) new)) (set (flat_bits bytes) index value)
+    (length-flat_bits (set bytes (index / 8) new) ∙ ap (λ n. 8 * n) (length-set bytes (index / 8) new) ∙ sym (length-flat_bits bytes)
+    ∙ sym (length-set (flat_bits bytes) index value))
     (λ j low.
-    let size = length-flat_bits (set bytes (place / 8) new) in
-    let long = length-set bytes (place / 8) new in
-    get_or-flat_bits (set bytes (place / 8) new) j false (omega (arith, size))
-    ∙ is_bit_set-written bytes place new value within written j (omega (arith, size, long)))
+    let size = length-flat_bits (set bytes (index / 8) new) in
+    let long = length-set bytes (index / 8) new in
+    get_or-flat_bits (set bytes (index / 8) new) j false (omega (arith, size))
+    ∙ is_bit_set-written bytes index new value within written j (omega (arith, size, long)))
 
 -- `1 << k` in a byte
 pub shifted_one : (k : ℕ) → k < 8 → 1 * 2 ^ k % 2 ^ 8 ≡ 2 ^ k

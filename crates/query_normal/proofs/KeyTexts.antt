@@ -1,4 +1,4 @@
--- The text of a key tells the key.
+-- The text of a key determines the key.
 use Rattle.std.proofs.Common.{◌≡◌, ℕ, ◌≤◌, Bool, true, false, not, List, [], ◌∷◌, ◌++◌, length, Some, None, cond, nat_lt, inl, inr, refl, sym, ap, ap₂, append_assoc, ◌∙◌, arith, subst}
 use Rattle.std.specs.Prelude.{bytes_eq}
 use Rattle.std.specs.Bool.{Decides}
@@ -16,16 +16,16 @@ abbrev pub NoSlash : List ℕ → Type 0
 NoSlash [] = Unit {0}
 NoSlash (x ∷ xs) = (x ≡ 47 → ⊥) × NoSlash xs
 
--- a byte of names is no slash
+-- no byte of a name is a slash
 pub byte_no_slash : (x : ℕ) → is_name_byte x ≡ true → x ≡ 47 → ⊥
 byte_no_slash x h e = let slash : is_name_byte 47 ≡ true = subst (λ (b : ℕ). is_name_byte b ≡ true) e h in cc
 
--- where the first place is past the end, it is at the length
-pub first_none : (place len : ℕ) → cond (nat_lt place len) (Some place) None ≡ None → len ≤ place
-first_none place len h =
-    elim (cases_Bool (nat_lt place len)) [
-      | inl before ↦ absurd (let some : Some place ≡ None = sym (rw before) ∙ h in cc)
-      | inr past ↦ ltb-false place len past
+-- where no byte is found, the offset is the length
+pub first_none : (offset len : ℕ) → cond (nat_lt offset len) (Some offset) None ≡ None → len ≤ offset
+first_none offset len h =
+    elim (cases_Bool (nat_lt offset len)) [
+      | inl before ↦ absurd (let some : Some offset ≡ None = sym (rw before) ∙ h in cc)
+      | inr past ↦ ltb-false offset len past
     ]
 
 -- where no byte is bad, none is a slash

@@ -1,4 +1,4 @@
--- The bits of bytes: bit j is bit `j mod 8`, the least first, of byte `j / 8`.
+-- Internal. The bits of bytes: bit j is bit `j mod 8`, the least first, of byte `j / 8`.
 use Rattle.std.specs.Prelude.{ℕ, ◌*◌, ◌/◌, ◌%◌, ◌==◌, Bool, List, length, map, slice_index}
 use Rattle.std.specs.List.{range_with_len}
 use Rattle.std.specs.Int.{bit_at}

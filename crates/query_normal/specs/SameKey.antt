@@ -1,4 +1,4 @@
--- The test of equal keys tells equality. The `impl`s of `PartialEq`, `Eq` and `Hash` cite these.
+-- Internal. The test of equal keys is equality. The `impl`s of `PartialEq`, `Eq` and `Hash` cite these.
 use Rattle.std.specs.Prelude.{◌≡◌, Bool, true, false, ◌&&◌, bytes_eq}
 use Rattle.std.specs.Bool.{Decides}
 use Rattle.std.specs.Cmp.{IsEquivalence}
@@ -16,21 +16,21 @@ both true true d e = ((λ _. (d.0 refl, e.0 refl)), (λ _. refl))
 both true false d e = ((λ h. cc), (λ p. e.1 p.1))
 both false y d e = ((λ h. cc), (λ p. d.1 p.0))
 
--- a test of parts tells of the whole
-pub says : {P Q : Type 0} (x : Bool) → Decides x P → (P → Q) → (Q → P) → Decides x Q
-says x d to back = (λ h. to (d.0 h), λ q. d.1 (back q))
+-- a test of the parts is a test of the whole
+pub decides_whole : {P Q : Type 0} (x : Bool) → Decides x P → (P → Q) → (Q → P) → Decides x Q
+decides_whole x d to back = (λ h. to (d.0 h), λ q. d.1 (back q))
 
 -- `same_key` is equality
 pub same_key-Decides : (a b : KeyShape) → Decides (same_key a b) (a ≡ b)
 same_key-Decides (Record c i) (Record d j) =
-    says (bytes_eq c d && bytes_eq i j) (both (bytes_eq c d) (bytes_eq i j) (bytes_eq-Decides c d) (bytes_eq-Decides i j))
+    decides_whole (bytes_eq c d && bytes_eq i j) (both (bytes_eq c d) (bytes_eq i j) (bytes_eq-Decides c d) (bytes_eq-Decides i j))
     (λ e. ap₂ Record e.0 e.1) (λ e. (let h : c ≡ d = cc in h, let h : i ≡ j = cc in h))
 
--- a test that tells equality answers alike both ways
+-- a test of equality is symmetric
 same_back : {X : Type 0} (eq : X → X → Bool) → ((x y : X) → Decides (eq x y) (x ≡ y)) → (x y : X) → eq x y ≡ true → eq y x ≡ true
 same_back eq d x y h = (d y x).1 (sym ((d x y).0 h))
 
--- a test that tells equality is an equivalence
+-- a test of equality is an equivalence
 equiv_from_decides : {X : Type 0} (eq : X → X → Bool) → ((x y : X) → Decides (eq x y) (x ≡ y)) → IsEquivalence eq
 equiv_from_decides eq d = record {
   refl = λ x. (d x x).1 refl;

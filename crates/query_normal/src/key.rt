@@ -9,7 +9,7 @@ use std::hash::{Hash, Hasher};
 use std::marker::Model;
 use std::sync::Arc;
 
-/// What a key stands for.
+/// What a key names.
 #[derive(Debug, Drop)]
 pub enum KeyShape {
     /// One record of a collection.
@@ -21,7 +21,7 @@ pub enum KeyShape {
     },
 }
 
-/// What all copies of a key share.
+/// What all clones of a key share.
 #[derive(Debug, Drop)]
 struct Shared {
     shape: KeyShape,
@@ -41,9 +41,9 @@ impl Model for Shared {
     ghost invariant = { λ s. record { text : s.text.items ≡ key_text s.shape; valid : IsKey s.shape } };
 }
 
-/// A key, which keeps its text. Contracts see its shape: keys are compared by their shapes, those of
-/// records by their texts, which tell their names, and hashed by their texts. A copy shares what the
-/// key keeps, so that it takes no memory.
+/// A key, which keeps its text. Contracts see its shape. Two keys are equal where their shapes are;
+/// those of records are compared by their texts, which determine their names. Keys are hashed by
+/// their texts. A clone shares what the key keeps, so that it takes no memory.
 #[derive(Debug, Drop)]
 pub struct Key {
     shared: Arc<Shared>,
@@ -70,7 +70,7 @@ impl Shared {
         self.text.as_slice()
     }
 
-    /// What the key stands for.
+    /// What the key names.
     fn shape(&self) -> &KeyShape
         ensures { result.now ≡ self.now }
     {
@@ -99,7 +99,7 @@ impl Key {
         self.shared.text()
     }
 
-    /// What the key stands for.
+    /// What the key names.
     pub fn shape(&self) -> &KeyShape
         ensures { result.now ≡ self.now }
     {
@@ -180,7 +180,7 @@ impl PartialEq for Key {
 
     fn eq(&self, other: &Key) -> bool {
         match (self.shape(), other.shape()) {
-            // The texts of two keys of records are one comparison, and tell their names.
+            // The texts of two keys of records determine their names.
             (KeyShape::Record { .. }, KeyShape::Record { .. }) => self.text() == other.text(),
         }
     }

@@ -9,7 +9,7 @@ pub fn keys_are_equal_where_their_texts_are()
     ensures { (a b : AKey) → IsKey a → IsKey b → (a ≡ b) ↔ (key_text a ≡ key_text b) }
 {}
 
-/// The test that two keys are equal tells whether they are.
+/// `same_key` is true exactly of equal keys.
 pub fn same_key_is_equality()
     ensures { (a b : AKey) → Decides (same_key a b) (a ≡ b) }
 {}

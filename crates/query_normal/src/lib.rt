@@ -1,4 +1,5 @@
-//! Keys, which name what a client may read and keep, and the page that says which copies are outdated.
+//! Keys, which name what a client may read and keep, and the page that shows which issued copies are
+//! outdated.
 #![tactic(auto)]
 
 pub mod bits;

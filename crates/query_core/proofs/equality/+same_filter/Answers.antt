@@ -3,7 +3,7 @@ use Rattle.query_core.specs.Filters.{height}
 use Rattle.query_core.proofs.FilterLemmas.{operand_height, same_operands_end}
 use Rattle.query_core.proofs.equality.+same_filter.Goals as goal
 
--- an operand is less high than the filter
+-- an operand has a smaller height than the filter
 pub same_operands-same_filter-requires : goal.same_operands-same_filter-requires
 same_operands-same_filter-requires t c =
     (omega (arith, ap height c.index-xs-i.is, operand_height c.args.xs.now c.loop-i.i c.index-xs-i.result (omega arith)), tt)

@@ -3,7 +3,7 @@ use Rattle.query_core.specs.Filters.{height}
 use Rattle.query_core.proofs.FilterLemmas.{operand_height}
 use Rattle.query_core.proofs.meaning.+satisfies.Goals as goal
 
--- an operand is less high than the filter
+-- an operand has a smaller height than the filter
 pub satisfies_every-satisfies-requires : goal.satisfies_every-satisfies-requires
 satisfies_every-satisfies-requires t c =
     (omega (arith, ap height c.operand-item.is, operand_height c.args.operands.now c.loop-operand.operand-index c.operand-item.result (omega arith)), tt)

@@ -3,7 +3,7 @@ use Rattle.query_core.specs.Filters.{height, operands_height, operands_of}
 use Rattle.query_core.proofs.FilterLemmas.{operand_height}
 use Rattle.query_core.proofs.print.+write_filter.Goals as goal
 
--- an operand is less high than the filter
+-- an operand has a smaller height than the filter
 pub write_every-write_operand-requires-in-loop-operand :
     goal.write_every-write_operand-requires-in-loop-operand
 write_every-write_operand-requires-in-loop-operand t c = (

@@ -7,7 +7,7 @@ use Rattle.query_core.proofs.CandidateLemmas.{filter-take_yes, filter-take_no}
 use Rattle.query_core.proofs.windows.candidates.Goals as goal
 use Rattle.query_core.proofs.windows.candidates.Goals.{then-satisfies+in_ok-offer, else-satisfies}
 
--- one more document, which is offered where it satisfies
+-- one more document, which becomes a candidate where it satisfies
 pub loop-row-preserved : goal.loop-row-preserved
 loop-row-preserved c =
     let query = c.args.query.now in let docs = c.args.docs.now in let i = c.loop-row.row-index in let row = c.row-item.result in

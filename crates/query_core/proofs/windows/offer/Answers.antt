@@ -5,7 +5,7 @@ use Rattle.query_core.specs.declared.windows.Candidate.{Candidate}
 use Rattle.query_core.proofs.CandidateLemmas.{firsts_leave, firsts_push}
 use Rattle.query_core.proofs.windows.offer.Goals as goal
 
--- what comes behind the first ones changes none of them
+-- what comes after the first ones changes none of them
 pub returns-then-is_past : goal.returns-then-is_past
 returns-then-is_past c =
     λ seen ranked h. let order = c.args.order.now in let firsts = c.args.firsts.now in let new = c.args.new.now in
@@ -13,13 +13,13 @@ returns-then-is_past c =
     sym (c.is_past.ensures ∙ ap (λ (o : Order). is_past o firsts.last new) c.as_slice-paths.ensures) ∙ c.if-is_past.true in
     firsts_leave order c.args.count seen firsts.found.items firsts.last new ranked h past
 
--- the candidate comes behind those that are left
+-- the candidate comes after those that are left
 pub returns : goal.returns
 returns c =
-    λ seen ranked h. let order = c.args.order.now in let firsts = c.make_room.new.firsts in let new = c.args.new.now in
+    λ seen ranked h. let order = c.args.order.now in let firsts = c.cut_if_many.new.firsts in let new = c.args.new.now in
     let before : HasFirsts c.as_slice-paths.result.now c.args.count seen c.args.firsts.now =
     subst (λ (o : Order). HasFirsts o c.args.count seen c.args.firsts.now) (sym c.as_slice-paths.ensures) h in
     let roomy : HasFirsts order c.args.count seen firsts =
-    subst (λ (o : Order). HasFirsts o c.args.count seen firsts) c.as_slice-paths.ensures (c.in_ok-make_room.ensures seen before) in
+    subst (λ (o : Order). HasFirsts o c.args.count seen firsts) c.as_slice-paths.ensures (c.in_ok-cut_if_many.ensures seen before) in
     subst (λ (items : List Candidate). AreFirsts order c.args.count (seen ++ row_of new ∷ []) items firsts.last) (sym c.in_ok-push.ensures.items)
     (firsts_push order c.args.count seen firsts.found.items firsts.last new ranked roomy)

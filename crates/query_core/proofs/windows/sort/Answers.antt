@@ -4,7 +4,7 @@ use Rattle.query_core.proofs.Rising.{sort_by_is_in_order}
 use Rattle.query_core.proofs.RowOrder.{candidates_cmp_total}
 use Rattle.query_core.proofs.windows.sort.Goals as goal
 
--- a stable sort puts the candidates in one by one
+-- a stable sort gives the candidates inserted one by one
 pub returns : goal.returns
 returns c =
     let order = c.args.order.now in

@@ -1,4 +1,4 @@
--- the text may be cut behind an ASCII byte
+-- the text may be cut after an ASCII byte
 use Rattle.std.proofs.Common.{◌≡◌, ◌+◌, ◌-◌, subst, arith}
 use Rattle.std.proofs.lemmas.Str.{IsCharBoundary-after_ascii}
 use Rattle.std.specs.Str.{IsCharBoundary}

@@ -1,4 +1,4 @@
--- A numeral ends with a digit, and is digits behind its sign.
+-- A numeral ends with a digit, and is digits after its sign.
 use Rattle.std.proofs.Common.{ap, ◌∙◌}
 use Rattle.std.specs.List.{prefix_len}
 use Rattle.query_lang.specs.Bytes.{is_digit}
@@ -15,4 +15,4 @@ cut-requires-clause-ascii c =
 
 pub number_kind-requires : goal.number_kind-requires
 number_kind-requires c =
-    numeral_span c.args.from.now _ _ _ c.minus_len-minus.ensures (c.run_len-count.ensures.len ∙ ap (prefix_len is_digit) c.after_minus-digits.ensures) c.if-count-gt0.true c.cut.ensures.front
+    numeral_span c.args.from.now _ _ _ c.minus_len-minus.ensures (c.run_len-count.ensures.len ∙ ap (prefix_len is_digit) c.after_minus-digits.ensures) c.if-count-gt0.true c.cut.ensures.prefix

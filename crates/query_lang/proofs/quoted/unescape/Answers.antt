@@ -1,4 +1,4 @@
--- Each turn passes over a byte of an escape, or appends the byte for which one stands.
+-- Each turn passes over a byte of an escape, or appends the byte that one decodes to.
 use Rattle.std.proofs.Common.{ap, ◌∙◌, rules, arith}
 use Rattle.query_lang.proofs.UnescapeLemmas.{read_inside, utf8_inside, read_turn, utf8_turn}
 use Rattle.query_lang.proofs.quoted.unescape.Goals as goal

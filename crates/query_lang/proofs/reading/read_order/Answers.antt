@@ -1,11 +1,11 @@
--- The text is read token by token, and its places are those of the rules.
+-- The text is read token by token, and its offsets are those of the rules.
 use Rattle.std.proofs.Common.{suc, length, Err, refl, sym, ap, ◌∙◌, arith}
 use Rattle.query_lang.specs.OrderReading.{read_order, order_rules, seen}
 use Rattle.query_lang.specs.declared.refusal.QueryRefusal.TheVariants.{Syntax}
 use Rattle.query_lang.specs.declared.token.Beginning.TheVariants.{Text}
 use Rattle.query_lang.specs.Reading.{tokens, run, tokens_in}
 use Rattle.query_lang.proofs.ReadingLemmas.{run_unfinished, run_bad_text}
-use Rattle.query_lang.proofs.StandsLemmas.{order_stands}
+use Rattle.query_lang.proofs.AllowedLemmas.{order_allowed}
 use Rattle.query_lang.proofs.reading.read_order.Goals as goal
 
 pub tokens-init : goal.tokens-init
@@ -16,12 +16,12 @@ tokens-init c =
 
 pub returns-in-Unfinished : goal.returns-in-Unfinished
 returns-in-Unfinished c =
-    let (m, room, read) = c.tokens.invariant.2 in
+    let (m, below, read) = c.tokens.invariant.2 in
     let x = c.in-Unfinished in
-    read ∙ run_unfinished order_rules _ (seen c.tokens.reader) m _ _ _ _ room x.ensures.value (c.may_stand.ensures ∙ order_stands (seen c.tokens.reader) x.what) ∙ ap (λ place. Err (Syntax 111 place)) (sym c.place_of-place.ensures)
+    read ∙ run_unfinished order_rules _ (seen c.tokens.reader) m _ _ _ _ below x.ensures.value (c.is_allowed.ensures ∙ order_allowed (seen c.tokens.reader) x.what) ∙ ap (λ place. Err (Syntax 111 place)) (sym c.place_of-place.ensures)
 
 pub returns-in-BadText : goal.returns-in-BadText
 returns-in-BadText c =
-    let (m, room, read) = c.tokens.invariant.2 in
+    let (m, below, read) = c.tokens.invariant.2 in
     let x = c.in-BadText in
-    read ∙ run_bad_text order_rules _ (seen c.tokens.reader) m _ _ _ _ room x.ensures.value (c.may_stand-stands.ensures ∙ order_stands (seen c.tokens.reader) Text) ∙ ap (λ place. Err (Syntax 111 place)) (sym c.place_of-place-in-BadText.ensures)
+    read ∙ run_bad_text order_rules _ (seen c.tokens.reader) m _ _ _ _ below x.ensures.value (c.is_allowed-allowed.ensures ∙ order_allowed (seen c.tokens.reader) Text) ∙ ap (λ place. Err (Syntax 111 place)) (sym c.place_of-place-in-BadText.ensures)

@@ -2,9 +2,9 @@ use Rattle.std.proofs.Common.{ap, ◌∙◌, ◌-◌, take, drop, length}
 use Rattle.std.proofs.lemmas.List.{take_rest}
 use Rattle.query_core.specs.Candidates.{row_of}
 use Rattle.query_core.proofs.CandidateLemmas.{map-slice}
-use Rattle.query_core.proofs.windows.copies.Goals as goal
+use Rattle.query_core.proofs.windows.cloned_rows.Goals as goal
 
--- all rows of the slice were copied, and the slice is what is left after the first ones
+-- all rows of the slice were cloned, and the slice is what is left after the first ones
 pub returns : goal.returns
 returns c =
     let found = c.args.found.now in

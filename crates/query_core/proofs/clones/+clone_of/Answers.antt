@@ -1,11 +1,11 @@
 use Rattle.std.proofs.Common.{ap, arith}
 use Rattle.query_core.specs.Filters.{height, operands_height, operands_of}
 use Rattle.query_core.proofs.FilterLemmas.{operand_height}
-use Rattle.query_core.proofs.copies.+copy_of.Goals as goal
+use Rattle.query_core.proofs.clones.+clone_of.Goals as goal
 
--- an operand is less high than the filter
-pub copy_of_operands-copy_of-requires : goal.copy_of_operands-copy_of-requires
-copy_of_operands-copy_of-requires t c = (
+-- an operand has a smaller height than the filter
+pub clone_of_operands-clone_of-requires : goal.clone_of_operands-clone_of-requires
+clone_of_operands-clone_of-requires t c = (
   omega (
     arith,
     ap height c.operand-item.is,

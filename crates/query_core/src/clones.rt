@@ -1,4 +1,4 @@
-//! `clone` of filters, orders and queries: each copy is the same value.
+//! `clone` of filters, orders and queries: each clone is the same value.
 ghost use Rattle.std.specs.Prelude.{◌≡◌, IfOk};
 
 use crate::filter::{Filter, Form};
@@ -10,7 +10,7 @@ impl Clone for Filter {
     ghost is_clone = { λ s t. s ≡ t };
 
     fn clone(&self) -> Result<Filter, AllocError> {
-        copy_of(self)
+        clone_of(self)
     }
 }
 
@@ -19,7 +19,7 @@ impl Clone for Order {
 
     fn clone(&self) -> Result<Order, AllocError> {
         Ok(Order {
-            paths: copy_of_paths(&self.paths)?,
+            paths: clone_of_paths(&self.paths)?,
         })
     }
 }
@@ -38,8 +38,8 @@ impl Clone for Query {
     }
 }
 
-#[cycle(copy_of)]
-fn copy_of(filter: &Filter) -> Result<Filter, AllocError>
+#[cycle(clone_of)]
+fn clone_of(filter: &Filter) -> Result<Filter, AllocError>
     ensures { IfOk result (λ f. filter.now ≡ f) }
 {
     let form = match &filter.form {
@@ -51,7 +51,7 @@ fn copy_of(filter: &Filter) -> Result<Filter, AllocError>
         },
         Form::In { path, values } => Form::In {
             path: path.clone()?,
-            values: copy_of_values(values)?,
+            values: clone_of_values(values)?,
         },
         Form::Has { path, value } => Form::Has {
             path: path.clone()?,
@@ -60,48 +60,48 @@ fn copy_of(filter: &Filter) -> Result<Filter, AllocError>
         Form::Exists { path } => Form::Exists {
             path: path.clone()?,
         },
-        Form::Not(operand) => Form::Not(copy_of_operand(operand)?),
-        Form::And(operands) => Form::And(copy_of_operands(operands)?),
-        Form::Or(operands) => Form::Or(copy_of_operands(operands)?),
+        Form::Not(operand) => Form::Not(clone_of_operand(operand)?),
+        Form::And(operands) => Form::And(clone_of_operands(operands)?),
+        Form::Or(operands) => Form::Or(clone_of_operands(operands)?),
     };
     Ok(Filter { form })
 }
 
-#[cycle(copy_of)]
-fn copy_of_operand(operand: &Box<Filter>) -> Result<Box<Filter>, AllocError>
+#[cycle(clone_of)]
+fn clone_of_operand(operand: &Box<Filter>) -> Result<Box<Filter>, AllocError>
     ensures { IfOk result (λ f. operand.now.value ≡ f.value) }
 {
-    let copy = copy_of(operand)?;
-    Ok(Box::new(*Box::allocator(operand), copy)?)
+    let cloned = clone_of(operand)?;
+    Ok(Box::new(*Box::allocator(operand), cloned)?)
 }
 
-#[cycle(copy_of)]
-fn copy_of_operands(operands: &Vec<Filter>) -> Result<Vec<Filter>, AllocError>
+#[cycle(clone_of)]
+fn clone_of_operands(operands: &Vec<Filter>) -> Result<Vec<Filter>, AllocError>
     ensures { IfOk result (λ v. operands.now.items ≡ v.items) }
 {
-    let mut copies = Vec::with_capacity(*operands.allocator(), operands.len())?;
+    let mut clones = Vec::with_capacity(*operands.allocator(), operands.len())?;
     for operand in operands {
-        copies.push(copy_of(operand)?)?;
+        clones.push(clone_of(operand)?)?;
     }
-    Ok(copies)
+    Ok(clones)
 }
 
-fn copy_of_values(values: &Vec<Node>) -> Result<Vec<Node>, AllocError>
+fn clone_of_values(values: &Vec<Node>) -> Result<Vec<Node>, AllocError>
     ensures { IfOk result (λ v. values.now.items ≡ v.items) }
 {
-    let mut copies = Vec::with_capacity(*values.allocator(), values.len())?;
+    let mut clones = Vec::with_capacity(*values.allocator(), values.len())?;
     for value in values {
-        copies.push(value.clone()?)?;
+        clones.push(value.clone()?)?;
     }
-    Ok(copies)
+    Ok(clones)
 }
 
-fn copy_of_paths(paths: &Vec<(Path, bool)>) -> Result<Vec<(Path, bool)>, AllocError>
+fn clone_of_paths(paths: &Vec<(Path, bool)>) -> Result<Vec<(Path, bool)>, AllocError>
     ensures { IfOk result (λ v. paths.now.items ≡ v.items) }
 {
-    let mut copies = Vec::with_capacity(*paths.allocator(), paths.len())?;
+    let mut clones = Vec::with_capacity(*paths.allocator(), paths.len())?;
     for (path, descending) in paths {
-        copies.push((path.clone()?, *descending))?;
+        clones.push((path.clone()?, *descending))?;
     }
-    Ok(copies)
+    Ok(clones)
 }

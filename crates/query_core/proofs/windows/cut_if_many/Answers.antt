@@ -1,5 +1,5 @@
 use Rattle.query_core.proofs.CandidateLemmas.{firsts_cut}
-use Rattle.query_core.proofs.windows.make_room.Goals as goal
+use Rattle.query_core.proofs.windows.cut_if_many.Goals as goal
 
 -- the first ones stay the same
 pub returns : goal.returns
