@@ -21,8 +21,8 @@ whole_written {X} old lent new len value long same =
     ap (λ (n : ℕ). take n (new ++ drop (length new) old)) size ∙ take-append_seam new (drop (length new) old)
 
 -- the positions of a key, as the code has them
-pub placed : (key : KeyShape) (text places : List ℕ) (log2_bits hashes : ℕ) → places ≡ positions_of text log2_bits hashes → text ≡ key_text key → places ≡ positions key log2_bits hashes
-placed key text places log2_bits hashes made kept = made ∙ ap (λ (t : List ℕ). positions_of t log2_bits hashes) kept
+pub positions_are : (key : KeyShape) (text key_positions : List ℕ) (log2_bits hashes : ℕ) → key_positions ≡ positions_of text log2_bits hashes → text ≡ key_text key → key_positions ≡ positions key log2_bits hashes
+positions_are key text key_positions log2_bits hashes made kept = made ∙ ap (λ (t : List ℕ). positions_of t log2_bits hashes) kept
 
 -- there is a byte for a counter
 pub byte_within : (counters bytes : List ℕ) (j : ℕ) → IsFlat counters bytes → j < length counters → j / 8 < length bytes
@@ -63,7 +63,7 @@ times_take_le j i positions =
     let split : times j (take i positions) + times j (drop i positions) ≡ times j positions = sum_by-take-drop (λ (p : ℕ). cond (p == j) 1 0) positions i in
     omega (arith, split)
 
--- the position at hand stands among the positions
+-- the current position is among the positions
 pub times_at : (i : ℕ) (positions : List ℕ) → i < length positions → times (get_or positions i 0) (take i positions) + 1 ≤ times (get_or positions i 0) positions
 times_at i positions within =
     let more = count_by_more_yes (λ p. p == get_or positions i 0) positions i 0 within (eq-eqb _ _ refl) in

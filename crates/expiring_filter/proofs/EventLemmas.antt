@@ -183,7 +183,7 @@ later_ends log2_bits hashes (advance moment ∷ events) after (before, ends, fol
     let new = follows.later k d low in
     omega (arith, old, new)
 
--- a second that is to come, and else 0
+-- a second above the clock, else 0
 abbrev while_later : ℕ → ℕ → ℕ
 while_later clock n = if nat_lt clock n then n else 0
 

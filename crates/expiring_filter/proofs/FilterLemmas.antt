@@ -61,7 +61,7 @@ flat_first n size whole =
     ∙ ap (λ m. nat_lt 0 m) (sym (get_or-replicate size j 0 0 within))
     ∙ sym (get_or-map (λ m. nat_lt 0 m) (replicate size 0) j 0 false (omega (arith, counters, within))))
 
--- so many bits are whole bytes
+-- 2 ^ log2_bits bits are whole bytes
 pub eights : (log2_bits : ℕ) → 3 ≤ log2_bits → 8 * (2 ^ log2_bits / 8) ≡ 2 ^ log2_bits
 eights log2_bits least =
     let split : 3 + (log2_bits - 3) ≡ log2_bits = omega arith in
@@ -90,7 +90,7 @@ pub keys_shown : (entries : Entries) → map (λ e. e.0) (seconds_of entries) �
 keys_shown [] = refl
 keys_shown (e ∷ entries) = ap (λ (ks : List KeyShape). e.0 ∷ ks) (keys_shown entries)
 
--- a new key stands last
+-- a new key is last
 pub seconds_put : (entries after : Entries) (key : KeyShape) (until : ℕ) (value : Unit {0}) → lookup (same_key key) entries ≡ None → after ≡ entries ++ (key, record { until = until; value = value }) ∷ [] →
     seconds_of after ≡ put_until (seconds_of entries) key until
 seconds_put entries after key until value absent is = ap (λ (es : Entries). seconds_of es) is ∙ last entries absent
@@ -112,28 +112,28 @@ put_last (e ∷ held) key until absent =
     ]
 
 -- a held key keeps the greater second
-pub seconds_extended : (entries : Entries) (key : KeyShape) (place until : ℕ) → place ≡ position_or_len (same_key key) (keys_of entries) → place < length entries → seconds_of (extended_at entries place until) ≡ put_until (seconds_of entries) key until
-seconds_extended [] key place until at within = absurd (omega (arith, within))
-seconds_extended (e ∷ entries) key place until at within =
+pub seconds_extended : (entries : Entries) (key : KeyShape) (index until : ℕ) → index ≡ position_or_len (same_key key) (keys_of entries) → index < length entries → seconds_of (extended_at entries index until) ≡ put_until (seconds_of entries) key until
+seconds_extended [] key index until at within = absurd (omega (arith, within))
+seconds_extended (e ∷ entries) key index until at within =
     elim (cases_Bool (same_key key e.0)) [
       | inl hit ↦ (
-          let first : place ≡ 0 = rw hit at at in
+          let first : index ≡ 0 = rw hit at at in
           ap (λ (i : ℕ). seconds_of (extended_at (e ∷ entries) i until)) first ∙ rw hit refl)
       | inr other ↦ (
           let rest = position_or_len (same_key key) (keys_of entries) in
-          let behind : place ≡ 1 + rest = rw other at at in
-          let next : place ≡ suc rest = omega (arith, behind) in
+          let behind : index ≡ 1 + rest = rw other at at in
+          let next : index ≡ suc rest = omega (arith, behind) in
           ap (λ (i : ℕ). seconds_of (extended_at (e ∷ entries) i until)) next
           ∙ ap (λ (xs : Held). (e.0, e.1.until) ∷ xs) (seconds_extended entries key rest until refl (omega (arith, next, within)))
           ∙ rw other refl)
     ]
 
--- the place that a look-up finds
-pub place_found : (key : KeyShape) (keys : List KeyShape) (place : ℕ) → Some place ≡ position (same_key key) keys → place ≡ position_or_len (same_key key) keys
-place_found key keys place found =
+-- the index that a look-up finds
+pub index_found : (key : KeyShape) (keys : List KeyShape) (index : ℕ) → Some index ≡ position (same_key key) keys → index ≡ position_or_len (same_key key) keys
+index_found key keys index found =
     elim (cases_Bool (nat_lt (position_or_len (same_key key) keys) (length keys))) [
-      | inl within ↦ (let own : Some place ≡ Some (position_or_len (same_key key) keys) = rw within at found in cc)
-      | inr past ↦ absurd (let none : Some place ≡ None = rw past at found in cc)
+      | inl within ↦ (let own : Some index ≡ Some (position_or_len (same_key key) keys) = rw within at found in cc)
+      | inr past ↦ absurd (let none : Some index ≡ None = rw past at found in cc)
     ]
 
 -- a key that is not found is no one's
@@ -150,7 +150,7 @@ others_of key (e ∷ entries) absent (suc k) d low =
       | inr other ↦ others_of key entries (rw other at absent) k d (omega (arith, low))
     ]
 
--- the entry that went, with its second alone
+-- the removed entry, with its second alone
 pub parted : (key : KeyShape) (timed : Timed (Unit {0})) (entries rest : Entries) → MapRemoves key timed entries rest → IsPermutation (seconds_of entries) ((key, timed.until) ∷ seconds_of rest)
 parted key timed entries rest removes = IsPermutation-map (λ (e : KeyShape × Timed (Unit {0})). (e.0, e.1.until)) entries ((key, timed) ∷ rest) removes.parted
 
@@ -161,7 +161,7 @@ removed key timed entries rest removes = record { gone = (key, timed.until) ∷ 
     one zero d low = (same_key-Decides key key).1 refl
     one (suc k) d low = absurd (omega (arith, low))
 
--- nothing goes where the key is not found
+-- nothing is removed where the key is not found
 pub removed_none : (key : KeyShape) (entries after : Entries) → after ≡ entries → lookup (same_key key) entries ≡ None → Removes key (seconds_of entries) (seconds_of after)
 removed_none key entries after same absent = subst (λ (es : Entries). Removes key (seconds_of entries) (seconds_of es)) (sym same) (record { gone = []; parted = IsPermutation-refl (seconds_of entries); same = λ k d low. absurd (omega (arith, low)); others = others_of key entries absent })
 
@@ -218,7 +218,7 @@ counts_small log2_bits hashes (e ∷ held) j few =
     let size = length_positions e.0 log2_bits hashes in
     omega (arith, one, rest, own, size, few)
 
--- a counter has room for the positions of one key more
+-- the positions of one key more do not overflow a counter
 pub counter_fits : (log2_bits hashes : ℕ) (held : Held) (counters bytes : List ℕ) (key : KeyShape) (j : ℕ) → IsCounted log2_bits hashes held counters bytes → get_or counters j 0 + times j (positions key log2_bits hashes) < 2 ^ 32
 counter_fits log2_bits hashes held counters bytes key j c =
     let own = count_by-le-length (λ (p : ℕ). p == j) (positions key log2_bits hashes) in
@@ -233,7 +233,7 @@ counter_fits log2_bits hashes held counters bytes key j c =
           omega (arith, none, own, size, c.few_hashes))
     ]
 
--- the counts of the key that goes are among the counts
+-- the counts of the removed key are among the counts
 pub enough : (log2_bits hashes : ℕ) (held rest : Held) (key : KeyShape) (until : ℕ) (counters bytes : List ℕ) (j : ℕ) → IsPermutation held ((key, until) ∷ rest) → IsCounted log2_bits hashes held counters bytes → j < length counters →
     times j (positions key log2_bits hashes) ≤ get_or counters j 0
 enough log2_bits hashes held rest key until counters bytes j perm c low =
@@ -293,43 +293,43 @@ counted_with log2_bits hashes log2_after hashes_after entries after_entries key 
       flat = flat;
     }))
 
-count-extended : (log2_bits hashes : ℕ) (entries : Entries) (place until j : ℕ) → count_among log2_bits hashes (seconds_of (extended_at entries place until)) j ≡ count_among log2_bits hashes (seconds_of entries) j
-count-extended log2_bits hashes [] place until j = refl
+count-extended : (log2_bits hashes : ℕ) (entries : Entries) (index until j : ℕ) → count_among log2_bits hashes (seconds_of (extended_at entries index until)) j ≡ count_among log2_bits hashes (seconds_of entries) j
+count-extended log2_bits hashes [] index until j = refl
 count-extended log2_bits hashes (e ∷ entries) zero until j =
     let one = sum_by-cons (λ (x : KeyShape × ℕ). times j (positions x.0 log2_bits hashes)) (e.0, e.1.until) (seconds_of entries) in
     let two = sum_by-cons (λ (x : KeyShape × ℕ). times j (positions x.0 log2_bits hashes)) (e.0, max e.1.until until) (seconds_of entries) in
     omega (arith, one, two)
-count-extended log2_bits hashes (e ∷ entries) (suc place) until j =
+count-extended log2_bits hashes (e ∷ entries) (suc index) until j =
     let one = sum_by-cons (λ (x : KeyShape × ℕ). times j (positions x.0 log2_bits hashes)) (e.0, e.1.until) (seconds_of entries) in
-    let two = sum_by-cons (λ (x : KeyShape × ℕ). times j (positions x.0 log2_bits hashes)) (e.0, e.1.until) (seconds_of (extended_at entries place until)) in
-    let rest = count-extended log2_bits hashes entries place until j in
+    let two = sum_by-cons (λ (x : KeyShape × ℕ). times j (positions x.0 log2_bits hashes)) (e.0, e.1.until) (seconds_of (extended_at entries index until)) in
+    let rest = count-extended log2_bits hashes entries index until j in
     omega (arith, one, two, rest)
 
-length-extended : (entries : Entries) (place until : ℕ) → length (seconds_of (extended_at entries place until)) ≡ length (seconds_of entries)
-length-extended [] place until = refl
+length-extended : (entries : Entries) (index until : ℕ) → length (seconds_of (extended_at entries index until)) ≡ length (seconds_of entries)
+length-extended [] index until = refl
 length-extended (e ∷ entries) zero until = refl
-length-extended (e ∷ entries) (suc place) until = ap suc (length-extended entries place until)
+length-extended (e ∷ entries) (suc index) until = ap suc (length-extended entries index until)
 
 -- the counts where a second rose
-pub counted_extended : (log2_bits hashes : ℕ) (entries after : Entries) (place until : ℕ) (counters bytes : List ℕ) → after ≡ extended_at entries place until → IsCounted log2_bits hashes (seconds_of entries) counters bytes →
+pub counted_extended : (log2_bits hashes : ℕ) (entries after : Entries) (index until : ℕ) (counters bytes : List ℕ) → after ≡ extended_at entries index until → IsCounted log2_bits hashes (seconds_of entries) counters bytes →
     IsCounted log2_bits hashes (seconds_of after) counters bytes
-counted_extended log2_bits hashes entries after place until counters bytes is c =
+counted_extended log2_bits hashes entries after index until counters bytes is c =
     subst (λ (es : Entries). IsCounted log2_bits hashes (seconds_of es) counters bytes) (sym is) (record {
       most_bits = c.most_bits;
       few_hashes = c.few_hashes;
-      few = (let long = length-extended entries place until in omega (arith, long, c.few));
+      few = (let long = length-extended entries index until in omega (arith, long, c.few));
       sized = c.sized;
-      counted = λ j low. c.counted j low ∙ sym (count-extended log2_bits hashes entries place until j);
+      counted = λ j low. c.counted j low ∙ sym (count-extended log2_bits hashes entries index until j);
       flat = c.flat;
     })
 
--- there is room for a key that is not held
+-- one more key that is not held is within the limit
 pub few_without : (entries : Entries) (key : KeyShape) → (is_among (seconds_of entries) key ≡ true) ⊎ (length (seconds_of entries) < 1000000) → lookup (same_key key) entries ≡ None → length entries < 1000000
 few_without entries key few absent =
     let size = length-map {B = KeyShape × ℕ} entries (λ (e : KeyShape × Timed (Unit {0})). (e.0, e.1.until)) in
     elim few [
       | inl among ↦ absurd (let wrong : true ≡ false = sym among ∙ sym (found_among entries key) ∙ ap is_some absent in cc)
-      | inr room ↦ omega (arith, size, room)
+      | inr space ↦ omega (arith, size, space)
     ]
 
 -- nothing is held at first

@@ -1,8 +1,8 @@
--- Numbers counted at positions, and a bit for each that is above 0.
+-- Internal. Counters at positions, and a bit for each that is above 0.
 use Rattle.std.specs.Prelude.{◌≡◌, ℕ, ◌==◌, List, map, count_by, nat_lt}
 use Rattle.query_normal.specs.Bits.{flat_bits}
 
--- how often j stands among the positions
+-- the number of times that j is among the positions
 abbrev pub times : ℕ → List ℕ → ℕ
 times j positions = count_by (λ p. p == j) positions
 

@@ -1,11 +1,11 @@
--- Lists of adds, removes and advances, the newest first, and which keys they leave.
+-- Internal. Lists of adds, removes and advances, the newest first, and which keys they leave.
 use Rattle.std.specs.Prelude.{◌≡◌, ℕ, ◌<◌, max, nat_lt, if◌then◌else◌, List, [], ◌∷◌}
 use Rattle.query_normal.specs.declared.key.KeyShape.{KeyShape}
 use Rattle.query_normal.specs.Keys.{same_key}
 use Rattle.expiring_filter.specs.Filter.{Filter, empty_filter, Removes}
 use Rattle.expiring_filter.specs.Held.{Expires, put_until}
 
--- a key until a second, a key, or a moment
+-- a key was added until a second, a key was removed, or the clock advanced to a moment
 pub data Event : Type 0 where
   add : KeyShape → ℕ → Event
   remove : KeyShape → Event
@@ -30,17 +30,17 @@ abbrev pub second_of : List (KeyShape × ℕ) → KeyShape → ℕ
 second_of [] key = 0
 second_of (e ∷ held) key = if same_key key e.0 then max e.1 (second_of held key) else second_of held key
 
--- what the clauses of the calls say of one that is such an event; an add is of a second above the greatest moment so far
+-- the call of an event, by its clauses, took the filter from before to after; an add has a second above the greatest moment so far
 abbrev pub Follows : ℕ → Filter → Event → Filter → Type 0
 Follows clock before (add key until) after = (clock < until) × (after.held ≡ put_until before.held key until)
 Follows clock before (remove key) after = Removes key before.held after.held
 Follows clock before (advance moment) after = Expires moment before.held after.held
 
--- the calls of these events, on a filter without a key, may end so
+-- the calls of these events on an empty filter may end in this filter
 abbrev pub EndsAs : ℕ → ℕ → List Event → Filter → Type 0
 EndsAs log2_bits hashes [] after = after ≡ empty_filter log2_bits hashes
 EndsAs log2_bits hashes (event ∷ events) after = (before : Filter) × EndsAs log2_bits hashes events before × Follows (clock_after events) before event after
 
--- the second until which a key is held after these events: that until which it was added, if it is to come, and else 0
+-- the second until which a key is held after these events: that until which it was added, if that is above the clock, else 0
 abbrev pub held_after : List Event → KeyShape → ℕ
 held_after events key = if nat_lt (clock_after events) (added_until events key) then added_until events key else 0

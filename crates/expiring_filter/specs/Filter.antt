@@ -1,4 +1,4 @@
--- What a filter holds: keys, each with the second at which it leaves.
+-- Internal. What contracts see of a filter: keys, each with the second at which it expires.
 use Rattle.std.specs.Prelude.{◌≡◌, ℕ, ◌^◌, Bool, true, false, nat_lt, List, [], ◌++◌, map, All}
 use Rattle.std.specs.List.{list_any, range_with_len}
 use Rattle.std.specs.List.Sorted.{IsPermutation}
@@ -6,14 +6,14 @@ use Rattle.query_normal.specs.declared.key.KeyShape.{KeyShape}
 use Rattle.query_normal.specs.Keys.{same_key}
 use Rattle.expiring_filter.specs.Held.{count_among, is_among}
 
--- the size of its bits, the hashes of a key, the held keys, each once, and the keys that may be added without memory
+-- the exponent of the number of bits, the number of hashes, the held keys, each once, and the reserved keys
 pub record Filter : Type 0 where
   pub log2_bits : ℕ
   pub hashes : ℕ
   pub held : List (KeyShape × ℕ)
   pub reserved : List KeyShape
 
--- a filter that holds no key
+-- a filter without keys
 abbrev pub empty_filter : ℕ → ℕ → Filter
 empty_filter log2_bits hashes = record {
   log2_bits = log2_bits;
@@ -26,11 +26,11 @@ empty_filter log2_bits hashes = record {
 abbrev pub is_held : Filter → KeyShape → Bool
 is_held filter key = is_among filter.held key
 
--- whether a key may be added without memory
+-- whether a key is reserved
 abbrev pub is_reserved : Filter → KeyShape → Bool
 is_reserved filter key = list_any (same_key key) filter.reserved
 
--- how often a position stands among those of the held keys, with repetitions
+-- the number of times that a position is among those of the held keys, with repetitions
 abbrev pub count_of : Filter → ℕ → ℕ
 count_of filter j = count_among filter.log2_bits filter.hashes filter.held j
 
@@ -38,7 +38,7 @@ count_of filter j = count_among filter.log2_bits filter.hashes filter.held j
 abbrev pub bits_of : Filter → List Bool
 bits_of filter = map (λ j. nat_lt 0 (count_of filter j)) (range_with_len 0 (2 ^ filter.log2_bits))
 
--- the key went, and no other
+-- the key was removed, and no other
 pub record Removes (key : KeyShape) (old new : List (KeyShape × ℕ)) : Type 0 where
   pub gone : List (KeyShape × ℕ)
   pub parted : IsPermutation old (gone ++ new)

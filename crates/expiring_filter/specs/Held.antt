@@ -1,4 +1,4 @@
--- The held keys, each with the second at which it leaves.
+-- Internal. The held keys, each with the second at which it expires.
 use Rattle.std.specs.Prelude.{◌≡◌, ℕ, ◌^◌, ◌<◌, ◌≤◌, Bool, max, if◌then◌else◌, List, [], ◌∷◌, ◌++◌, length, sum_by, slice_index, All}
 use Rattle.std.specs.List.{list_any}
 use Rattle.std.specs.List.Sorted.{IsPermutation}
@@ -7,7 +7,7 @@ use Rattle.query_normal.specs.Keys.{same_key}
 use Rattle.query_normal.specs.Pages.{positions}
 use Rattle.expiring_filter.specs.Counts.{times, IsFlat}
 
--- how often j stands among the positions of the keys, with repetitions
+-- the number of times that j is among the positions of the keys, with repetitions
 abbrev pub count_among : ℕ → ℕ → List (KeyShape × ℕ) → ℕ → ℕ
 count_among log2_bits hashes held j = sum_by (λ e. times j (positions e.0 log2_bits hashes)) held
 
@@ -20,18 +20,18 @@ pub record IsCounted (log2_bits hashes : ℕ) (held : List (KeyShape × ℕ)) (c
   pub counted : (j : ℕ) → j < length counters → slice_index counters j ≡ count_among log2_bits hashes held j
   pub flat : IsFlat counters bytes
 
--- some keys went whose second is not above the moment
+-- only keys whose second is not above the moment were removed
 pub record LosesPast (moment : ℕ) (old new : List (KeyShape × ℕ)) : Type 0 where
   pub gone : List (KeyShape × ℕ)
   pub parted : IsPermutation old (gone ++ new)
   pub past : All (λ e. e.1 ≤ moment) gone
 
--- the keys whose second is not above the moment went, and no other
+-- the keys whose second is not above the moment were removed, and no others
 pub record Expires (moment : ℕ) (old new : List (KeyShape × ℕ)) : Type 0 where
   pub lost : LosesPast moment old new
   pub later : All (λ e. moment < e.1) new
 
--- a held key keeps the greater second, and a new key stands last
+-- a held key keeps the greater second, and a new key is last
 abbrev pub put_until : List (KeyShape × ℕ) → KeyShape → ℕ → List (KeyShape × ℕ)
 put_until [] key until = (key, until) ∷ []
 put_until (e ∷ held) key until = if same_key key e.0 then (e.0, max e.1 until) ∷ held else e ∷ put_until held key until

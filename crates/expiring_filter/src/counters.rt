@@ -1,4 +1,4 @@
-//! Counters at positions, with a bit beside each that is above 0.
+//! The counters of a counting Bloom filter (Fan et al. 2000), and a bit for each that is above 0.
 ghost use Rattle.std.specs.Prelude.{◌≡◌, ℕ, ◌+◌, ◌-◌, ◌^◌, ◌<◌, ◌≤◌, All, length, slice_index, slice_set};
 ghost use Rattle.query_normal.specs.Pages.{positions};
 ghost use Rattle.expiring_filter.specs.Counts.{times, IsFlat};
@@ -6,7 +6,7 @@ ghost use Rattle.expiring_filter.specs.Counts.{times, IsFlat};
 use q_base::positions_of;
 use query_normal::{Key, bits};
 
-/// The counters of a filter and the bits of those above 0.
+/// The counters of a filter, and the bits of those above 0.
 #[derive(Debug, Drop)]
 pub struct Counters {
     pub log2_bits: u8,
@@ -29,11 +29,11 @@ impl Counters {
         ensures log2_bits { self.new.log2_bits ≡ self.old.log2_bits }
         ensures hashes { self.new.hashes ≡ self.old.hashes }
     {
-        let places = positions_of(key.text(), self.log2_bits, self.hashes);
-        raise(&mut self.counts, &mut self.bits, places.as_slice());
+        let key_positions = positions_of(key.text(), self.log2_bits, self.hashes);
+        raise(&mut self.counts, &mut self.bits, key_positions.as_slice());
     }
 
-    /// Takes a key back at its positions.
+    /// Undoes the count of a key at its positions.
     pub fn uncount(&mut self, key: &Key)
         requires bits { self.old.log2_bits ≤ 22 }
         requires few { self.old.hashes ≤ 16 }
@@ -46,12 +46,12 @@ impl Counters {
         ensures log2_bits { self.new.log2_bits ≡ self.old.log2_bits }
         ensures hashes { self.new.hashes ≡ self.old.hashes }
     {
-        let places = positions_of(key.text(), self.log2_bits, self.hashes);
-        lower(&mut self.counts, &mut self.bits, places.as_slice());
+        let key_positions = positions_of(key.text(), self.log2_bits, self.hashes);
+        lower(&mut self.counts, &mut self.bits, key_positions.as_slice());
     }
 }
 
-/// Counts each of the positions once, a repeated one once per repetition.
+/// Counts each position once, a repeated one once per repetition.
 fn raise(counters: &mut [u32], bytes: &mut [u8], positions: &[u32])
     requires within { All (λ p. p < length counters.old) positions.now }
     requires fits { (j : ℕ) → slice_index counters.old j + times j positions.now < 2 ^ 32 }
@@ -64,7 +64,7 @@ fn raise(counters: &mut [u32], bytes: &mut [u8], positions: &[u32])
     }
 }
 
-/// Takes each of the positions back once, a repeated one once per repetition.
+/// Lowers each position once, a repeated one once per repetition.
 fn lower(counters: &mut [u32], bytes: &mut [u8], positions: &[u32])
     requires within { All (λ p. p < length counters.old) positions.now }
     requires enough { (j : ℕ) → j < length counters.old → times j positions.now ≤ slice_index counters.old j }
@@ -77,7 +77,7 @@ fn lower(counters: &mut [u32], bytes: &mut [u8], positions: &[u32])
     }
 }
 
-/// Counts a position once more.
+/// Raises the counter of a position by one.
 fn raise_one(counters: &mut [u32], bytes: &mut [u8], position: usize)
     requires within { position < length counters.old }
     requires fits { slice_index counters.old position + 1 < 2 ^ 32 }
@@ -92,7 +92,7 @@ fn raise_one(counters: &mut [u32], bytes: &mut [u8], position: usize)
     }
 }
 
-/// Counts a position once less.
+/// Lowers the counter of a position by one.
 fn lower_one(counters: &mut [u32], bytes: &mut [u8], position: usize)
     requires within { position < length counters.old }
     requires some { 0 < slice_index counters.old position }

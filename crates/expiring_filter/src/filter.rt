@@ -17,8 +17,8 @@ use query_normal::Key;
 use std::alloc::Global;
 use std::marker::Model;
 
-/// Keys that leave by themselves when their second has come, counted at the positions of their texts.
-/// The bits of the counts above 0 are kept beside them.
+/// A counting Bloom filter (Fan et al. 2000) whose keys expire, as the expiring filter of Quaestor does
+/// (Gessert et al., VLDB 2017). The bits of the counts above 0 are always up to date.
 #[derive(Drop)]
 pub struct CountingFilter {
     keys: ExpiringMap<()>,
@@ -45,7 +45,7 @@ impl Model for CountingFilter {
 }
 
 impl CountingFilter {
-    /// A filter without a key, of `2^log2_bits` counters and bits.
+    /// An empty filter of `2^log2_bits` counters and bits.
     pub fn new(alloc: Global, log2_bits: u8, hashes: u8) -> Result<CountingFilter, Memory>
         requires least { 3 ≤ log2_bits }
         requires most { log2_bits ≤ 22 }
@@ -66,7 +66,7 @@ impl CountingFilter {
         })
     }
 
-    /// Makes room for a key, so that one `add` of it takes no memory. What was reserved before stays so.
+    /// Reserves space for a key, so that one `add` of it allocates nothing. Earlier reservations stay.
     pub fn reserve(&mut self, key: &Key) -> Result<(), Memory>
         ensures ok { OnOk result (IsTrue (is_reserved self.new key.now)) }
         ensures others { (other : AKey) → same_key key.now other ≡ false → is_reserved self.new other ≡ is_reserved self.old other }
@@ -76,8 +76,8 @@ impl CountingFilter {
         self.keys.reserve(key)
     }
 
-    /// Holds a key until a second, or until the later one where it is held. A key that is not held
-    /// was reserved; what was reserved for the key is used up.
+    /// Holds a key until a second, or until the later one where it is held. It uses the reservation of
+    /// the key up.
     pub fn add(&mut self, key: &Key, until: u64)
         requires reserved { IsTrue (is_reserved self.old key.now) ⊎ IsTrue (is_held self.old key.now) }
         requires few { IsTrue (is_held self.old key.now) ⊎ (length self.old.held < 1000000) }
@@ -85,16 +85,16 @@ impl CountingFilter {
         ensures reserved { (other : AKey) → is_reserved self.new other ≡ (not (same_key key.now other) && is_reserved self.old other) }
         ensures rest { self.new ≡ record self.old { held = self.new.held; reserved = self.new.reserved } }
     {
-        match self.keys.place_of(key) {
-            Some(place) => {
-                self.keys.extend(place, until);
+        match self.keys.index_of(key) {
+            Some(index) => {
+                self.keys.extend(index, until);
                 self.keys.release(key);
             }
             None => put(&mut self.keys, &mut self.counters, key, until),
         }
     }
 
-    /// Drops each key whose second is not above a moment.
+    /// Removes each key whose second is not above a moment.
     pub fn advance(&mut self, moment: Moment)
         ensures expired { Expires moment self.old.held self.new.held }
         ensures rest { self.new ≡ record self.old { held = self.new.held } }
@@ -102,7 +102,7 @@ impl CountingFilter {
         expire(&mut self.keys, &mut self.counters, moment);
     }
 
-    /// Drops a key, if it is held.
+    /// Removes a key, if it is held.
     pub fn remove(&mut self, key: &Key)
         ensures held { Removes key.now self.old.held self.new.held }
         ensures rest { self.new ≡ record self.old { held = self.new.held } }
@@ -113,7 +113,7 @@ impl CountingFilter {
         }
     }
 
-    /// Gives back what was reserved and not used.
+    /// Drops the reservations that were not used.
     pub fn forget_reserved(&mut self)
         ensures { self.new ≡ record self.old { reserved = [] } }
     {
@@ -127,7 +127,7 @@ impl CountingFilter {
         self.keys.contains(key)
     }
 
-    /// How often a position stands among those of the held keys, with repetitions.
+    /// The number of times that a position is among those of the held keys, with repetitions.
     pub fn count(&self, position: u32) -> u32
         requires { position < 2 ^ self.now.log2_bits }
         ensures { result ≡ count_of self.now position }
@@ -145,7 +145,7 @@ impl CountingFilter {
         self.keys.len() as u32
     }
 
-    /// The bits of the counts above 0, as the bytes of a page have them.
+    /// The bits of the counts above 0, in the bytes of a page.
     pub fn bits(&self) -> &[u8]
         ensures { flat_bits result.now ≡ bits_of self.now }
     {
@@ -153,7 +153,7 @@ impl CountingFilter {
     }
 }
 
-/// Puts a reserved key in that is not held, and counts it. It takes no memory.
+/// Adds a reserved key that is not held, and counts it. It allocates nothing.
 fn put(keys: &mut ExpiringMap<()>, counters: &mut Counters, key: &Key, until: u64)
     requires reserved { IsTrue (is_ready keys.old key.now) }
     requires absent { lookup (same_key key.now) keys.old.entries ≡ None }
@@ -169,7 +169,7 @@ fn put(keys: &mut ExpiringMap<()>, counters: &mut Counters, key: &Key, until: u6
     keys.put(key, until, ());
 }
 
-/// Takes out each key whose second is not above the moment, with its counts.
+/// Removes each key whose second is not above the moment, with its counts.
 fn expire(keys: &mut ExpiringMap<()>, counters: &mut Counters, moment: Moment)
     requires { IsCounted counters.old.log2_bits counters.old.hashes (seconds_of keys.old.entries) counters.old.counts.items counters.old.bits.items }
     ensures expired { Expires moment (seconds_of keys.old.entries) (seconds_of keys.new.entries) }

@@ -1,4 +1,4 @@
-//! What holds after any list of calls. The law is the contract of an empty function.
+//! The law of any list of calls. It is the contract of an empty function.
 ghost use Rattle.std.specs.Prelude.{◌≡◌, ℕ, ◌<◌, List, nat_lt, All};
 ghost use Rattle.query_normal.specs.declared.key.KeyShape.{KeyShape as AKey};
 ghost use Rattle.expiring_filter.specs.Events.{Event, EndsAs, clock_after, added_until, held_after, second_of};

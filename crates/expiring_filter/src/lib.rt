@@ -1,4 +1,4 @@
-//! The keys of outdated copies until they expire, counted at the positions of their texts.
+//! A counting Bloom filter of the keys of outdated copies, which expire.
 #![tactic(auto)]
 
 mod counters;

@@ -1,4 +1,4 @@
--- The held keys and their places in the queue.
+-- The held keys and their indexes in the queue.
 use Rattle.std.proofs.Common.{◌≡◌, ◌⊎◌, zero, option_map, ℕ, ◌+◌, ◌-◌, ◌<◌, ◌≤◌, suc, true, List, [], ◌∷◌, ◌++◌, length, take, map, set, get_or, All, Contains, Some, None, refl, sym, ap, ◌∙◌, subst, arith, inl, inr, position, length-append}
 use Rattle.std.specs.List.{slice_get, swap_remove}
 use Rattle.std.specs.List.Sorted.{IsPermutation}
@@ -21,81 +21,81 @@ use Rattle.expiring_map.specs.Entries.{Removes, Expires, with_value, extended, w
 
 -- ---- the queue
 
--- what stands in a list stands behind one more
+-- an element of a list is in the list with one more
 contains_later : {X : Type 0} (xs : List X) (x y : X) → Contains xs x → Contains (y ∷ xs) x
 contains_later xs x y found = (suc found.0, omega (arith, found.1), found.2)
 
--- what stands in a list is its first or stands behind it
+-- an element of a list is its first or one of the others
 contains_at : {X : Type 0} (x y : X) (xs : List X) (k : ℕ) → k < length (x ∷ xs) → get_or (x ∷ xs) k y ≡ y → (x ≡ y) ⊎ Contains xs y
 contains_at x y xs zero low e = inl e
 contains_at x y xs (suc k) low e = inr (k, omega (arith, low), e)
 
--- a place that is due later than at a second
-pub overdue_pushed : (moment due_at until place : ℕ) (queue after : List (Reverse (ℕ × ℕ))) → due_at < until → due_at ≤ moment → IsPermutation (due until place ∷ queue) after →
+-- an index that is due later than at a second
+pub overdue_pushed : (moment due_at until index : ℕ) (queue after : List (Reverse (ℕ × ℕ))) → due_at < until → due_at ≤ moment → IsPermutation (due until index ∷ queue) after →
     overdue moment after < overdue moment queue + (moment + 1 - due_at)
-overdue_pushed moment due_at until place queue after later past perm =
-    let pushed = sum_by_pushed (λ (d : Reverse (ℕ × ℕ)). moment + 1 - d.0.0) (due until place) queue after perm in
+overdue_pushed moment due_at until index queue after later past perm =
+    let pushed = sum_by_pushed (λ (d : Reverse (ℕ × ℕ)). moment + 1 - d.0.0) (due until index) queue after perm in
     omega (arith, pushed)
 
--- a place that came out
-pub overdue_popped : (moment until place : ℕ) (queue after : List (Reverse (ℕ × ℕ))) → IsPermutation queue (due until place ∷ after) → overdue moment queue ≡ (moment + 1 - until) + overdue moment after
-overdue_popped moment until place queue after perm =
-    let popped = sum_by_popped (λ (d : Reverse (ℕ × ℕ)). moment + 1 - d.0.0) (due until place) queue after perm in
+-- an index that was popped
+pub overdue_popped : (moment until index : ℕ) (queue after : List (Reverse (ℕ × ℕ))) → IsPermutation queue (due until index ∷ after) → overdue moment queue ≡ (moment + 1 - until) + overdue moment after
+overdue_popped moment until index queue after perm =
+    let popped = sum_by_popped (λ (d : Reverse (ℕ × ℕ)). moment + 1 - d.0.0) (due until index) queue after perm in
     omega (arith, popped)
 
 module _ {V : Type 0} where
-  -- a place of a longer queue
-  due_later : (held : List (KeyShape × Timed V)) (queue after : List (Reverse (ℕ × ℕ))) (until place i : ℕ) → IsPermutation (due until place ∷ queue) after → IsDueAt held queue i → IsDueAt held after i
-  due_later held queue after until place i perm found d =
+  -- an index of a longer queue
+  due_later : (held : List (KeyShape × Timed V)) (queue after : List (Reverse (ℕ × ℕ))) (until index i : ℕ) → IsPermutation (due until index ∷ queue) after → IsDueAt held queue i → IsDueAt held after i
+  due_later held queue after until index i perm found d =
       let old = found d in
-      (old.0, old.1, Contains-permutation (due until place ∷ queue) after (due old.0 i) perm (contains_later queue (due old.0 i) (due until place) old.2))
+      (old.0, old.1, Contains-permutation (due until index ∷ queue) after (due old.0 i) perm (contains_later queue (due old.0 i) (due until index) old.2))
 
-  -- each place is covered once the one that was not is put in
-  pub covered_all : (held : List (KeyShape × Timed V)) (queue after : List (Reverse (ℕ × ℕ))) (until place : ℕ) → IsPermutation (due until place ∷ queue) after →
-      ((d : KeyShape × Timed V) → (get_or held place d).1.until ≡ until) → IsCoveredBut place held queue → IsCovered held after
-  covered_all held queue after until place perm here covered i within =
-      elim (cases_eq i place) [
+  -- each index is covered once the one that was not is pushed
+  pub covered_all : (held : List (KeyShape × Timed V)) (queue after : List (Reverse (ℕ × ℕ))) (until index : ℕ) → IsPermutation (due until index ∷ queue) after →
+      ((d : KeyShape × Timed V) → (get_or held index d).1.until ≡ until) → IsCoveredBut index held queue → IsCovered held after
+  covered_all held queue after until index perm here covered i within =
+      elim (cases_eq i index) [
         | inl same ↦ (λ d. (
           until,
           (let e = here d in subst (λ (n : ℕ). until ≤ (get_or held n d).1.until) (sym same) (omega (arith, e))),
           subst (λ (n : ℕ). Contains after (due until n)) (sym same)
-              (Contains-permutation (due until place ∷ queue) after (due until place) perm (0, omega arith, refl)),
+              (Contains-permutation (due until index ∷ queue) after (due until index) perm (0, omega arith, refl)),
         ))
-        | inr other ↦ due_later held queue after until place i perm (covered i within other)
+        | inr other ↦ due_later held queue after until index i perm (covered i within other)
       ]
 
-  -- a place past the last needs no cover
-  pub covered_past : (held : List (KeyShape × Timed V)) (queue : List (Reverse (ℕ × ℕ))) (place : ℕ) → length held ≤ place → IsCoveredBut place held queue → IsCovered held queue
-  covered_past held queue place past covered i within = covered i within (λ e. (let h : i ≡ place = e in omega (arith, h, past, within)))
+  -- an index past the last needs no cover
+  pub covered_past : (held : List (KeyShape × Timed V)) (queue : List (Reverse (ℕ × ℕ))) (index : ℕ) → length held ≤ index → IsCoveredBut index held queue → IsCovered held queue
+  covered_past held queue index past covered i within = covered i within (λ e. (let h : i ≡ index = e in omega (arith, h, past, within)))
 
-  -- after the last key took a place, the other places are as they were
-  pub covered_moved : (held rest : List (KeyShape × Timed V)) (queue : List (Reverse (ℕ × ℕ))) (place : ℕ) (e : KeyShape × Timed V) → place < length held → rest ≡ swap_remove held place e →
-      IsCoveredBut place held queue → IsCoveredBut place rest queue
-  covered_moved held rest queue place e within is covered i low other d =
-      let cut = length-take (length held - 1) (set held place (get_or held (length held - 1) e)) in
-      let size : length rest ≡ length (take (length held - 1) (set held place (get_or held (length held - 1) e))) = ap length is in
+  -- after the last key took an index, the other indexes are covered as before
+  pub covered_moved : (held rest : List (KeyShape × Timed V)) (queue : List (Reverse (ℕ × ℕ))) (index : ℕ) (e : KeyShape × Timed V) → index < length held → rest ≡ swap_remove held index e →
+      IsCoveredBut index held queue → IsCoveredBut index rest queue
+  covered_moved held rest queue index e within is covered i low other d =
+      let cut = length-take (length held - 1) (set held index (get_or held (length held - 1) e)) in
+      let size : length rest ≡ length (take (length held - 1) (set held index (get_or held (length held - 1) e))) = ap length is in
       let low_here : i < length held - 1 = omega (arith, cut, size, low) in
       let here : get_or rest i d ≡ get_or held i d =
       ap (λ (xs : List (KeyShape × Timed V)). get_or xs i d) is
-      ∙ get_or-take (length held - 1) (set held place (get_or held (length held - 1) e)) i d low_here
-      ∙ get_or-set_other held place i (get_or held (length held - 1) e) d other in
+      ∙ get_or-take (length held - 1) (set held index (get_or held (length held - 1) e)) i d low_here
+      ∙ get_or-set_other held index i (get_or held (length held - 1) e) d other in
       let old = covered i (omega (arith, low_here)) other d in
       (old.0, subst (λ (x : KeyShape × Timed V). old.0 ≤ x.1.until) (sym here) old.1, old.2)
 
-  -- the other places stay covered when one comes out
-  pub covered_popped : (held : List (KeyShape × Timed V)) (queue after : List (Reverse (ℕ × ℕ))) (until place : ℕ) → IsPermutation queue (due until place ∷ after) → IsCovered held queue → IsCoveredBut place held after
-  covered_popped held queue after until place perm covered i within other d =
+  -- the other indexes stay covered when one is popped
+  pub covered_popped : (held : List (KeyShape × Timed V)) (queue after : List (Reverse (ℕ × ℕ))) (until index : ℕ) → IsPermutation queue (due until index ∷ after) → IsCovered held queue → IsCoveredBut index held after
+  covered_popped held queue after until index perm covered i within other d =
       let old = covered i within d in
-      let there = Contains-permutation queue (due until place ∷ after) (due old.0 i) perm old.2 in (
+      let there = Contains-permutation queue (due until index ∷ after) (due old.0 i) perm old.2 in (
         old.0,
         old.1,
-        elim (contains_at (due until place) (due old.0 i) after there.0 there.1 there.2) [
+        elim (contains_at (due until index) (due old.0 i) after there.0 there.1 there.2) [
           | inl same ↦ absurd (other (sym (ap (λ (x : Reverse (ℕ × ℕ)). x.0.1) same)))
           | inr found ↦ found
         ],
       )
 
-  -- no key leaves before the first place is due
+  -- no key expires before the first index is due
   late : (held : List (KeyShape × Timed V)) (queue : List (Reverse (ℕ × ℕ))) (least : ℕ) → IsCovered held queue → All (λ (d : Reverse (ℕ × ℕ)). least ≤ d.0.0) queue → (i : ℕ) (d : KeyShape × Timed V) → i < length held → least ≤ (get_or held i d).1.until
   late held queue least covered first i d within =
       let at = covered i within d in
@@ -103,7 +103,7 @@ module _ {V : Type 0} where
       let low : least ≤ at.0 = subst (λ (x : Reverse (ℕ × ℕ)). least ≤ x.0.0) found.2 (first found.0 (due at.0 i) found.1) in
       omega (arith, low, at.1)
 
-  -- where no place is due, no key leaves
+  -- where no index is due, no key expires
   pub all_later : (moment : ℕ) (held : List (KeyShape × Timed V)) (queue : List (Reverse (ℕ × ℕ))) → IsCovered held queue → All (λ (d : Reverse (ℕ × ℕ)). moment < d.0.0) queue → All (λ (e : KeyShape × Timed V). moment < e.1.until) held
   all_later moment held queue covered later i d within =
       let at = covered i within d in
@@ -111,15 +111,15 @@ module _ {V : Type 0} where
       let low : moment < at.0 = subst (λ (x : Reverse (ℕ × ℕ)). moment < x.0.0) found.2 (later found.0 (due at.0 i) found.1) in
       omega (arith, low, at.1)
 
-  -- the place that is due first and leaves then leaves first
-  pub earliest_at : (moment due_at place : ℕ) (held : List (KeyShape × Timed V)) (queue : List (Reverse (ℕ × ℕ))) → IsCovered held queue → All (λ (d : Reverse (ℕ × ℕ)). due_at ≤ d.0.0) queue → due_at ≤ moment →
-      ((d : KeyShape × Timed V) → (get_or held place d).1.until ≤ due_at) → IsEarliest moment place held
-  earliest_at moment due_at place held queue covered first past here i d within =
+  -- the key of the index that is due first, where it expires then, expires first
+  pub earliest_at : (moment due_at index : ℕ) (held : List (KeyShape × Timed V)) (queue : List (Reverse (ℕ × ℕ))) → IsCovered held queue → All (λ (d : Reverse (ℕ × ℕ)). due_at ≤ d.0.0) queue → due_at ≤ moment →
+      ((d : KeyShape × Timed V) → (get_or held index d).1.until ≤ due_at) → IsEarliest moment index held
+  earliest_at moment due_at index held queue covered first past here i d within =
       let own = here d in
       let other = late held queue due_at covered first i d within in
       (omega (arith, own, other), omega (arith, own, past))
 
-  -- a queue covers keys of which each leaves as late or later
+  -- a queue covers keys of which each expires as late or later
   covered_risen : (held after : List (KeyShape × Timed V)) (queue : List (Reverse (ℕ × ℕ))) → length after ≡ length held → ((i : ℕ) (d : KeyShape × Timed V) → (get_or held i d).1.until ≤ (get_or after i d).1.until) →
       IsCovered held queue → IsCovered after queue
   covered_risen held after queue same risen covered i within d =
@@ -128,24 +128,24 @@ module _ {V : Type 0} where
       (old.0, omega (arith, old.1, up), old.2)
 
   -- and with a new key at the end
-  pub covered_new : (held after : List (KeyShape × Timed V)) (queue queue_after : List (Reverse (ℕ × ℕ))) (key : KeyShape) (timed : Timed V) (place : ℕ) → after ≡ held ++ (key, timed) ∷ [] → place ≡ length held →
-      IsPermutation (due timed.until place ∷ queue) queue_after → IsCovered held queue → IsCovered after queue_after
-  covered_new held after queue queue_after key timed place is at perm covered =
+  pub covered_new : (held after : List (KeyShape × Timed V)) (queue queue_after : List (Reverse (ℕ × ℕ))) (key : KeyShape) (timed : Timed V) (index : ℕ) → after ≡ held ++ (key, timed) ∷ [] → index ≡ length held →
+      IsPermutation (due timed.until index ∷ queue) queue_after → IsCovered held queue → IsCovered after queue_after
+  covered_new held after queue queue_after key timed index is at perm covered =
       subst (λ (es : List (KeyShape × Timed V)). IsCovered es queue_after) (sym is) (λ i within d.
       let all = length-append held ((key, timed) ∷ []) in
       elim (cases_lt i (length held)) [
         | inl before ↦ (
-            let old = due_later held queue queue_after timed.until place i perm (covered i before) d in
+            let old = due_later held queue queue_after timed.until index i perm (covered i before) d in
             let same = get_or_append_left held ((key, timed) ∷ []) d i before in
             (old.0, subst (λ (e : KeyShape × Timed V). old.0 ≤ e.1.until) (sym same) old.1, old.2))
         | inr past ↦ (
-            let last : i ≡ place = omega (arith, all, within, past, at) in
+            let last : i ≡ index = omega (arith, all, within, past, at) in
             let end : i ≡ length held = last ∙ at in
             let same : get_or (held ++ (key, timed) ∷ []) i d ≡ (key, timed) = ap (λ (n : ℕ). get_or (held ++ (key, timed) ∷ []) n d) end ∙ get_or-append_seam held (key, timed) [] d in (
               timed.until,
               subst (λ (e : KeyShape × Timed V). timed.until ≤ e.1.until) (sym same) (omega arith),
               subst (λ (n : ℕ). Contains queue_after (due timed.until n)) (sym last)
-                  (Contains-permutation (due timed.until place ∷ queue) queue_after (due timed.until place) perm (0, omega arith, refl)),
+                  (Contains-permutation (due timed.until index ∷ queue) queue_after (due timed.until index) perm (0, omega arith, refl)),
             ))
       ])
 
@@ -154,8 +154,8 @@ module _ {V : Type 0} where
   covered_same held after queue queue_after is same covered =
       subst (λ (es : List (KeyShape × Timed V)). IsCovered es queue_after) (sym is) (subst (λ (xs : List (Reverse (ℕ × ℕ))). IsCovered held xs) (sym same) covered)
 
-  pub covered_but : (held : List (KeyShape × Timed V)) (queue after : List (Reverse (ℕ × ℕ))) (place : ℕ) → after ≡ queue → IsCoveredBut place held queue → IsCoveredBut place held after
-  covered_but held queue after place same covered = subst (λ (xs : List (Reverse (ℕ × ℕ))). IsCoveredBut place held xs) (sym same) covered
+  pub covered_but : (held : List (KeyShape × Timed V)) (queue after : List (Reverse (ℕ × ℕ))) (index : ℕ) → after ≡ queue → IsCoveredBut index held queue → IsCoveredBut index held after
+  covered_but held queue after index same covered = subst (λ (xs : List (Reverse (ℕ × ℕ))). IsCoveredBut index held xs) (sym same) covered
 
   -- ---- entries
 
@@ -163,7 +163,7 @@ module _ {V : Type 0} where
   abbrev pub shown : List (KeyShape × Timed V) → List KeyShape → Expiring V
   shown entries reserved = record { entries = entries; reserved = reserved }
 
-  -- a new key stands last
+  -- a new key is last
   pub insert_last : (held : List (KeyShape × Timed V)) (key : KeyShape) (timed : Timed V) → lookup (same_key key) held ≡ None → insert_entry same_key held key timed ≡ held ++ (key, timed) ∷ []
   insert_last [] key timed absent = refl
   insert_last (e ∷ held) key timed absent =
@@ -173,106 +173,106 @@ module _ {V : Type 0} where
       ]
 
   -- the entry that a removal took out, and the others
-  pub parted_at : (held rest : List (KeyShape × Timed V)) (place : ℕ) (e : KeyShape × Timed V) → place < length held → Some e ≡ slice_get held place → rest ≡ swap_remove held place e →
+  pub parted_at : (held rest : List (KeyShape × Timed V)) (index : ℕ) (e : KeyShape × Timed V) → index < length held → Some e ≡ slice_get held index → rest ≡ swap_remove held index e →
       IsPermutation held (e ∷ rest)
-  parted_at held rest place e within there is =
-      let at = get_or_from_slice_get held place e e (sym there) in
-      subst (λ (xs : List (KeyShape × Timed V)). IsPermutation held (e ∷ xs)) (sym is) (IsPermutation-swap_remove held place e within (sym at))
+  parted_at held rest index e within there is =
+      let at = get_or_from_slice_get held index e e (sym there) in
+      subst (λ (xs : List (KeyShape × Timed V)). IsPermutation held (e ∷ xs)) (sym is) (IsPermutation-swap_remove held index e within (sym at))
 
-  -- a later second written at a place
-  pub extended_is : (held : List (KeyShape × Timed V)) (place until : ℕ) (timed : Timed V) → slice_get (map (λ e. e.1) held) place ≡ Some timed → set_value_at held place (extended timed until) ≡ extended_at held place until
-  extended_is [] place until timed there = refl
+  -- a later second written at an index
+  pub extended_is : (held : List (KeyShape × Timed V)) (index until : ℕ) (timed : Timed V) → slice_get (map (λ e. e.1) held) index ≡ Some timed → set_value_at held index (extended timed until) ≡ extended_at held index until
+  extended_is [] index until timed there = refl
   extended_is (e ∷ held) zero until timed there =
       let same : e.1 ≡ timed = (let h = there in cc) in
       ap (λ (t : Timed V). (e.0, extended t until) ∷ held) (sym same)
-  extended_is (e ∷ held) (suc place) until timed there = ap (λ (es : List (KeyShape × Timed V)). e ∷ es) (extended_is held place until timed there)
+  extended_is (e ∷ held) (suc index) until timed there = ap (λ (es : List (KeyShape × Timed V)). e ∷ es) (extended_is held index until timed there)
 
-  -- a value written at a place
-  pub written_is : (held : List (KeyShape × Timed V)) (place : ℕ) (value : V) (timed : Timed V) → slice_get (map (λ e. e.1) held) place ≡ Some timed → set_value_at held place (with_value timed value) ≡ with_value_at held place value
-  written_is [] place value timed there = refl
+  -- a value written at an index
+  pub written_is : (held : List (KeyShape × Timed V)) (index : ℕ) (value : V) (timed : Timed V) → slice_get (map (λ e. e.1) held) index ≡ Some timed → set_value_at held index (with_value timed value) ≡ with_value_at held index value
+  written_is [] index value timed there = refl
   written_is (e ∷ held) zero value timed there =
       let same : e.1 ≡ timed = (let h = there in cc) in
       ap (λ (t : Timed V). (e.0, with_value t value) ∷ held) (sym same)
-  written_is (e ∷ held) (suc place) value timed there = ap (λ (es : List (KeyShape × Timed V)). e ∷ es) (written_is held place value timed there)
+  written_is (e ∷ held) (suc index) value timed there = ap (λ (es : List (KeyShape × Timed V)). e ∷ es) (written_is held index value timed there)
 
-  length-extended_at : (held : List (KeyShape × Timed V)) (place until : ℕ) → length (extended_at held place until) ≡ length held
-  length-extended_at [] place until = refl
+  length-extended_at : (held : List (KeyShape × Timed V)) (index until : ℕ) → length (extended_at held index until) ≡ length held
+  length-extended_at [] index until = refl
   length-extended_at (e ∷ held) zero until = refl
-  length-extended_at (e ∷ held) (suc place) until = ap suc (length-extended_at held place until)
+  length-extended_at (e ∷ held) (suc index) until = ap suc (length-extended_at held index until)
 
-  pub keys-extended_at : (held : List (KeyShape × Timed V)) (place until : ℕ) → keys_of (extended_at held place until) ≡ keys_of held
-  keys-extended_at [] place until = refl
+  pub keys-extended_at : (held : List (KeyShape × Timed V)) (index until : ℕ) → keys_of (extended_at held index until) ≡ keys_of held
+  keys-extended_at [] index until = refl
   keys-extended_at (e ∷ held) zero until = refl
-  keys-extended_at (e ∷ held) (suc place) until = ap (λ (ks : List KeyShape). e.0 ∷ ks) (keys-extended_at held place until)
+  keys-extended_at (e ∷ held) (suc index) until = ap (λ (ks : List KeyShape). e.0 ∷ ks) (keys-extended_at held index until)
 
-  pub keys-with_value_at : (held : List (KeyShape × Timed V)) (place : ℕ) (value : V) → keys_of (with_value_at held place value) ≡ keys_of held
-  keys-with_value_at [] place value = refl
+  pub keys-with_value_at : (held : List (KeyShape × Timed V)) (index : ℕ) (value : V) → keys_of (with_value_at held index value) ≡ keys_of held
+  keys-with_value_at [] index value = refl
   keys-with_value_at (e ∷ held) zero value = refl
-  keys-with_value_at (e ∷ held) (suc place) value = ap (λ (ks : List KeyShape). e.0 ∷ ks) (keys-with_value_at held place value)
+  keys-with_value_at (e ∷ held) (suc index) value = ap (λ (ks : List KeyShape). e.0 ∷ ks) (keys-with_value_at held index value)
 
-  length-with_value_at : (held : List (KeyShape × Timed V)) (place : ℕ) (value : V) → length (with_value_at held place value) ≡ length held
-  length-with_value_at [] place value = refl
+  length-with_value_at : (held : List (KeyShape × Timed V)) (index : ℕ) (value : V) → length (with_value_at held index value) ≡ length held
+  length-with_value_at [] index value = refl
   length-with_value_at (e ∷ held) zero value = refl
-  length-with_value_at (e ∷ held) (suc place) value = ap suc (length-with_value_at held place value)
+  length-with_value_at (e ∷ held) (suc index) value = ap suc (length-with_value_at held index value)
 
-  extended-risen : (held : List (KeyShape × Timed V)) (place until i : ℕ) (d : KeyShape × Timed V) → (get_or held i d).1.until ≤ (get_or (extended_at held place until) i d).1.until
-  extended-risen [] place until i d = omega arith
+  extended-risen : (held : List (KeyShape × Timed V)) (index until i : ℕ) (d : KeyShape × Timed V) → (get_or held i d).1.until ≤ (get_or (extended_at held index until) i d).1.until
+  extended-risen [] index until i d = omega arith
   extended-risen (e ∷ held) zero until zero d = omega arith
   extended-risen (e ∷ held) zero until (suc i) d = omega arith
-  extended-risen (e ∷ held) (suc place) until zero d = omega arith
-  extended-risen (e ∷ held) (suc place) until (suc i) d = extended-risen held place until i d
+  extended-risen (e ∷ held) (suc index) until zero d = omega arith
+  extended-risen (e ∷ held) (suc index) until (suc i) d = extended-risen held index until i d
 
-  written-risen : (held : List (KeyShape × Timed V)) (place : ℕ) (value : V) (i : ℕ) (d : KeyShape × Timed V) → (get_or held i d).1.until ≤ (get_or (with_value_at held place value) i d).1.until
-  written-risen [] place value i d = omega arith
+  written-risen : (held : List (KeyShape × Timed V)) (index : ℕ) (value : V) (i : ℕ) (d : KeyShape × Timed V) → (get_or held i d).1.until ≤ (get_or (with_value_at held index value) i d).1.until
+  written-risen [] index value i d = omega arith
   written-risen (e ∷ held) zero value zero d = omega arith
   written-risen (e ∷ held) zero value (suc i) d = omega arith
-  written-risen (e ∷ held) (suc place) value zero d = omega arith
-  written-risen (e ∷ held) (suc place) value (suc i) d = written-risen held place value i d
+  written-risen (e ∷ held) (suc index) value zero d = omega arith
+  written-risen (e ∷ held) (suc index) value (suc i) d = written-risen held index value i d
 
-  pub covered_extended : (held after : List (KeyShape × Timed V)) (queue : List (Reverse (ℕ × ℕ))) (place until : ℕ) → after ≡ extended_at held place until → IsCovered held queue → IsCovered after queue
-  covered_extended held after queue place until is covered =
+  pub covered_extended : (held after : List (KeyShape × Timed V)) (queue : List (Reverse (ℕ × ℕ))) (index until : ℕ) → after ≡ extended_at held index until → IsCovered held queue → IsCovered after queue
+  covered_extended held after queue index until is covered =
       subst (λ (es : List (KeyShape × Timed V)). IsCovered es queue) (sym is)
-      (covered_risen held (extended_at held place until) queue (length-extended_at held place until) (extended-risen held place until) covered)
+      (covered_risen held (extended_at held index until) queue (length-extended_at held index until) (extended-risen held index until) covered)
 
-  pub covered_written : (held : List (KeyShape × Timed V)) (queue : List (Reverse (ℕ × ℕ))) (place : ℕ) (value : V) (timed : Timed V) → slice_get (map (λ e. e.1) held) place ≡ Some timed → IsCovered held queue →
-      IsCovered (set_value_at held place (with_value timed value)) queue
-  covered_written held queue place value timed there covered =
-      subst (λ (es : List (KeyShape × Timed V)). IsCovered es queue) (sym (written_is held place value timed there))
-      (covered_risen held (with_value_at held place value) queue (length-with_value_at held place value) (written-risen held place value) covered)
+  pub covered_written : (held : List (KeyShape × Timed V)) (queue : List (Reverse (ℕ × ℕ))) (index : ℕ) (value : V) (timed : Timed V) → slice_get (map (λ e. e.1) held) index ≡ Some timed → IsCovered held queue →
+      IsCovered (set_value_at held index (with_value timed value)) queue
+  covered_written held queue index value timed there covered =
+      subst (λ (es : List (KeyShape × Timed V)). IsCovered es queue) (sym (written_is held index value timed there))
+      (covered_risen held (with_value_at held index value) queue (length-with_value_at held index value) (written-risen held index value) covered)
 
-  -- what a map shows after a value was written at a place
-  pub written_shown : (held : List (KeyShape × Timed V)) (place : ℕ) (value : V) (timed : Timed V) (reserved : List KeyShape) → slice_get (map (λ e. e.1) held) place ≡ Some timed →
-      shown (set_value_at held place (with_value timed value)) reserved ≡ shown (with_value_at held place value) reserved
-  written_shown held place value timed reserved there = ap (λ (es : List (KeyShape × Timed V)). shown es reserved) (written_is held place value timed there)
+  -- what a map shows after a value was written at an index
+  pub written_shown : (held : List (KeyShape × Timed V)) (index : ℕ) (value : V) (timed : Timed V) (reserved : List KeyShape) → slice_get (map (λ e. e.1) held) index ≡ Some timed →
+      shown (set_value_at held index (with_value timed value)) reserved ≡ shown (with_value_at held index value) reserved
+  written_shown held index value timed reserved there = ap (λ (es : List (KeyShape × Timed V)). shown es reserved) (written_is held index value timed there)
 
-  -- the value at a place
-  pub value_there : (held : List (KeyShape × Timed V)) (place : ℕ) (timed : Timed V) (value : V) → slice_get (map (λ e. e.1) held) place ≡ Some timed → value ≡ timed.value → option_map (λ e. e.1.value) (slice_get held place) ≡ Some value
-  value_there [] place timed value there is = absurd (let h = there in cc)
+  -- the value at an index
+  pub value_there : (held : List (KeyShape × Timed V)) (index : ℕ) (timed : Timed V) (value : V) → slice_get (map (λ e. e.1) held) index ≡ Some timed → value ≡ timed.value → option_map (λ e. e.1.value) (slice_get held index) ≡ Some value
+  value_there [] index timed value there is = absurd (let h = there in cc)
   value_there (e ∷ held) zero timed value there is =
       let same : e.1 ≡ timed = (let h = there in cc) in
       ap (λ (t : Timed V). Some t.value) same ∙ ap (λ (v : V). Some v) (sym is)
-  value_there (e ∷ held) (suc place) timed value there is = value_there held place timed value there is
+  value_there (e ∷ held) (suc index) timed value there is = value_there held index timed value there is
 
   -- ---- a key that goes out
 
   -- the entry that leaves first
-  pub expires_at : (moment seconds place : ℕ) (held rest : List (KeyShape × Timed V)) (e : KeyShape × Timed V) → seconds ≡ moment → place < length held → slice_get held place ≡ Some e → IsEarliest seconds place held →
+  pub expires_at : (moment seconds index : ℕ) (held rest : List (KeyShape × Timed V)) (e : KeyShape × Timed V) → seconds ≡ moment → index < length held → slice_get held index ≡ Some e → IsEarliest seconds index held →
       Removes e.0 e.1 held rest → Expires moment e.0 e.1.value held rest
-  expires_at moment seconds place held rest e is within there earliest removes =
-      let at : get_or held place e ≡ e = get_or_from_slice_get held place e e there in record {
+  expires_at moment seconds index held rest e is within there earliest removes =
+      let at : get_or held index e ≡ e = get_or_from_slice_get held index e e there in record {
         until = e.1.until;
-        past = (let low : e.1.until ≤ seconds = subst (λ (x : KeyShape × Timed V). x.1.until ≤ seconds) at (earliest place e within).1 in omega (arith, low, is));
-        earliest = λ i d low. (let here : get_or held place d ≡ e = get_or_from_slice_get held place e d there in
+        past = (let low : e.1.until ≤ seconds = subst (λ (x : KeyShape × Timed V). x.1.until ≤ seconds) at (earliest index e within).1 in omega (arith, low, is));
+        earliest = λ i d low. (let here : get_or held index d ≡ e = get_or_from_slice_get held index e d there in
             subst (λ (x : KeyShape × Timed V). x.1.until ≤ (get_or held i d).1.until) here (earliest i d low).0);
         removed = removes;
       }
 
-  -- the entry at the place of a key is the key's
-  pub own_entry : (key : KeyShape) (held : List (KeyShape × Timed V)) (place : ℕ) (e : KeyShape × Timed V) → Some place ≡ position (same_key key) (keys_of held) → place < length held → slice_get held place ≡ Some e → e.0 ≡ key
-  own_entry key held place e found within there =
-      let at : get_or held place e ≡ e = get_or_from_slice_get held place e e there in
-      let passes : same_key key (get_or (keys_of held) place key) ≡ true = (position-Some (same_key key) (keys_of held) place key (sym found)).1 in
-      let owner : get_or (keys_of held) place key ≡ e.0 = get_or-map (λ (x : KeyShape × Timed V). x.0) held place e key within ∙ ap (λ (x : KeyShape × Timed V). x.0) at in
+  -- the entry at the index of a key is the key's
+  pub own_entry : (key : KeyShape) (held : List (KeyShape × Timed V)) (index : ℕ) (e : KeyShape × Timed V) → Some index ≡ position (same_key key) (keys_of held) → index < length held → slice_get held index ≡ Some e → e.0 ≡ key
+  own_entry key held index e found within there =
+      let at : get_or held index e ≡ e = get_or_from_slice_get held index e e there in
+      let passes : same_key key (get_or (keys_of held) index key) ≡ true = (position-Some (same_key key) (keys_of held) index key (sym found)).1 in
+      let owner : get_or (keys_of held) index key ≡ e.0 = get_or-map (λ (x : KeyShape × Timed V). x.0) held index e key within ∙ ap (λ (x : KeyShape × Timed V). x.0) at in
       sym ((same_key-Decides key e.0).0 (sym (ap (same_key key) owner) ∙ passes))
 
   -- the key that went

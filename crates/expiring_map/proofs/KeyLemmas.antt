@@ -7,11 +7,11 @@ use Rattle.query_normal.specs.declared.key.KeyShape.{KeyShape}
 use Rattle.query_normal.specs.Keys.{same_key}
 use Rattle.query_normal.specs.SameKey.{same_key-Decides}
 
--- what a set's look-up takes out is the key
-pub taken_is : (key copy : KeyShape) (keys : List KeyShape) → Some copy ≡ find (same_key key) keys → copy ≡ key
-taken_is key copy keys taken = subst (λ (o : Option KeyShape). IfSome o (λ k. k ≡ key)) (sym taken) (IfSome-find_same same_key-Decides key keys)
+-- the key that a look-up in a set removes is the key
+pub taken_is : (key taken_out : KeyShape) (keys : List KeyShape) → Some taken_out ≡ find (same_key key) keys → taken_out ≡ key
+taken_is key taken_out keys taken = subst (λ (o : Option KeyShape). IfSome o (λ k. k ≡ key)) (sym taken) (IfSome-find_same same_key-Decides key keys)
 
--- what came out of a list stood in it
+-- a key that was removed from a list was in it
 pub popped_is : (o : Option KeyShape) (old new : List KeyShape) → old ≡ new ++ option_to_list o → IfSome o (λ key. list_any (same_key key) old ≡ true)
 popped_is None old new is = tt
 popped_is (Some key) old new is =

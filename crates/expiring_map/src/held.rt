@@ -1,10 +1,10 @@
-//! The held keys, each at a place, and the queue of the places that are to be looked at.
+//! The held keys, each at an index, and the queue that says when to look at which index.
 //!
-//! 1. Each place has an entry in the queue no later than its key leaves.
-//! 2. A place that comes out of the queue earlier than its key leaves goes in again. So the first
-//!    that stays out is the one whose key leaves first.
-//! 3. Where a key goes out, the last key takes its place, so that place goes in again. An entry of
-//!    a place that no key has any more does nothing.
+//! 1. Each index has an entry in the queue no later than its key expires.
+//! 2. An index that leaves the queue earlier than its key expires is pushed again. So the first that
+//!    is not pushed again is that of the key that expires first.
+//! 3. Where a key is removed, the last key takes its index, and that index is pushed again. An entry
+//!    whose index no key has any more does nothing.
 ghost use Rattle.std.specs.Prelude.{◌≡◌, ℕ, ◌+◌, ◌-◌, ◌<◌, ◌≤◌, ◌↔◌, ◌∷◌, ◌++◌, [], true, false, slice_get, slice_index_or, length, None, Some, IsSome, IfSome, IfNone, All, OnSome};
 ghost use Rattle.std.specs.BinaryHeap.{IsHeap, heap_items, heap_len, heap_capacity};
 ghost use Rattle.indexmap.specs.IndexMap.{index_map_len, spare, insert_entry};
@@ -22,15 +22,15 @@ use indexmap::IndexMap;
 use query_normal::Key;
 
 /// Each held key with its second and its value.
-pub type Held<V> = IndexMap<Key, Timed<V>>;
+pub type EntryMap<V> = IndexMap<Key, Timed<V>>;
 
-/// Takes the key at a place out. The last key takes its place.
-pub fn drop_at<V: Drop>(held: &mut Held<V>, queue: &mut Queue, place: usize) -> (Key, Timed<V>)
-    requires within { place < index_map_len held.old }
+/// Removes the key at an index. The last key takes its index.
+pub fn drop_at<V: Drop>(held: &mut EntryMap<V>, queue: &mut Queue, index: usize) -> (Key, Timed<V>)
+    requires within { index < index_map_len held.old }
     requires ordered { IsHeap queue_cmp (heap_items queue.old) }
-    requires covered { IsCoveredBut place held.old.entries (heap_items queue.old) }
-    requires room { heap_len queue.old < heap_capacity queue.old }
-    ensures entry { slice_get held.old.entries place ≡ Some result }
+    requires covered { IsCoveredBut index held.old.entries (heap_items queue.old) }
+    requires space { heap_len queue.old < heap_capacity queue.old }
+    ensures entry { slice_get held.old.entries index ≡ Some result }
     ensures removes { Removes result.0 result.1 held.old.entries held.new.entries }
     ensures distinct { IsDistinct same_key (keys_of held.new.entries) }
     ensures len { index_map_len held.new + 1 ≡ index_map_len held.old }
@@ -40,50 +40,50 @@ pub fn drop_at<V: Drop>(held: &mut Held<V>, queue: &mut Queue, place: usize) -> 
     ensures queue_len { heap_len queue.new ≤ heap_len queue.old + 1 }
     ensures capacity { heap_capacity queue.old ≤ heap_capacity queue.new }
 {
-    match held.swap_remove_index(place) {
+    match held.swap_remove_index(index) {
         None => unreachable!(),
         Some((key, timed)) => {
-            cover(held, queue, place);
+            cover(held, queue, index);
             (key, timed)
         }
     }
 }
 
-/// Puts a place into the queue whose key came from another place.
-fn cover<V>(held: &Held<V>, queue: &mut Queue, place: usize)
+/// Pushes an index whose key came from another index.
+fn cover<V>(held: &EntryMap<V>, queue: &mut Queue, index: usize)
     requires ordered { IsHeap queue_cmp (heap_items queue.old) }
-    requires covered { IsCoveredBut place held.now.entries (heap_items queue.old) }
-    requires room { heap_len queue.old < heap_capacity queue.old }
+    requires covered { IsCoveredBut index held.now.entries (heap_items queue.old) }
+    requires space { heap_len queue.old < heap_capacity queue.old }
     ensures ordered { IsHeap queue_cmp (heap_items queue.new) }
     ensures covered { IsCovered held.now.entries (heap_items queue.new) }
     ensures len { heap_len queue.new ≤ heap_len queue.old + 1 }
     ensures capacity { heap_capacity queue.old ≤ heap_capacity queue.new }
 {
-    match until_at(held, place) {
+    match until_at(held, index) {
         None => {}
-        Some(until) => push_due(queue, until, place),
+        Some(until) => push_due(queue, until, index),
     }
 }
 
-/// The second at which the key at a place leaves.
-fn until_at<V>(held: &Held<V>, place: usize) -> Option<u64>
-    ensures until { IfSome result (λ until. (d : AKey × ATimed V) → (slice_index_or held.now.entries place d).1.until ≡ until) }
-    ensures within { IsSome result ↔ (place < index_map_len held.now) }
+/// The second at which the key at an index expires.
+fn until_at<V>(held: &EntryMap<V>, index: usize) -> Option<u64>
+    ensures until { IfSome result (λ until. (d : AKey × ATimed V) → (slice_index_or held.now.entries index d).1.until ≡ until) }
+    ensures within { IsSome result ↔ (index < index_map_len held.now) }
 {
-    match held.get_index(place) {
+    match held.get_index(index) {
         None => None,
         Some((_, timed)) => Some(timed.until),
     }
 }
 
-/// Whether a key at a place leaves at a second or before; one that leaves later is put into the
-/// queue again.
-fn leaves<V>(held: &Held<V>, queue: &mut Queue, due: u64, place: usize) -> bool
+/// Whether the key at an index expires at a second or before. An index whose key expires later is
+/// pushed again.
+fn leaves<V>(held: &EntryMap<V>, queue: &mut Queue, due: u64, index: usize) -> bool
     requires ordered { IsHeap queue_cmp (heap_items queue.old) }
-    requires covered { IsCoveredBut place held.now.entries (heap_items queue.old) }
-    requires room { heap_len queue.old < heap_capacity queue.old }
-    ensures within { result ≡ true → place < index_map_len held.now }
-    ensures past { result ≡ true → (d : AKey × ATimed V) → (slice_index_or held.now.entries place d).1.until ≤ due }
+    requires covered { IsCoveredBut index held.now.entries (heap_items queue.old) }
+    requires space { heap_len queue.old < heap_capacity queue.old }
+    ensures within { result ≡ true → index < index_map_len held.now }
+    ensures past { result ≡ true → (d : AKey × ATimed V) → (slice_index_or held.now.entries index d).1.until ≤ due }
     ensures same { result ≡ true → heap_items queue.new ≡ heap_items queue.old }
     ensures same_len { result ≡ true → heap_len queue.new ≡ heap_len queue.old }
     ensures covered { result ≡ false → IsCovered held.now.entries (heap_items queue.new) }
@@ -92,11 +92,11 @@ fn leaves<V>(held: &Held<V>, queue: &mut Queue, due: u64, place: usize) -> bool
     ensures ordered { IsHeap queue_cmp (heap_items queue.new) }
     ensures capacity { heap_capacity queue.old ≤ heap_capacity queue.new }
 {
-    match until_at(held, place) {
+    match until_at(held, index) {
         None => false,
         Some(until) => {
             if due < until {
-                push_due(queue, until, place);
+                push_due(queue, until, index);
                 return false;
             }
             true
@@ -104,14 +104,14 @@ fn leaves<V>(held: &Held<V>, queue: &mut Queue, due: u64, place: usize) -> bool
     }
 }
 
-/// Takes the place out of the queue whose key leaves first, if that is at or before the moment.
-pub fn pop_place<V>(held: &Held<V>, queue: &mut Queue, moment: u64) -> Option<usize>
+/// Pops the index of the key that expires first, if that is at or before the moment.
+pub fn pop_index<V>(held: &EntryMap<V>, queue: &mut Queue, moment: u64) -> Option<usize>
     requires ordered { IsHeap queue_cmp (heap_items queue.old) }
     requires covered { IsCovered held.now.entries (heap_items queue.old) }
-    requires room { heap_len queue.old ≤ heap_capacity queue.old }
-    ensures within { IfSome result (λ place. place < index_map_len held.now) }
-    ensures earliest { IfSome result (λ place. IsEarliest moment place held.now.entries) }
-    ensures others { IfSome result (λ place. IsCoveredBut place held.now.entries (heap_items queue.new)) }
+    requires space { heap_len queue.old ≤ heap_capacity queue.old }
+    ensures within { IfSome result (λ index. index < index_map_len held.now) }
+    ensures earliest { IfSome result (λ index. IsEarliest moment index held.now.entries) }
+    ensures others { IfSome result (λ index. IsCoveredBut index held.now.entries (heap_items queue.new)) }
     ensures fewer { OnSome result (heap_len queue.new < heap_len queue.old) }
     ensures later { IfNone result (All (λ e. moment < e.1.until) held.now.entries) }
     ensures distinct { IsDistinct same_key (keys_of held.now.entries) }
@@ -121,21 +121,21 @@ pub fn pop_place<V>(held: &Held<V>, queue: &mut Queue, moment: u64) -> Option<us
     ensures capacity { heap_capacity queue.old ≤ heap_capacity queue.new }
 {
     let _len = held.len();
-    while let Some((due, place)) = pop_due(queue, moment) {
-        if leaves(held, queue, due, place) {
-            return Some(place);
+    while let Some((due, index)) = pop_due(queue, moment) {
+        if leaves(held, queue, due, index) {
+            return Some(index);
         }
     }
     None
 }
 
-/// Puts a new key in. It takes no memory.
-pub fn put<V: Drop>(held: &mut Held<V>, queue: &mut Queue, key: Key, timed: Timed<V>)
+/// Adds a new key. It allocates nothing.
+pub fn put<V: Drop>(held: &mut EntryMap<V>, queue: &mut Queue, key: Key, timed: Timed<V>)
     requires absent { lookup (same_key key) held.old.entries ≡ None }
     requires spare { 0 < spare held.old }
     requires ordered { IsHeap queue_cmp (heap_items queue.old) }
     requires covered { IsCovered held.old.entries (heap_items queue.old) }
-    requires room { heap_len queue.old < heap_capacity queue.old }
+    requires space { heap_len queue.old < heap_capacity queue.old }
     ensures entries { held.new.entries ≡ held.old.entries ++ (key, timed) ∷ [] }
     ensures distinct { IsDistinct same_key (keys_of held.new.entries) }
     ensures len { index_map_len held.new ≡ index_map_len held.old + 1 }
@@ -149,8 +149,8 @@ pub fn put<V: Drop>(held: &mut Held<V>, queue: &mut Queue, key: Key, timed: Time
     insert(held, key, timed);
 }
 
-/// Puts a new key into the map. It takes no memory.
-fn insert<V: Drop>(held: &mut Held<V>, key: Key, timed: Timed<V>)
+/// Inserts a new key into the map. It allocates nothing.
+fn insert<V: Drop>(held: &mut EntryMap<V>, key: Key, timed: Timed<V>)
     requires absent { lookup (same_key key) held.old.entries ≡ None }
     requires spare { 0 < spare held.old }
     ensures entries { held.new.entries ≡ insert_entry same_key held.old.entries key timed }
@@ -164,13 +164,13 @@ fn insert<V: Drop>(held: &mut Held<V>, key: Key, timed: Timed<V>)
     }
 }
 
-/// Gives the key at a place the later second. It takes no memory.
-pub fn extend<V>(held: &mut Held<V>, place: usize, until: u64)
-    requires { place < index_map_len held.old }
-    ensures entries { held.new.entries ≡ extended_at held.old.entries place until }
+/// Gives the key at an index the later of two seconds. It allocates nothing.
+pub fn extend<V>(held: &mut EntryMap<V>, index: usize, until: u64)
+    requires { index < index_map_len held.old }
+    ensures entries { held.new.entries ≡ extended_at held.old.entries index until }
     ensures len { index_map_len held.new ≡ index_map_len held.old }
     ensures spare { spare held.new ≡ spare held.old }
 {
-    let timed = &mut held[place];
+    let timed = &mut held[index];
     timed.until = timed.until.max(until);
 }

@@ -1,4 +1,4 @@
-//! Keys that leave by themselves, each with the second at which it leaves and a value.
+//! A map whose keys expire, each at its own second.
 #![tactic(auto)]
 
 mod held;

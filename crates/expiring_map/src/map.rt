@@ -1,4 +1,4 @@
-//! The map of keys that leave by themselves.
+//! The map of keys that expire.
 ghost use Rattle.std.specs.Prelude.{◌≡◌, ℕ, ◌+◌, ◌*◌, ◌^◌, ◌<◌, ◌≤◌, not, ◌&&◌, ◌||◌, true, false, [], ◌∷◌, ◌++◌, IsTrue, IfOk, OnOk, OnErr, IfSome, IfNone, OnSome, All, length, map, position, slice_get, is_some, option_map, option_copied, None, Some};
 ghost use Rattle.std.specs.List.{list_any, IsDistinct};
 ghost use Rattle.std.specs.Map.{lookup, keys_of};
@@ -11,9 +11,9 @@ ghost use Rattle.expiring_map.specs.declared.timed.Timed.{Timed as ATimed};
 ghost use Rattle.expiring_map.specs.Entries.{Removes, Expires, extended_at};
 ghost use Rattle.expiring_map.specs.Map.{no_keys, is_reserved};
 
-use crate::held::{Held, drop_at, extend, pop_place, put};
+use crate::held::{EntryMap, drop_at, extend, pop_index, put};
 use crate::queue::Queue;
-use crate::reserved::Reserved;
+use crate::reserved::ReservedKeys;
 use crate::timed::Timed;
 use indexmap::IndexMap;
 use q_base::{Memory, Moment};
@@ -25,9 +25,9 @@ use std::marker::Model;
 /// Keys, each with the second at which it leaves and a value.
 #[derive(Drop)]
 pub struct ExpiringMap<V> {
-    held: Held<V>,
+    held: EntryMap<V>,
     queue: Queue,
-    reserved: Reserved,
+    reserved: ReservedKeys,
 }
 
 impl<V> Model for ExpiringMap<V> {
@@ -44,8 +44,8 @@ impl<V> Model for ExpiringMap<V> {
     ghost invariant = { λ m. record {
       ordered : IsHeap queue_cmp (heap_items m.queue);
       covered : IsCovered m.held.entries (heap_items m.queue);
-      map_room : length m.reserved ≤ spare m.held;
-      queue_room : heap_len m.queue + index_map_len m.held + 2 * length m.reserved ≤ heap_capacity m.queue;
+      map_space : length m.reserved ≤ spare m.held;
+      queue_space : heap_len m.queue + index_map_len m.held + 2 * length m.reserved ≤ heap_capacity m.queue;
     } };
 }
 
@@ -59,12 +59,11 @@ impl<V: Drop> ExpiringMap<V> {
         ExpiringMap {
             held: IndexMap::new(alloc),
             queue: BinaryHeap::new(alloc),
-            reserved: Reserved::new(alloc),
+            reserved: ReservedKeys::new(alloc),
         }
     }
 
-    /// Makes room for a key, so that it can be put in without memory. What was reserved before stays
-    /// so.
+    /// Reserves space for a key, so that its `put` allocates nothing. Earlier reservations stay.
     pub fn reserve(&mut self, key: &Key) -> Result<(), Memory>
         ensures ok { OnOk result (IsTrue (is_reserved self.new key.now)) }
         ensures others { (other : AKey) → same_key key.now other ≡ false → is_reserved self.new other ≡ is_reserved self.old other }
@@ -75,8 +74,8 @@ impl<V: Drop> ExpiringMap<V> {
         if self.reserved.contains(key) {
             return Ok(());
         }
-        let copy = key.clone()?;
-        stash(&mut self.held, &mut self.queue, &mut self.reserved, copy)
+        let owned = key.clone()?;
+        reserve_new(&mut self.held, &mut self.queue, &mut self.reserved, owned)
     }
 
     /// Whether a key is reserved.
@@ -86,7 +85,7 @@ impl<V: Drop> ExpiringMap<V> {
         self.reserved.contains(key)
     }
 
-    /// How many keys are reserved.
+    /// The number of reserved keys.
     pub fn reserved(&self) -> usize
         ensures len { result ≡ length self.now.reserved }
         ensures small { result ≤ 2 ^ 63 }
@@ -94,7 +93,7 @@ impl<V: Drop> ExpiringMap<V> {
         self.reserved.len()
     }
 
-    /// Gives back what was reserved for a key.
+    /// Drops the reservation of a key.
     pub fn release(&mut self, key: &Key)
         ensures reserved { (other : AKey) → is_reserved self.new other ≡ (not (same_key key.now other) && is_reserved self.old other) }
         ensures len { length self.new.reserved ≤ length self.old.reserved }
@@ -104,15 +103,15 @@ impl<V: Drop> ExpiringMap<V> {
         self.reserved.leave_out(key);
     }
 
-    /// Gives back what was reserved and not used.
+    /// Drops the reservations that were not used.
     pub fn forget_reserved(&mut self)
         ensures { self.new ≡ record self.old { reserved = [] } }
     {
         self.reserved.clear();
     }
 
-    /// Puts in a reserved key that is not held, with its second and its value, and uses its
-    /// reservation up. It takes no memory.
+    /// Adds a reserved key that is not held, with its second and its value, and uses its reservation up.
+    /// It allocates nothing.
     pub fn put(&mut self, key: &Key, until: u64, value: V)
         requires reserved { IsTrue (is_reserved self.old key.now) }
         requires absent { lookup (same_key key.now) self.old.entries ≡ None }
@@ -125,32 +124,32 @@ impl<V: Drop> ExpiringMap<V> {
         put(&mut self.held, &mut self.queue, key, Timed { until, value });
     }
 
-    /// The place of a key, which it has until a key goes out.
-    pub fn place_of(&self, key: &Key) -> Option<usize>
-        ensures place { result ≡ position (same_key key.now) (keys_of self.now.entries) }
+    /// The index of a key. It is valid until a key is removed.
+    pub fn index_of(&self, key: &Key) -> Option<usize>
+        ensures index { result ≡ position (same_key key.now) (keys_of self.now.entries) }
         ensures found { is_some result ≡ is_some (lookup (same_key key.now) self.now.entries) }
-        ensures within { IfSome result (λ place. place < length self.now.entries) }
-        ensures value { IfSome result (λ place. option_map (λ e. e.1) (slice_get self.now.entries place) ≡ lookup (same_key key.now) self.now.entries) }
+        ensures within { IfSome result (λ index. index < length self.now.entries) }
+        ensures value { IfSome result (λ index. option_map (λ e. e.1) (slice_get self.now.entries index) ≡ lookup (same_key key.now) self.now.entries) }
         ensures once { IsDistinct same_key (keys_of self.now.entries) }
     {
         self.held.get_index_of(key)
     }
 
-    /// Gives the key at a place the later second. It takes no memory.
-    pub fn extend(&mut self, place: usize, until: u64)
-        requires { place < length self.old.entries }
-        ensures { self.new ≡ record self.old { entries = extended_at self.old.entries place until } }
+    /// Gives the key at an index the later of two seconds. It allocates nothing.
+    pub fn extend(&mut self, index: usize, until: u64)
+        requires { index < length self.old.entries }
+        ensures { self.new ≡ record self.old { entries = extended_at self.old.entries index until } }
     {
-        extend(&mut self.held, place, until);
+        extend(&mut self.held, index, until);
     }
 
-    /// The value at a place, to write.
-    pub fn value_mut(&mut self, place: usize) -> &mut V
-        requires { place < length self.old.entries }
-        ensures* writes_back { sem 𝓛 (lends_value V.row self.entry place result) }
-        ensures value { option_map (λ e. e.1.value) (slice_get self.old.entries place) ≡ Some result.now }
+    /// The value at an index, for writing.
+    pub fn value_mut(&mut self, index: usize) -> &mut V
+        requires { index < length self.old.entries }
+        ensures* writes_back { sem 𝓛 (lends_value V.row self.entry index result) }
+        ensures value { option_map (λ e. e.1.value) (slice_get self.old.entries index) ≡ Some result.now }
     {
-        self.held[place].value_mut()
+        self.held[index].value_mut()
     }
 
     /// A key's second and value.
@@ -167,7 +166,7 @@ impl<V: Drop> ExpiringMap<V> {
         self.held.contains_key(key)
     }
 
-    /// How many keys are held, each once.
+    /// The number of held keys.
     pub fn len(&self) -> usize
         ensures len { result ≡ length self.now.entries }
         ensures once { IsDistinct same_key (keys_of self.now.entries) }
@@ -175,7 +174,7 @@ impl<V: Drop> ExpiringMap<V> {
         self.held.len()
     }
 
-    /// Takes a key out, if it is held.
+    /// Removes a key, if it is held.
     pub fn remove(&mut self, key: &Key) -> Option<Timed<V>>
         ensures some { IfSome result (λ timed. Removes key.now timed self.old.entries self.new.entries) }
         ensures none { IfNone result (lookup (same_key key.now) self.old.entries ≡ None) }
@@ -185,11 +184,11 @@ impl<V: Drop> ExpiringMap<V> {
     {
         match self.held.get_index_of(key) {
             None => None,
-            Some(place) => Some(drop_at(&mut self.held, &mut self.queue, place).1),
+            Some(index) => Some(drop_at(&mut self.held, &mut self.queue, index).1),
         }
     }
 
-    /// Takes out the key that leaves first, if its second is not above the moment.
+    /// Removes the key that expires first, if its second is not above the moment.
     pub fn next_expired(&mut self, moment: Moment) -> Option<(Key, V)>
         ensures some { IfSome result (λ e. Expires moment e.0 e.1 self.old.entries self.new.entries) }
         ensures none { IfNone result (All (λ e. moment < e.1.until) self.old.entries) }
@@ -197,39 +196,39 @@ impl<V: Drop> ExpiringMap<V> {
         ensures same { IfNone result (self.new ≡ self.old) }
         ensures reserved { self.new.reserved ≡ self.old.reserved }
     {
-        match pop_place(&self.held, &mut self.queue, moment.seconds()) {
+        match pop_index(&self.held, &mut self.queue, moment.seconds()) {
             None => None,
-            Some(place) => {
-                let (key, timed) = drop_at(&mut self.held, &mut self.queue, place);
+            Some(index) => {
+                let (key, timed) = drop_at(&mut self.held, &mut self.queue, index);
                 Some((key, timed.value))
             }
         }
     }
 }
 
-/// Keeps a key that is to be put in, with room for it in the map and in the queue.
-fn stash<V: Drop>(
-    held: &mut Held<V>,
+/// Reserves a new key, with space for it in the map and in the queue.
+fn reserve_new<V: Drop>(
+    held: &mut EntryMap<V>,
     queue: &mut Queue,
-    reserved: &mut Reserved,
+    reserved: &mut ReservedKeys,
     key: Key,
 ) -> Result<(), Memory>
-    requires map_room { length reserved.old ≤ spare held.old }
-    requires queue_room { heap_len queue.old + index_map_len held.old + 2 * length reserved.old ≤ heap_capacity queue.old }
+    requires map_space { length reserved.old ≤ spare held.old }
+    requires queue_space { heap_len queue.old + index_map_len held.old + 2 * length reserved.old ≤ heap_capacity queue.old }
     ensures entries { held.new.entries ≡ held.old.entries }
     ensures items { heap_items queue.new ≡ heap_items queue.old }
-    ensures map_room { length reserved.new ≤ spare held.new }
-    ensures queue_room { heap_len queue.new + index_map_len held.new + 2 * length reserved.new ≤ heap_capacity queue.new }
+    ensures map_space { length reserved.new ≤ spare held.new }
+    ensures queue_space { heap_len queue.new + index_map_len held.new + 2 * length reserved.new ≤ heap_capacity queue.new }
     ensures ok { OnOk result ((other : AKey) → list_any (same_key other) reserved.new ≡ (same_key key other || list_any (same_key other) reserved.old)) }
     ensures len { length reserved.new ≤ length reserved.old + 1 }
     ensures err { OnErr result (reserved.new ≡ reserved.old) }
 {
     let more = reserved.len() + 1;
-    let places = more
+    let entries = more
         .checked_mul(2)
-        .and_then(|places| places.checked_add(held.len()))
+        .and_then(|entries| entries.checked_add(held.len()))
         .ok_or(Memory)?;
     held.reserve(more)?;
-    queue.reserve(places)?;
+    queue.reserve(entries)?;
     reserved.add(key)
 }

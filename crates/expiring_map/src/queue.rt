@@ -1,4 +1,4 @@
-//! The places that are due, the earliest first.
+//! The queue of due indexes, the earliest first.
 ghost use Rattle.std.specs.Prelude.{◌≡◌, ℕ, ◌+◌, ◌<◌, ◌≤◌, ◌∷◌, IfSome, IfNone, All};
 ghost use Rattle.std.specs.List.Sorted.{IsPermutation};
 ghost use Rattle.std.specs.BinaryHeap.{IsHeap, heap_items, heap_len, heap_capacity};
@@ -7,10 +7,10 @@ ghost use Rattle.expiring_map.specs.Due.{due, queue_cmp};
 use std::cmp::Reverse;
 use std::collections::BinaryHeap;
 
-/// Seconds, each with the place that is to be looked at then.
+/// Seconds, each with an index that is due then.
 pub type Queue = BinaryHeap<Reverse<(u64, usize)>>;
 
-/// Takes out the second and the place that is due first, if that is at or before the moment.
+/// Pops the second and the index that are due first, if that is at or before the moment.
 pub fn pop_due(queue: &mut Queue, moment: u64) -> Option<(u64, usize)>
     requires { IsHeap queue_cmp (heap_items queue.old) }
     ensures popped { IfSome result (λ d. IsPermutation (heap_items queue.old) (due d.0 d.1 ∷ heap_items queue.new)) }
@@ -28,21 +28,21 @@ pub fn pop_due(queue: &mut Queue, moment: u64) -> Option<(u64, usize)>
         return None;
     }
     match queue.pop() {
-        Some(Reverse((until, place))) => Some((until, place)),
+        Some(Reverse((until, index))) => Some((until, index)),
         None => None,
     }
 }
 
-/// Puts in a place that is due at a second. It takes no memory.
-pub fn push_due(queue: &mut Queue, until: u64, place: usize)
+/// Pushes an index that is due at a second. It allocates nothing.
+pub fn push_due(queue: &mut Queue, until: u64, index: usize)
     requires ordered { IsHeap queue_cmp (heap_items queue.old) }
-    requires room { heap_len queue.old < heap_capacity queue.old }
-    ensures pushed { IsPermutation (due until place ∷ heap_items queue.old) (heap_items queue.new) }
+    requires space { heap_len queue.old < heap_capacity queue.old }
+    ensures pushed { IsPermutation (due until index ∷ heap_items queue.old) (heap_items queue.new) }
     ensures len { heap_len queue.new ≡ heap_len queue.old + 1 }
     ensures ordered { IsHeap queue_cmp (heap_items queue.new) }
     ensures capacity { heap_capacity queue.old ≤ heap_capacity queue.new }
 {
-    match queue.push(Reverse((until, place))) {
+    match queue.push(Reverse((until, index))) {
         Ok(()) => {}
         Err(_) => unreachable!(),
     }

@@ -1,4 +1,4 @@
-//! The keys of which a copy may be issued without memory. There is seldom more than one.
+//! The keys with a reservation. There is seldom more than one.
 ghost use Rattle.std.specs.Prelude.{◌≡◌, ◌+◌, ◌<◌, ◌≤◌, ◌^◌, not, ◌&&◌, ◌||◌, [], length, IsTrue, OnOk, OnErr};
 ghost use Rattle.std.specs.List.{list_any};
 ghost use Rattle.query_normal.specs.declared.key.KeyShape.{KeyShape as AKey};
@@ -11,15 +11,15 @@ use query_normal::Key;
 use std::alloc::Global;
 use std::marker::Model;
 
-/// Keys, of which the first takes no memory of its own and is found by a comparison.
+/// Keys, of which the first is stored inline and found by one comparison.
 #[derive(Drop)]
-pub struct Reserved {
+pub struct ReservedKeys {
     first: Option<Key>,
-    /// Those that came while there was a first one.
+    /// The keys that were added while there was a first one.
     others: IndexSet<Key>,
 }
 
-impl Model for Reserved {
+impl Model for ReservedKeys {
     ghost use Rattle.std.specs.Prelude.{List, ◌++◌, option_to_list};
     ghost use Rattle.query_normal.specs.declared.key.KeyShape.{KeyShape};
 
@@ -28,18 +28,18 @@ impl Model for Reserved {
     ghost view = { λ r. option_to_list r.first ++ r.others.keys };
 }
 
-impl Reserved {
+impl ReservedKeys {
     /// No key.
-    pub fn new(alloc: Global) -> Reserved
+    pub fn new(alloc: Global) -> ReservedKeys
         ensures { result ≡ [] }
     {
-        Reserved {
+        ReservedKeys {
             first: None,
             others: IndexSet::new(alloc),
         }
     }
 
-    /// How many keys there are.
+    /// The number of keys.
     pub fn len(&self) -> usize
         ensures len { result ≡ length self.now }
         ensures small { result ≤ 2 ^ 63 }
@@ -60,7 +60,7 @@ impl Reserved {
         }
     }
 
-    /// Puts a key in.
+    /// Adds a key.
     pub fn add(&mut self, key: Key) -> Result<(), Memory>
         ensures ok { OnOk result ((other : AKey) → list_any (same_key other) self.new ≡ (same_key other key || list_any (same_key other) self.old)) }
         ensures len { length self.new ≤ length self.old + 1 }
@@ -76,7 +76,7 @@ impl Reserved {
         }
     }
 
-    /// Takes a key out that is among them.
+    /// Removes a key that is among them.
     pub fn take(&mut self, key: &Key) -> Key
         requires { IsTrue (list_any (same_key key.now) self.old) }
         ensures key { result ≡ key.now }
@@ -96,7 +96,7 @@ impl Reserved {
         take_key(&mut self.others, key)
     }
 
-    /// Leaves a key out, if it is among them.
+    /// Removes a key, if it is among them.
     pub fn leave_out(&mut self, key: &Key)
         ensures left { (other : AKey) → list_any (same_key other) self.new ≡ (not (same_key key.now other) && list_any (same_key other) self.old) }
         ensures len { length self.new ≤ length self.old }
@@ -107,7 +107,7 @@ impl Reserved {
         }
     }
 
-    /// Takes all out, and keeps the room of the others.
+    /// Removes all keys, and keeps the capacity of the others.
     pub fn clear(&mut self)
         ensures { self.new ≡ [] }
     {

@@ -3,14 +3,20 @@
 use crate::ExpiringMap;
 use q_base::{Moment, Name};
 use query_normal::Key;
+use std::alloc::Global;
 use std::test::Fail;
 
+/// The key of r/shop/p1.
+fn record_key(alloc: Global) -> Result<Key, Fail> {
+    let collection = Name::read(alloc, b"shop")?;
+    let id = Name::read(alloc, b"p1")?;
+    Ok(Key::record(alloc, collection, id)?)
+}
+
 #[test]
-fn a_reserved_key_is_put_in_where_there_is_memory(rt: HostRuntime) -> Result<(), Fail> {
+fn a_reserved_key_is_added_where_there_is_memory(rt: HostRuntime) -> Result<(), Fail> {
+    let key = record_key(rt.alloc())?;
     let mut map = ExpiringMap::<u8>::new(rt.alloc());
-    let collection = Name::read(rt.alloc(), b"shop")?;
-    let id = Name::read(rt.alloc(), b"p1")?;
-    let key = Key::record(rt.alloc(), collection, id)?;
     map.reserve(&key)?;
     if !map.contains(&key) && map.reserves(&key) {
         map.put(&key, 10, 7);

@@ -44,7 +44,7 @@ bit_at-number_of (bit ∷ bits) (suc i) =
     ∙ ap (λ n. bit_at n i) (half_of bit (number_of bits))
     ∙ bit_at-number_of bits i
 
--- a number of so many bits
+-- a number of bits is below a power of 2
 pub number_of-lt : (bits : List Bool) → number_of bits < 2 ^ length bits
 number_of-lt [] = lit< tt
 number_of-lt (bit ∷ bits) =

@@ -1,5 +1,5 @@
 pub mod ByteLemmas
 pub mod ReadLemmas
-pub mod SpellingLemmas
+pub mod EncodingLemmas
 pub mod StandardFacts
 pub mod WriteLemmas

@@ -12,7 +12,7 @@ use Rattle.q_base.specs.Moment.{greatest_moment}
 use Rattle.flat_snapshot.specs.PageText.{IsPage, page_with}
 use Rattle.flat_snapshot.specs.Reading.{word_at, page_in, first_bad_field, bad_field_in, size_of, read_sized, read_page}
 
--- positions below the number of bits stand in the bytes
+-- positions below the number of bits are within the bytes
 pub places_within : (bytes positions : List ℕ) (size : ℕ) → length (flat_bits bytes) ≡ size → All (λ p. p < size) positions → All (λ p. p / 8 < length bytes) positions
 places_within bytes positions size long within k d low =
     let count = length-flat_bits bytes in
@@ -25,7 +25,7 @@ list_all_same p q [] same = refl
 list_all_same p q (x ∷ xs) same =
     ap₂ (λ a b. a && b) (same 0 0 (omega arith)) (list_all_same p q xs (λ k d low. same (suc k) d (omega arith)))
 
--- the places in the bytes are the bits of the page
+-- the bits of the bytes are the bits of the page
 pub all_bits_set : (page : Page) (bytes positions : List ℕ) (size : ℕ) → page.bits ≡ flat_bits bytes → length (flat_bits bytes) ≡ size → All (λ p. p < size) positions →
     list_all (is_bit_set bytes) positions ≡ list_all (is_set page) positions
 all_bits_set page bytes positions size bits long within =
@@ -45,7 +45,7 @@ all_false false false true d h = absurd (let e = h in cc)
 all_false false false false true h = absurd (let e = h in cc)
 all_false false false false false h = (refl, refl, refl, refl)
 
--- where two refusals did not come
+-- where neither of two refusals comes
 no_refusal : (a b : Bool) (x y : PageRefusal) (r : Result Page PageRefusal) (page : Page) → (if a then Err x else (if b then Err y else r)) ≡ Ok page →
     (a ≡ false) × (b ≡ false) × (r ≡ Ok page)
 no_refusal true b x y r page h = absurd (let e = h in cc)
@@ -113,7 +113,7 @@ read_page-taken bytes t =
 -- the last step of reading
 sized_ok : (bytes : List ℕ) (page : Page) (field : Option ℕ) → read_sized bytes field ≡ Ok page →
     (field ≡ None) × (length bytes ≡ size_of (get_or bytes 5 0)) × (page_in bytes ≡ page)
-sized_ok bytes page (Some place) h = absurd (let e = h in cc)
+sized_ok bytes page (Some offset) h = absurd (let e = h in cc)
 sized_ok bytes page None h =
     let right = right_size (length bytes == size_of (get_or bytes 5 0)) (page_in bytes) _ page h in
     (refl, eqb-true _ _ right.0, right.1)

@@ -1,4 +1,4 @@
--- The text of a page in a room.
+-- The text of a page in a buffer.
 use Rattle.std.proofs.Common.{◌≡◌, ℕ, ◌+◌, ◌-◌, ◌*◌, ◌/◌, ◌%◌, ◌^◌, ◌<◌, ◌≤◌, Bool, true, false, List, ◌++◌, length, take, drop, set, get_or, replicate, refl, sym, ap, ap₂, ◌∙◌, arith, length-append, pow-add, lit<, bit_or}
 use Rattle.std.proofs.Math.Nat.{pow-le-pow_right, mod-eq_of_lt, one-mul}
 use Rattle.std.proofs.Math.Pow.{pow-lt}
@@ -18,7 +18,7 @@ pub length-head_text : (log2_bits hashes front commits moment : ℕ) → length 
 unfolding head_text
 length-head_text log2_bits hashes front commits moment = refl
 
--- what stands behind a head of a known length
+-- the bytes after a head of a known length
 pub after_head : (head rest : List ℕ) (n : ℕ) → length head ≡ n → drop n (head ++ rest) ≡ rest
 after_head head rest n long = ap (λ m. drop m (head ++ rest)) (sym long) ∙ drop-append_seam head rest
 
@@ -26,25 +26,25 @@ after_head head rest n long = ap (λ m. drop m (head ++ rest)) (sym long) ∙ dr
 pub head_again : (head rest : List ℕ) (n : ℕ) → length head ≡ n → take n (head ++ rest) ≡ head
 head_again head rest n long = ap (λ m. take m (head ++ rest)) (sym long) ∙ take-append_seam head rest
 
--- bytes written behind a head
-pub put_behind : (head room bytes : List ℕ) (n k : ℕ) → length head ≡ n →
-    put_mid n k (head ++ drop n room) bytes ≡ (head ++ bytes) ++ drop (n + k) room
-put_behind head room bytes n k long =
-    ap₂ (λ (front back : List ℕ). front ++ (bytes ++ back)) (head_again head (drop n room) n long)
-    (ap (λ (xs : List ℕ). drop k xs) (after_head head (drop n room) n long) ∙ drop-drop k n room)
-    ∙ sym (append_assoc head bytes (drop (n + k) room))
+-- bytes written after a head
+pub put_behind : (head buffer bytes : List ℕ) (n k : ℕ) → length head ≡ n →
+    put_mid n k (head ++ drop n buffer) bytes ≡ (head ++ bytes) ++ drop (n + k) buffer
+put_behind head buffer bytes n k long =
+    ap₂ (λ (front back : List ℕ). front ++ (bytes ++ back)) (head_again head (drop n buffer) n long)
+    (ap (λ (xs : List ℕ). drop k xs) (after_head head (drop n buffer) n long) ∙ drop-drop k n buffer)
+    ∙ sym (append_assoc head bytes (drop (n + k) buffer))
 
 -- the same, in the form of the code
-pub written_behind : (head room bytes before after : List ℕ) (k : ℕ) → length head ≡ 30 → before ≡ head ++ drop 30 room → after ≡ bytes →
-    put_mid 30 (30 + k - 30) before after ≡ (head ++ bytes) ++ drop (30 + k) room
-written_behind head room bytes before after k long was wrote =
+pub written_behind : (head buffer bytes before after : List ℕ) (k : ℕ) → length head ≡ 30 → before ≡ head ++ drop 30 buffer → after ≡ bytes →
+    put_mid 30 (30 + k - 30) before after ≡ (head ++ bytes) ++ drop (30 + k) buffer
+written_behind head buffer bytes before after k long was wrote =
     let n : ℕ = 30 + k - 30 in
     let e : 30 + k - 30 ≡ k = omega arith in
     ap (λ m. put_mid 30 m before after) e
     ∙ ap₂ (λ (xs ys : List ℕ). put_mid 30 k xs ys) was wrote
-    ∙ put_behind head room bytes 30 k long
+    ∙ put_behind head buffer bytes 30 k long
 
--- so many bits are whole bytes
+-- 2 ^ log2_bits bits are whole bytes
 pub eights : (log2_bits : ℕ) → 3 ≤ log2_bits → 8 * (2 ^ log2_bits / 8) ≡ 2 ^ log2_bits
 eights log2_bits least =
     let split : 3 + (log2_bits - 3) ≡ log2_bits = omega arith in
@@ -80,7 +80,7 @@ set_byte bits n position long within =
     ∙ ap (λ m. bytes_of (flat_bits (set (bytes_of bits) (position / 8) m))) new_is
     ∙ ap bytes_of (flat_bits-written (bytes_of bits) position _ true low written ∙ ap (λ (xs : List Bool). set xs position true) (flat_bits-bytes_of bits n long))
 
--- one bit of a page at the beginning of a room
+-- one bit of a page at the start of a buffer
 pub set_in_page : (head rest : List ℕ) (bits : List Bool) (n position : ℕ) → length head ≡ 30 → length bits ≡ 8 * n → position < length bits →
     set ((head ++ bytes_of bits) ++ rest) (30 + position / 8) (bit_or (get_or ((head ++ bytes_of bits) ++ rest) (30 + position / 8) 0) (2 ^ (position % 8)))
     ≡ (head ++ bytes_of (set bits position true)) ++ rest

@@ -1,4 +1,4 @@
--- The sentence of each reason why bytes are no page.
+-- Internal. The sentence of each reason why bytes are not a page.
 use Rattle.std.specs.Prelude.{ℕ, List, ◌++◌, codes, decimal}
 use Rattle.flat_snapshot.specs.declared.read.PageRefusal.{PageRefusal}
 use Rattle.flat_snapshot.specs.declared.read.PageRefusal.TheVariants.{BadSize, BadMark, BadField, Memory}

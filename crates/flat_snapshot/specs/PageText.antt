@@ -1,4 +1,4 @@
--- The text of a page, format 1.
+-- Believed. The text of a page, format 1.
 use Rattle.std.specs.Prelude.{◌≡◌, ℕ, ◌+◌, ◌*◌, ◌/◌, ◌^◌, ◌<◌, ◌≤◌, Bool, false, if◌then◌else◌, List, [], ◌∷◌, ◌++◌, length, map, take, drop, replicate, codes}
 use Rattle.std.specs.List.{range_with_len}
 use Rattle.std.specs.Int.{w64, to_be_bytes}
@@ -6,7 +6,7 @@ use Rattle.query_normal.specs.Bits.{flat_bits}
 use Rattle.q_base.specs.Moment.{greatest_moment}
 use Rattle.query_normal.specs.Pages.{Page, least_log2_bits, most_log2_bits, fewest_hashes, most_hashes}
 
--- bits as a number, the first the least
+-- bits as a number, the lowest first
 abbrev pub number_of : List Bool → ℕ
 number_of [] = 0
 number_of (bit ∷ bits) = (if bit then 1 else 0) + 2 * number_of bits

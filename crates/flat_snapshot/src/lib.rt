@@ -1,4 +1,4 @@
-//! Pages: which copies are outdated, as a flat text of bytes.
+//! Pages, which say what copies are outdated, and their encoding as bytes.
 #![tactic(auto)]
 
 mod laws;
@@ -6,7 +6,7 @@ mod page;
 mod read;
 mod write;
 
-pub use laws::pages_have_one_spelling;
+pub use laws::pages_have_one_encoding;
 pub use page::Page;
 pub use read::PageRefusal;
 pub use write::{set_bit, write_head, write_page};

@@ -1,4 +1,4 @@
-//! A page that was read.
+//! Pages that were read.
 ghost use Rattle.std.specs.Prelude.{◌≡◌, ◌<◌, ◌≤◌, ◌/◌, ◌++◌, All, ◌⊎◌, length, drop};
 ghost use Rattle.std.specs.List.{list_all};
 ghost use Rattle.query_normal.specs.Bits.{is_bit_set};
@@ -13,8 +13,8 @@ use query_normal::{Key, bits};
 use std::alloc::Global;
 use std::marker::Model;
 
-/// Which copies are outdated: a front, the number of commits, a moment, and a bit for each position
-/// of the keys of outdated copies.
+/// The keys of outdated copies as a Bloom filter (Bloom 1970), with a front, the number of commits and a
+/// moment: the expiring filter of Quaestor (Gessert et al., VLDB 2017).
 #[derive(Debug, Drop)]
 pub struct Page {
     log2_bits: u8,
@@ -38,7 +38,7 @@ impl Model for Page {
 }
 
 impl Page {
-    /// The page that bytes spell. Want of memory alone may stand in the place of its answer.
+    /// Reads a page from its text.
     pub fn read(alloc: Global, bytes: &[u8]) -> Result<Page, PageRefusal>
         ensures { (result ≡ Err PageRefusal.Memory) ⊎ (result ≡ read_page bytes.now) }
     {
@@ -77,7 +77,7 @@ impl Page {
         }
     }
 
-    /// Whether all bits of the key are set.
+    /// Whether all bits of the key are set, so that its copies may be outdated.
     pub fn holds(&self, key: &Key) -> bool
         ensures { result ≡ page_holds self.now key.now }
     {
@@ -85,7 +85,7 @@ impl Page {
         all_set(&self.bits, positions.as_slice())
     }
 
-    /// The number of commits that were matched.
+    /// The front: the commits up to it were matched.
     pub fn front(&self) -> Commit
         ensures front { result ≡ self.now.front }
         ensures page { IsPage self.now }
@@ -100,21 +100,21 @@ impl Page {
         self.commits
     }
 
-    /// The clock at which the bits were those of the unexpired outdated copies.
+    /// The clock at which the page was made.
     pub fn moment(&self) -> Moment
         ensures { result ≡ self.now.moment }
     {
         self.moment
     }
 
-    /// Writes the page's text into the room and answers its length. The rest of the room stays.
-    pub fn write_into(&self, room: &mut [u8]) -> usize
-        requires { length (page_text self.now) ≤ length room.old }
+    /// Writes the page's text to the start of the buffer and returns its length.
+    pub fn write_into(&self, buffer: &mut [u8]) -> usize
+        requires { length (page_text self.now) ≤ length buffer.old }
         ensures length { result ≡ length (page_text self.now) }
-        ensures written { room.new ≡ page_text self.now ++ drop result room.old }
+        ensures written { buffer.new ≡ page_text self.now ++ drop result buffer.old }
     {
         write_page(
-            room,
+            buffer,
             self.log2_bits,
             self.hashes,
             self.front,
@@ -125,7 +125,7 @@ impl Page {
     }
 }
 
-/// Whether the bits at all these places are set.
+/// Whether the bits at all these positions are set.
 fn all_set(bytes: &[u8], positions: &[u32]) -> bool
     requires { All (λ p. p / 8 < length bytes.now) positions.now }
     ensures { result ≡ list_all (is_bit_set bytes.now) positions.now }

@@ -1,4 +1,4 @@
-//! The parts of a page's text, as they are read.
+//! Reading the parts of a page's text.
 ghost use Rattle.std.specs.Prelude.{◌≡◌, ◌+◌, ◌≤◌, length, take, bytes_eq, codes};
 ghost use Rattle.flat_snapshot.specs.Reading.{word_at, first_bad_field};
 
@@ -21,15 +21,15 @@ const LEAST_LOG2_BITS: u8 = 10;
 /// The greatest exponent of a page's size.
 const MOST_LOG2_BITS: u8 = 22;
 
-/// Why bytes are no page. The first that holds, in this order, is the answer: fewer bytes than a
-/// head has, the mark, a field by its place, the number of bytes.
+/// Why bytes are not a page. The first cause, in this order, is returned: fewer bytes than a head has,
+/// the first four bytes, a field by its offset, the number of bytes.
 #[derive(Clone, Copy, Debug, PartialEq, Eq)]
 pub enum PageRefusal {
-    /// There are not so many bytes as there must be.
+    /// The number of bytes is wrong.
     BadSize {
-        /// How many there must be.
+        /// The number of bytes that a page must have.
         want: usize,
-        /// How many there are.
+        /// The number of bytes that there are.
         found: usize,
     },
     /// The first four bytes are not `QSF1`.
@@ -39,7 +39,7 @@ pub enum PageRefusal {
         /// The offset of its first byte.
         place: usize,
     },
-    /// There was no memory for the page.
+    /// Memory ran out.
     Memory,
 }
 
@@ -77,11 +77,11 @@ pub fn has_mark(bytes: &[u8]) -> bool
 }
 
 /// Eight bytes as a number, the high byte first.
-pub fn word_at(bytes: &[u8], place: usize) -> u64
-    requires { place + 8 ≤ length bytes.now }
-    ensures { result ≡ word_at bytes.now place }
+pub fn word_at(bytes: &[u8], offset: usize) -> u64
+    requires { offset + 8 ≤ length bytes.now }
+    ensures { result ≡ word_at bytes.now offset }
 {
-    match <[u8; 8]>::try_from(&bytes[place..place + 8]) {
+    match <[u8; 8]>::try_from(&bytes[offset..offset + 8]) {
         Ok(word) => u64::from_be_bytes(word),
         Err(_) => unreachable!(),
     }

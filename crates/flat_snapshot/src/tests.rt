@@ -1,13 +1,14 @@
-//! What no clause says: outside vectors, and that a page is read where there is memory.
+//! What no clause says: known vectors, and that a page is read where there is memory.
 
 use crate::{Page, PageRefusal, set_bit, write_head};
 use q_base::{Moment, Name, positions_of};
 use query_normal::Key;
+use std::alloc::Global;
 use std::test::Fail;
 
 #[test]
 fn heads_are_refused_as_in_the_vectors(rt: HostRuntime) -> Result<(), Fail> {
-    // The first bytes, the number of bytes, of which the others are zeros, and the answer.
+    // The first bytes, the length with zeros behind them, and the refusal.
     let cases: [(&[u8], usize, PageRefusal); 9] = [
         (b"", 0, PageRefusal::BadSize { want: 30, found: 0 }),
         (b"QSF", 3, PageRefusal::BadSize { want: 30, found: 3 }),
@@ -34,9 +35,9 @@ fn heads_are_refused_as_in_the_vectors(rt: HostRuntime) -> Result<(), Fail> {
             },
         ),
     ];
-    for (front, size, want) in cases {
+    for (prefix, size, want) in cases {
         let mut bytes = vec![in rt.alloc(); 0u8; size]?;
-        for (i, byte) in front.iter().enumerate() {
+        for (i, byte) in prefix.iter().enumerate() {
             if i < bytes.len() {
                 bytes[i] = *byte;
             }
@@ -49,23 +50,36 @@ fn heads_are_refused_as_in_the_vectors(rt: HostRuntime) -> Result<(), Fail> {
     Ok(())
 }
 
+/// The key of r/shop/p1.
+fn record_key(alloc: Global) -> Result<Key, Fail> {
+    let collection = Name::read(alloc, b"shop")?;
+    let id = Name::read(alloc, b"p1")?;
+    Ok(Key::record(alloc, collection, id)?)
+}
+
+/// The page at the start of a buffer.
+fn page_in(alloc: Global, buffer: &[u8]) -> Result<Page, Fail> {
+    let bytes = buffer.get(..158).ok_or("short")?;
+    Ok(Page::read(alloc, bytes)?)
+}
+
+/// Whether a page has these numbers.
+fn has_numbers(page: &Page, front: u64, commits: u64, moment: Moment) -> bool {
+    page.front() == front && page.commits() == commits && page.moment() == moment
+}
+
 #[test]
 fn a_page_is_written_and_read_where_there_is_memory(rt: HostRuntime) -> Result<(), Fail> {
-    let mut room = [0xffu8; 160];
-    let length = write_head(&mut room, 10, 8, 1, 2, Moment::of(100));
-    assert_eq!(rt; length, 158);
-    let collection = Name::read(rt.alloc(), b"shop")?;
-    let id = Name::read(rt.alloc(), b"p1")?;
-    let key = Key::record(rt.alloc(), collection, id)?;
-    let blank = Page::read(rt.alloc(), room.get(..158).ok_or("short")?)?;
-    assert!(rt; !blank.holds(&key));
-    set_all(&mut room, positions_of(key.text(), 10, 8).as_slice());
-    let page = Page::read(rt.alloc(), room.get(..158).ok_or("short")?)?;
-    assert!(rt; page.holds(&key));
-    assert_eq!(rt; page.front(), 1);
-    assert_eq!(rt; page.commits(), 2);
-    assert_eq!(rt; page.moment(), Moment::of(100));
-    // A run in which this allocation is refused shows that the calls behind the last reading take none.
+    let key = record_key(rt.alloc())?;
+    let mut buffer = [0xffu8; 160];
+    let length = write_head(&mut buffer, 10, 8, 1, 2, Moment::of(100));
+    assert!(rt; length == 158);
+    let blank = page_in(rt.alloc(), &buffer)?;
+    set_all(&mut buffer, positions_of(key.text(), 10, 8).as_slice());
+    let page = page_in(rt.alloc(), &buffer)?;
+    assert!(rt; !blank.holds(&key) && page.holds(&key));
+    assert!(rt; has_numbers(&page, 1, 2, Moment::of(100)));
+    // A run in which this allocation is refused shows that the calls after the last read allocate nothing.
     assert!(rt;
         Vec::<u8>::with_capacity(rt.alloc(), 1).is_ok(),
         "the next allocation was refused"

@@ -1,4 +1,4 @@
-//! The text of a page, written into a room.
+//! Writing the text of a page into a buffer.
 ghost use Rattle.std.specs.Prelude.{◌≡◌, ◌+◌, ◌/◌, ◌%◌, ◌^◌, ◌<◌, ◌≤◌, ◌++◌, List, ℕ, true, length, drop, slice_index, slice_set, bit_or};
 ghost use Rattle.query_normal.specs.Pages.{Page as APage, most_log2_bits};
 ghost use Rattle.flat_snapshot.specs.PageText.{head_bytes, head_text, page_text, page_with, blank_page, IsPage};
@@ -6,9 +6,9 @@ ghost use Rattle.flat_snapshot.specs.PageText.{head_bytes, head_text, page_text,
 use crate::read::HEAD_BYTES;
 use q_base::{Commit, Moment};
 
-/// Writes a page without any bit into the room and answers its length. The rest of the room stays.
+/// Writes a page without any bit to the start of the buffer and returns its length.
 pub fn write_head(
-    room: &mut [u8],
+    buffer: &mut [u8],
     log2_bits: u8,
     hashes: u8,
     front: Commit,
@@ -17,20 +17,19 @@ pub fn write_head(
 ) -> usize
     requires least { 3 ≤ log2_bits }
     requires most { log2_bits ≤ most_log2_bits }
-    requires room { head_bytes + 2 ^ log2_bits / 8 ≤ length room.old }
+    requires buffer { head_bytes + 2 ^ log2_bits / 8 ≤ length buffer.old }
     ensures length { result ≡ head_bytes + 2 ^ log2_bits / 8 }
-    ensures written { room.new ≡ page_text (blank_page log2_bits hashes front commits moment) ++ drop result room.old }
+    ensures written { buffer.new ≡ page_text (blank_page log2_bits hashes front commits moment) ++ drop result buffer.old }
 {
-    write_fields(room, log2_bits, hashes, front, commits, moment);
+    write_fields(buffer, log2_bits, hashes, front, commits, moment);
     let end = HEAD_BYTES + (1usize << log2_bits) / 8;
-    room[HEAD_BYTES..end].fill(0);
+    buffer[HEAD_BYTES..end].fill(0);
     end
 }
 
-/// Writes a page with these bytes as its bits into the room and answers its length. The rest of the
-/// room stays.
+/// Writes a page with these bytes as its bits to the start of the buffer and returns its length.
 pub fn write_page(
-    room: &mut [u8],
+    buffer: &mut [u8],
     log2_bits: u8,
     hashes: u8,
     front: Commit,
@@ -38,17 +37,17 @@ pub fn write_page(
     moment: Moment,
     bits: &[u8],
 ) -> usize
-    requires { head_bytes + length bits.now ≤ length room.old }
+    requires { head_bytes + length bits.now ≤ length buffer.old }
     ensures length { result ≡ head_bytes + length bits.now }
-    ensures written { room.new ≡ page_text (page_with log2_bits hashes front commits moment bits.now) ++ drop result room.old }
+    ensures written { buffer.new ≡ page_text (page_with log2_bits hashes front commits moment bits.now) ++ drop result buffer.old }
 {
-    write_fields(room, log2_bits, hashes, front, commits, moment);
+    write_fields(buffer, log2_bits, hashes, front, commits, moment);
     let end = HEAD_BYTES + bits.len();
-    room[HEAD_BYTES..end].copy_from_slice(bits);
+    buffer[HEAD_BYTES..end].copy_from_slice(bits);
     end
 }
 
-/// Sets a bit of a page that stands at the beginning of these bytes.
+/// Sets a bit of the page at the start of these bytes.
 pub fn set_bit(page: &mut [u8], position: u32)
     requires { head_bytes + position / 8 < length page.old }
     ensures byte { page.new ≡ slice_set page.old (head_bytes + position / 8) (bit_or (slice_index page.old (head_bytes + position / 8)) (2 ^ (position % 8))) }
@@ -58,23 +57,23 @@ pub fn set_bit(page: &mut [u8], position: u32)
     page[HEAD_BYTES + position as usize / 8] |= 1u8 << (position % 8);
 }
 
-/// Writes the head of a page. The rest of the room stays.
+/// Writes the head of a page to the start of the buffer.
 fn write_fields(
-    room: &mut [u8],
+    buffer: &mut [u8],
     log2_bits: u8,
     hashes: u8,
     front: Commit,
     commits: Commit,
     moment: Moment,
 )
-    requires { head_bytes ≤ length room.old }
-    ensures { room.new ≡ head_text log2_bits hashes front commits moment ++ drop head_bytes room.old }
+    requires { head_bytes ≤ length buffer.old }
+    ensures { buffer.new ≡ head_text log2_bits hashes front commits moment ++ drop head_bytes buffer.old }
 {
     let head = head_of(log2_bits, hashes, front, commits, moment);
-    room[..HEAD_BYTES].copy_from_slice(&head);
+    buffer[..HEAD_BYTES].copy_from_slice(&head);
 }
 
-/// The head of a page.
+/// The bytes of a page's head.
 fn head_of(log2_bits: u8, hashes: u8, front: Commit, commits: Commit, moment: Moment) -> [u8; 30]
     ensures { result ≡ head_text log2_bits hashes front commits moment }
 {

@@ -10,7 +10,7 @@ use Rattle.std.proofs.lemmas.List.{get_or_default}
 use Rattle.std.proofs.Math.Seq.{take-append_seam}
 use Rattle.issued_expiries.specs.Maxima.{IsMaxima, IsAtMost}
 use Rattle.issued_expiries.specs.Copies.{is_between}
-use Rattle.issued_expiries.specs.KeyCopies.{Kept, HasRoom, greatest, is_later, paired, IsRising, IsPlaceFor, IsOver}
+use Rattle.issued_expiries.specs.KeyCopies.{KeptCopies, HasSpace, greatest, is_later, paired, IsRising, IsIndexFor, IsOver}
 
 -- ---- rising commits
 
@@ -26,15 +26,15 @@ non_decreasing xs rising = IsNonDecreasingBy-from_default (λ (n : ℕ). n) xs 0
 
 found_at : (xs : List ℕ) (x : ℕ) (r : Result ℕ ℕ) →
     MatchResult r (λ i. (i < length xs) × (get_or xs i 0 ≡ x)) (λ i. (i ≤ length xs) × ((k : ℕ) → k < i → get_or xs k 0 < x) × ((k : ℕ) → i ≤ k → k < length xs → x < get_or xs k 0)) →
-    IfOk r (λ i. (i < length xs) × (get_or xs i 0 ≡ x)) × IfErr r (IsPlaceFor x xs)
+    IfOk r (λ i. (i < length xs) × (get_or xs i 0 ≡ x)) × IfErr r (IsIndexFor x xs)
 found_at xs x (Ok i) h = (h, tt)
 found_at xs x (Err i) h = (tt, record { within = h.0; below = h.1; above = h.2 })
 
-pub found_place : (xs : List ℕ) (x : ℕ) (r : Result ℕ ℕ) → IsBinarySearchResult (λ y. nat_cmp y x) xs r → IsRising xs → IfOk r (λ i. (i < length xs) × (get_or xs i 0 ≡ x))
-found_place xs x r found rising = (found_at xs x r (searched xs x r found (rising_upto xs rising))).0
+pub found_index : (xs : List ℕ) (x : ℕ) (r : Result ℕ ℕ) → IsBinarySearchResult (λ y. nat_cmp y x) xs r → IsRising xs → IfOk r (λ i. (i < length xs) × (get_or xs i 0 ≡ x))
+found_index xs x r found rising = (found_at xs x r (searched xs x r found (rising_upto xs rising))).0
 
-pub absent_place : (xs : List ℕ) (x : ℕ) (r : Result ℕ ℕ) → IsBinarySearchResult (λ y. nat_cmp y x) xs r → IsRising xs → IfErr r (IsPlaceFor x xs)
-absent_place xs x r found rising = (found_at xs x r (searched xs x r found (rising_upto xs rising))).1
+pub absent_index : (xs : List ℕ) (x : ℕ) (r : Result ℕ ℕ) → IsBinarySearchResult (λ y. nat_cmp y x) xs r → IsRising xs → IfErr r (IsIndexFor x xs)
+absent_index xs x r found rising = (found_at xs x r (searched xs x r found (rising_upto xs rising))).1
 
 -- ---- the greatest until
 
@@ -88,7 +88,7 @@ both_true true true h = (refl, refl)
 both_true true false h = absurd (let e = h in cc)
 both_true false b h = absurd (let e = h in cc)
 
--- the greatest until in a range of commits, from that in the range of their places
+-- the greatest until in a range of commits, from that in the range of their indexes
 pub greatest_of_range : (commits tree : List ℕ) (capacity from below first end result : ℕ) → IsOver capacity commits tree →
     first ≤ length commits → ((i : ℕ) → i < first → get_or commits i 0 < from) → ((i : ℕ) → first ≤ i → i < length commits → from ≤ get_or commits i 0) →
     end ≤ length commits → ((i : ℕ) → i < end → get_or commits i 0 < below) → ((i : ℕ) → end ≤ i → i < length commits → below ≤ get_or commits i 0) →
@@ -138,7 +138,7 @@ greatest_read commits tree first_commits end_commits lent capacity from below fi
     (subst (λ (xs : List ℕ). (i : ℕ) → end ≤ i → i < length xs → below ≤ get_or xs i 0) q b3)
     (subst (λ (xs : List ℕ). (n : ℕ) → IsAtMost xs (capacity + first) (capacity + end) n ↔ (result ≤ n)) r bound)
 
--- ---- a copy more
+-- ---- one copy more
 
 -- a vector behind a write of its whole
 pub whole_written : {X : Type 0} (new items : List X) (len : ℕ) → length new ≡ length items → len ≡ length items → take len (new ++ drop (length new) items) ≡ new
@@ -164,27 +164,27 @@ max_of_bounds new old more bounds =
     omega (arith, parts.0, parts.1, whole)
 
 -- the copy at a commit took the later until
-pub raised : (commits tree after : List ℕ) (capacity place commit until : ℕ) → IsOver capacity commits tree → place < length commits → get_or commits place 0 ≡ commit →
-    get_or after (capacity + place) 0 ≡ max (get_or tree (capacity + place) 0) until →
-    ((i : ℕ) → length tree ≤ 2 * i → (i ≡ capacity + place → ⊥) → get_or after i 0 ≡ get_or tree i 0) →
+pub raised : (commits tree after : List ℕ) (capacity index commit until : ℕ) → IsOver capacity commits tree → index < length commits → get_or commits index 0 ≡ commit →
+    get_or after (capacity + index) 0 ≡ max (get_or tree (capacity + index) 0) until →
+    ((i : ℕ) → length tree ≤ 2 * i → (i ≡ capacity + index → ⊥) → get_or after i 0 ≡ get_or tree i 0) →
     (test : ℕ → Bool) → greatest test (paired commits after capacity) ≡ max (greatest test (paired commits tree capacity)) (counted (test commit) until)
-raised commits tree after capacity place commit until over within here written others test =
+raised commits tree after capacity index commit until over within here written others test =
     max_of_bounds (greatest test (paired commits after capacity)) (greatest test (paired commits tree capacity)) (counted (test commit) until) (λ n. (
       λ most. (
           let all = within_greatest test commits after capacity n most in (
             greatest_within test commits tree capacity n (λ i low passes. (
                 let now = all i low passes in
-                elim (cases_eq i place) [
+                elim (cases_eq i index) [
                   | inl same ↦ (let w = subst (λ (k : ℕ). get_or after (capacity + k) 0 ≡ max (get_or tree (capacity + k) 0) until) (sym same) written in omega (arith, w, now))
                   | inr other ↦ (let s = over.sized in let o = others (capacity + i) (omega (arith, s)) (λ e. other (omega (arith, e))) in omega (arith, o, now))
                 ])),
             counted_most (test commit) until n (λ passes. (
-                let now = all place within (ap test here ∙ passes) in
+                let now = all index within (ap test here ∙ passes) in
                 omega (arith, written, now))),
           )),
       λ old more. greatest_within test commits after capacity n (λ i low passes. (
           let was = within_greatest test commits tree capacity n old i low passes in
-          elim (cases_eq i place) [
+          elim (cases_eq i index) [
             | inl same ↦ (
                 let w = subst (λ (k : ℕ). get_or after (capacity + k) 0 ≡ max (get_or tree (capacity + k) 0) until) (sym same) written in
                 let u = most_counted (test commit) until n more (ap test (sym here ∙ ap (λ (k : ℕ). get_or commits k 0) (sym same)) ∙ passes) in
@@ -193,61 +193,61 @@ raised commits tree after capacity place commit until over within here written o
           ])),
     ))
 
--- where a place stands against one that was inserted
-stands : (place j : ℕ) → (j < place) ⊎ ((j ≡ place) ⊎ ((i : ℕ) × (j ≡ i + 1) × (place ≤ i)))
-stands place j =
-    elim (cases_lt j place) [
+-- an index compared with one that was inserted
+three_ways : (index j : ℕ) → (j < index) ⊎ ((j ≡ index) ⊎ ((i : ℕ) × (j ≡ i + 1) × (index ≤ i)))
+three_ways index j =
+    elim (cases_lt j index) [
       | inl less ↦ inl less
-      | inr more ↦ inr (elim (cases_eq j place) [
+      | inr more ↦ inr (elim (cases_eq j index) [
         | inl same ↦ inl same
         | inr other ↦ inr (j - 1, omega (arith, other), omega (arith, other))
       ])
     ]
 
--- a copy at a new commit stands among the others
-pub inserted : (commits tree after : List ℕ) (capacity place commit until : ℕ) → IsOver capacity commits tree → place ≤ length commits →
-    get_or after (capacity + place) 0 ≡ until →
-    ((i : ℕ) → capacity + place ≤ i → i < capacity + length commits → get_or after (i + 1) 0 ≡ get_or tree i 0) →
-    ((i : ℕ) → length tree ≤ 2 * i → i < capacity + place → get_or after i 0 ≡ get_or tree i 0) →
-    (test : ℕ → Bool) → greatest test (paired (insert commits place commit) after capacity) ≡ max (greatest test (paired commits tree capacity)) (counted (test commit) until)
-inserted commits tree after capacity place commit until over within written moved before test =
+-- a copy at a new commit is among the others
+pub inserted : (commits tree after : List ℕ) (capacity index commit until : ℕ) → IsOver capacity commits tree → index ≤ length commits →
+    get_or after (capacity + index) 0 ≡ until →
+    ((i : ℕ) → capacity + index ≤ i → i < capacity + length commits → get_or after (i + 1) 0 ≡ get_or tree i 0) →
+    ((i : ℕ) → length tree ≤ 2 * i → i < capacity + index → get_or after i 0 ≡ get_or tree i 0) →
+    (test : ℕ → Bool) → greatest test (paired (insert commits index commit) after capacity) ≡ max (greatest test (paired commits tree capacity)) (counted (test commit) until)
+inserted commits tree after capacity index commit until over within written moved before test =
     let s = over.sized in
-    let long = length-insert commits place commit within in
-    max_of_bounds (greatest test (paired (insert commits place commit) after capacity)) (greatest test (paired commits tree capacity)) (counted (test commit) until) (λ n. (
+    let long = length-insert commits index commit within in
+    max_of_bounds (greatest test (paired (insert commits index commit) after capacity)) (greatest test (paired commits tree capacity)) (counted (test commit) until) (λ n. (
       λ most. (
-          let all = within_greatest test (insert commits place commit) after capacity n most in (
-            greatest_within test commits tree capacity n (λ i low passes. elim (cases_lt i place) [
+          let all = within_greatest test (insert commits index commit) after capacity n most in (
+            greatest_within test commits tree capacity n (λ i low passes. elim (cases_lt i index) [
               | inl early ↦ (
-                  let at = get_or-insert_below commits place commit 0 i early within in
+                  let at = get_or-insert_below commits index commit 0 i early within in
                   let b = before (capacity + i) (omega (arith, s)) (omega (arith, early)) in
                   let now = all i (omega (arith, long, low)) (ap test at ∙ passes) in
                   omega (arith, b, now))
               | inr late ↦ (
-                  let at = get_or-insert_above commits place commit 0 i late within in
+                  let at = get_or-insert_above commits index commit 0 i late within in
                   let m = moved (capacity + i) (omega (arith, late)) (omega (arith, low)) in
                   let now = subst (λ (k : ℕ). get_or after k 0 ≤ n) (omega arith) (all (i + 1) (omega (arith, long, low)) (ap test at ∙ passes)) in
                   let there : get_or after (capacity + i + 1) 0 ≤ n = now in
                   omega (arith, m, there))
             ]),
             counted_most (test commit) until n (λ passes. (
-                let at = get_or-insert_at commits place commit 0 within in
-                let now = all place (omega (arith, long, within)) (ap test at ∙ passes) in
+                let at = get_or-insert_at commits index commit 0 within in
+                let now = all index (omega (arith, long, within)) (ap test at ∙ passes) in
                 omega (arith, written, now))),
           )),
-      λ old more. greatest_within test (insert commits place commit) after capacity n (λ j low passes. elim (stands place j) [
+      λ old more. greatest_within test (insert commits index commit) after capacity n (λ j low passes. elim (three_ways index j) [
         | inl early ↦ (
-            let at = get_or-insert_below commits place commit 0 j early within in
+            let at = get_or-insert_below commits index commit 0 j early within in
             let b = before (capacity + j) (omega (arith, s)) (omega (arith, early)) in
             let was = within_greatest test commits tree capacity n old j (omega (arith, early, within)) (ap test (sym at) ∙ passes) in
             omega (arith, b, was))
         | inr (inl same) ↦ (
-            let at = get_or-insert_at commits place commit 0 within in
-            let p : test (get_or (insert commits place commit) place 0) ≡ true = subst (λ (k : ℕ). test (get_or (insert commits place commit) k 0) ≡ true) same passes in
+            let at = get_or-insert_at commits index commit 0 within in
+            let p : test (get_or (insert commits index commit) index 0) ≡ true = subst (λ (k : ℕ). test (get_or (insert commits index commit) k 0) ≡ true) same passes in
             let u = most_counted (test commit) until n more (ap test (sym at) ∙ p) in
             subst (λ (k : ℕ). get_or after (capacity + k) 0 ≤ n) (sym same) (omega (arith, written, u)))
         | inr (inr (i, is, late)) ↦ (
-            let at = get_or-insert_above commits place commit 0 i late within in
-            let p : test (get_or (insert commits place commit) (i + 1) 0) ≡ true = subst (λ (k : ℕ). test (get_or (insert commits place commit) k 0) ≡ true) is passes in
+            let at = get_or-insert_above commits index commit 0 i late within in
+            let p : test (get_or (insert commits index commit) (i + 1) 0) ≡ true = subst (λ (k : ℕ). test (get_or (insert commits index commit) k 0) ≡ true) is passes in
             let inside : i < length commits = omega (arith, long, low, is) in
             let m = moved (capacity + i) (omega (arith, late)) (omega (arith, inside)) in
             let was = within_greatest test commits tree capacity n old i inside (ap test (sym at) ∙ p) in
@@ -255,116 +255,116 @@ inserted commits tree after capacity place commit until over within written move
       ]),
     ))
 
--- commits rise with one more at its place
-pub rising_with : (commits : List ℕ) (place commit : ℕ) → IsRising commits → IsPlaceFor commit commits place → IsRising (insert commits place commit)
-rising_with commits place commit rising fits i j order low =
+-- commits rise with one more at its index
+pub rising_with : (commits : List ℕ) (index commit : ℕ) → IsRising commits → IsIndexFor commit commits index → IsRising (insert commits index commit)
+rising_with commits index commit rising fits i j order low =
     let within = fits.within in
-    let long = length-insert commits place commit within in
-    elim (stands place i) [
+    let long = length-insert commits index commit within in
+    elim (three_ways index i) [
       | inl early ↦ (
-          let a = get_or-insert_below commits place commit 0 i early within in
-          elim (stands place j) [
-            | inl j_early ↦ (let b = get_or-insert_below commits place commit 0 j j_early within in let r = rising i j order (omega (arith, j_early, within)) in omega (arith, a, b, r))
+          let a = get_or-insert_below commits index commit 0 i early within in
+          elim (three_ways index j) [
+            | inl j_early ↦ (let b = get_or-insert_below commits index commit 0 j j_early within in let r = rising i j order (omega (arith, j_early, within)) in omega (arith, a, b, r))
             | inr (inl same) ↦ (
-                let b = get_or-insert_at commits place commit 0 within in
+                let b = get_or-insert_at commits index commit 0 within in
                 let r = fits.below i early in
-                subst (λ (k : ℕ). get_or (insert commits place commit) i 0 < get_or (insert commits place commit) k 0) (sym same) (omega (arith, a, b, r)))
+                subst (λ (k : ℕ). get_or (insert commits index commit) i 0 < get_or (insert commits index commit) k 0) (sym same) (omega (arith, a, b, r)))
             | inr (inr (k, is, late)) ↦ (
-                let b = get_or-insert_above commits place commit 0 k late within in
+                let b = get_or-insert_above commits index commit 0 k late within in
                 let r = rising i k (omega (arith, early, late)) (omega (arith, long, low, is)) in
-                subst (λ (m : ℕ). get_or (insert commits place commit) i 0 < get_or (insert commits place commit) m 0) (sym is) (omega (arith, a, b, r)))
+                subst (λ (m : ℕ). get_or (insert commits index commit) i 0 < get_or (insert commits index commit) m 0) (sym is) (omega (arith, a, b, r)))
           ])
       | inr (inl i_same) ↦ (
-          let a = get_or-insert_at commits place commit 0 within in
-          elim (stands place j) [
+          let a = get_or-insert_at commits index commit 0 within in
+          elim (three_ways index j) [
             | inl j_early ↦ absurd (omega (arith, j_early, i_same, order))
             | inr (inl same) ↦ absurd (omega (arith, same, i_same, order))
             | inr (inr (k, is, late)) ↦ (
-                let b = get_or-insert_above commits place commit 0 k late within in
+                let b = get_or-insert_above commits index commit 0 k late within in
                 let r = fits.above k late (omega (arith, long, low, is)) in
-                subst (λ (m : ℕ). get_or (insert commits place commit) m 0 < get_or (insert commits place commit) j 0) (sym i_same)
-                (subst (λ (m : ℕ). get_or (insert commits place commit) place 0 < get_or (insert commits place commit) m 0) (sym is) (omega (arith, a, b, r))))
+                subst (λ (m : ℕ). get_or (insert commits index commit) m 0 < get_or (insert commits index commit) j 0) (sym i_same)
+                (subst (λ (m : ℕ). get_or (insert commits index commit) index 0 < get_or (insert commits index commit) m 0) (sym is) (omega (arith, a, b, r))))
           ])
       | inr (inr (h, i_is, i_late)) ↦ (
-          let a = get_or-insert_above commits place commit 0 h i_late within in
-          elim (stands place j) [
+          let a = get_or-insert_above commits index commit 0 h i_late within in
+          elim (three_ways index j) [
             | inl j_early ↦ absurd (omega (arith, j_early, i_is, i_late, order))
             | inr (inl same) ↦ absurd (omega (arith, same, i_is, i_late, order))
             | inr (inr (k, is, late)) ↦ (
-                let b = get_or-insert_above commits place commit 0 k late within in
+                let b = get_or-insert_above commits index commit 0 k late within in
                 let r = rising h k (omega (arith, i_is, is, order)) (omega (arith, long, low, is)) in
-                subst (λ (m : ℕ). get_or (insert commits place commit) m 0 < get_or (insert commits place commit) j 0) (sym i_is)
-                (subst (λ (m : ℕ). get_or (insert commits place commit) (h + 1) 0 < get_or (insert commits place commit) m 0) (sym is) (omega (arith, a, b, r))))
+                subst (λ (m : ℕ). get_or (insert commits index commit) m 0 < get_or (insert commits index commit) j 0) (sym i_is)
+                (subst (λ (m : ℕ). get_or (insert commits index commit) (h + 1) 0 < get_or (insert commits index commit) m 0) (sym is) (omega (arith, a, b, r))))
           ])
     ]
 
 -- the same of a vector that was lent and written as a whole
-pub raised_written : (commits tree lent after : List ℕ) (len capacity place commit until before now : ℕ) → IsOver capacity commits tree →
-    lent ≡ tree → length lent ≡ len → length after ≡ length lent → place < length commits → get_or commits place 0 ≡ commit →
-    before ≡ get_or tree (capacity + place) before → now ≡ max before until → get_or after (capacity + place) 0 ≡ now →
-    ((i : ℕ) → length lent ≤ 2 * i → (i ≡ capacity + place → ⊥) → get_or after i 0 ≡ get_or lent i 0) →
+pub raised_written : (commits tree lent after : List ℕ) (len capacity index commit until before now : ℕ) → IsOver capacity commits tree →
+    lent ≡ tree → length lent ≡ len → length after ≡ length lent → index < length commits → get_or commits index 0 ≡ commit →
+    before ≡ get_or tree (capacity + index) before → now ≡ max before until → get_or after (capacity + index) 0 ≡ now →
+    ((i : ℕ) → length lent ≤ 2 * i → (i ≡ capacity + index → ⊥) → get_or after i 0 ≡ get_or lent i 0) →
     (test : ℕ → Bool) → greatest test (paired commits (take len (after ++ drop (length after) tree)) capacity) ≡ max (greatest test (paired commits tree capacity)) (counted (test commit) until)
-raised_written commits tree lent after len capacity place commit until before now over value long same within here was is written others test =
+raised_written commits tree lent after len capacity index commit until before now over value long same within here was is written others test =
     let whole = whole_written after tree len (same ∙ ap length value) (sym long ∙ ap length value) in
     ap (λ (xs : List ℕ). greatest test (paired commits xs capacity)) whole
-    ∙ raised commits tree after capacity place commit until over within here (written ∙ is ∙ ap (λ (n : ℕ). max n until) (was ∙ get_or_default tree (capacity + place) before 0 (let s = over.sized in let f = over.fits in omega (arith, s, f, within))))
-    (subst (λ (xs : List ℕ). (i : ℕ) → length xs ≤ 2 * i → (i ≡ capacity + place → ⊥) → get_or after i 0 ≡ get_or xs i 0) value others) test
+    ∙ raised commits tree after capacity index commit until over within here (written ∙ is ∙ ap (λ (n : ℕ). max n until) (was ∙ get_or_default tree (capacity + index) before 0 (let s = over.sized in let f = over.fits in omega (arith, s, f, within))))
+    (subst (λ (xs : List ℕ). (i : ℕ) → length xs ≤ 2 * i → (i ≡ capacity + index → ⊥) → get_or after i 0 ≡ get_or xs i 0) value others) test
 
-pub inserted_written : (commits commits_after tree lent after : List ℕ) (len capacity place commit until end : ℕ) → IsOver capacity commits tree →
-    lent ≡ tree → length lent ≡ len → length after ≡ length lent → IsPlaceFor commit commits place → end ≡ capacity + length commits → commits_after ≡ insert commits place commit →
-    get_or after (capacity + place) 0 ≡ until →
-    ((i : ℕ) → capacity + place ≤ i → i < end → get_or after (i + 1) 0 ≡ get_or lent i 0) →
-    ((i : ℕ) → length lent ≤ 2 * i → i < capacity + place → get_or after i 0 ≡ get_or lent i 0) →
+pub inserted_written : (commits commits_after tree lent after : List ℕ) (len capacity index commit until end : ℕ) → IsOver capacity commits tree →
+    lent ≡ tree → length lent ≡ len → length after ≡ length lent → IsIndexFor commit commits index → end ≡ capacity + length commits → commits_after ≡ insert commits index commit →
+    get_or after (capacity + index) 0 ≡ until →
+    ((i : ℕ) → capacity + index ≤ i → i < end → get_or after (i + 1) 0 ≡ get_or lent i 0) →
+    ((i : ℕ) → length lent ≤ 2 * i → i < capacity + index → get_or after i 0 ≡ get_or lent i 0) →
     (test : ℕ → Bool) → greatest test (paired commits_after (take len (after ++ drop (length after) tree)) capacity) ≡ max (greatest test (paired commits tree capacity)) (counted (test commit) until)
-inserted_written commits commits_after tree lent after len capacity place commit until end over value long same fits end_is put written moved before test =
+inserted_written commits commits_after tree lent after len capacity index commit until end over value long same fits end_is put written moved before test =
     let whole = whole_written after tree len (same ∙ ap length value) (sym long ∙ ap length value) in
     ap (λ (xs : List ℕ). greatest test (paired commits_after xs capacity)) whole
     ∙ ap (λ (cs : List ℕ). greatest test (paired cs after capacity)) put
-    ∙ inserted commits tree after capacity place commit until over fits.within written
-    (subst (λ (xs : List ℕ). (i : ℕ) → capacity + place ≤ i → i < capacity + length commits → get_or after (i + 1) 0 ≡ get_or xs i 0) value
-    (subst (λ (m : ℕ). (i : ℕ) → capacity + place ≤ i → i < m → get_or after (i + 1) 0 ≡ get_or lent i 0) end_is moved))
-    (subst (λ (xs : List ℕ). (i : ℕ) → length xs ≤ 2 * i → i < capacity + place → get_or after i 0 ≡ get_or xs i 0) value before) test
+    ∙ inserted commits tree after capacity index commit until over fits.within written
+    (subst (λ (xs : List ℕ). (i : ℕ) → capacity + index ≤ i → i < capacity + length commits → get_or after (i + 1) 0 ≡ get_or xs i 0) value
+    (subst (λ (m : ℕ). (i : ℕ) → capacity + index ≤ i → i < m → get_or after (i + 1) 0 ≡ get_or lent i 0) end_is moved))
+    (subst (λ (xs : List ℕ). (i : ℕ) → length xs ≤ 2 * i → i < capacity + index → get_or after i 0 ≡ get_or xs i 0) value before) test
 
--- the commits stand over the row still
-pub over_inserted : (commits commits_after tree lent after : List ℕ) (len capacity place commit : ℕ) → IsOver capacity commits tree → length commits < capacity →
-    lent ≡ tree → length lent ≡ len → length after ≡ length lent → IsPlaceFor commit commits place → commits_after ≡ insert commits place commit → IsMaxima after →
+-- the commits still have their numbers in the row
+pub over_inserted : (commits commits_after tree lent after : List ℕ) (len capacity index commit : ℕ) → IsOver capacity commits tree → length commits < capacity →
+    lent ≡ tree → length lent ≡ len → length after ≡ length lent → IsIndexFor commit commits index → commits_after ≡ insert commits index commit → IsMaxima after →
     IsOver capacity commits_after (take len (after ++ drop (length after) tree))
-over_inserted commits commits_after tree lent after len capacity place commit over room value long same fits put maxima =
+over_inserted commits commits_after tree lent after len capacity index commit over space value long same fits put maxima =
     let whole = whole_written after tree len (same ∙ ap length value) (sym long ∙ ap length value) in
-    let all : IsOver capacity (insert commits place commit) after = record {
+    let all : IsOver capacity (insert commits index commit) after = record {
       maxima = maxima;
       sized = same ∙ ap length value ∙ over.sized;
-      rising = rising_with commits place commit over.rising fits;
-      fits = (let n = length-insert commits place commit fits.within in omega (arith, n, room));
+      rising = rising_with commits index commit over.rising fits;
+      fits = (let n = length-insert commits index commit fits.within in omega (arith, n, space));
     } in
     subst (λ (cs : List ℕ). IsOver capacity cs (take len (after ++ drop (length after) tree))) (sym put)
-    (subst (λ (xs : List ℕ). IsOver capacity (insert commits place commit) xs) (sym whole) all)
+    (subst (λ (xs : List ℕ). IsOver capacity (insert commits index commit) xs) (sym whole) all)
 
--- room for copies is room for commits
-pub room_of : (commits tree : List ℕ) (capacity : ℕ) (kept : Kept) → record { copies = paired commits tree capacity; capacity = capacity } ≡ kept → HasRoom kept → length commits < capacity
-room_of commits tree capacity kept is room =
+-- space for copies is space for commits
+pub space_of : (commits tree : List ℕ) (capacity : ℕ) (kept : KeptCopies) → record { copies = paired commits tree capacity; capacity = capacity } ≡ kept → HasSpace kept → length commits < capacity
+space_of commits tree capacity kept is space =
     let long = length-paired commits tree capacity in
-    let here = subst (λ (k : Kept). HasRoom k) (sym is) room in
+    let here = subst (λ (k : KeptCopies). HasSpace k) (sym is) space in
     omega (arith, long, here)
 
 -- as many copies as before
-pub as_many : (commits tree after : List ℕ) (capacity : ℕ) (kept : Kept) → record { copies = paired commits tree capacity; capacity = capacity } ≡ kept →
+pub as_many : (commits tree after : List ℕ) (capacity : ℕ) (kept : KeptCopies) → record { copies = paired commits tree capacity; capacity = capacity } ≡ kept →
     length (paired commits after capacity) ≤ length kept.copies + 1
 as_many commits tree after capacity kept is =
     let new = length-paired commits after capacity in
     let old = length-paired commits tree capacity in
-    let view = ap (λ (k : Kept). length k.copies) is in
+    let view = ap (λ (k : KeptCopies). length k.copies) is in
     omega (arith, new, old, view)
 
 -- one more
-pub one_more : (commits commits_after tree after : List ℕ) (capacity place commit : ℕ) (kept : Kept) → record { copies = paired commits tree capacity; capacity = capacity } ≡ kept →
-    place ≤ length commits → commits_after ≡ insert commits place commit → length (paired commits_after after capacity) ≤ length kept.copies + 1
-one_more commits commits_after tree after capacity place commit kept is within put =
+pub one_more : (commits commits_after tree after : List ℕ) (capacity index commit : ℕ) (kept : KeptCopies) → record { copies = paired commits tree capacity; capacity = capacity } ≡ kept →
+    index ≤ length commits → commits_after ≡ insert commits index commit → length (paired commits_after after capacity) ≤ length kept.copies + 1
+one_more commits commits_after tree after capacity index commit kept is within put =
     let new = length-paired commits_after after capacity in
     let old = length-paired commits tree capacity in
-    let more = length-insert commits place commit within in
+    let more = length-insert commits index commit within in
     let put_len = ap length put in
-    let view = ap (λ (k : Kept). length k.copies) is in
+    let view = ap (λ (k : KeptCopies). length k.copies) is in
     omega (arith, new, old, more, put_len, view)
 
 -- ---- what expires later than a clock

@@ -1,4 +1,4 @@
--- The copies that are kept when the expired ones are left out.
+-- The copies that are kept when the expired ones are dropped.
 use Rattle.std.proofs.Common.{◌≡◌, ◌⊎◌, zero, suc, ℕ, ◌+◌, ◌-◌, ◌*◌, ◌<◌, ◌≤◌, cond, ltb, Bool, List, [], ◌∷◌, ◌++◌, length, take, drop, set, get_or, filter, count_by, refl, sym, ap, ◌∙◌, subst, arith, inl, inr, length-append, append-nil}
 use Rattle.std.proofs.lemmas.Bool.{cases_Bool, cases_lt, lt-ltb, le-ltb}
 use Rattle.std.proofs.lemmas.List.{get_or-set_same, get_or-set_other, get_or_append_left, take_all, get_or-take, get_or-drop}
@@ -26,7 +26,7 @@ paired_push (c ∷ cs) numbers start commit =
     (paired_push cs numbers (start + 1) commit
     ∙ ap (λ (k : ℕ). paired cs numbers (start + 1) ++ (commit, get_or numbers k 0) ∷ []) (let e : start + 1 + length cs ≡ start + length (c ∷ cs) = omega arith in e))
 
--- one copy more, whose until is written behind the others
+-- one copy more, whose until is written after the others
 kept_push : (kept tree : List ℕ) (start commit until : ℕ) → start + length kept < length tree →
     paired (kept ++ commit ∷ []) (set tree (start + length kept) until) start ≡ paired kept tree start ++ (commit, until) ∷ []
 kept_push kept tree start commit until within =
@@ -35,7 +35,7 @@ kept_push kept tree start commit until within =
     (paired_alike kept (set tree (start + length kept) until) tree start start (λ i low. get_or-set_other tree (start + length kept) (start + i) until 0 (λ e. omega (arith, e, low))))
     ∙ ap (λ (u : ℕ). paired kept tree start ++ (commit, u) ∷ []) (get_or-set_same tree (start + length kept) until 0 within)
 
--- the pair at a place
+-- the pair at an index
 pub get_or-paired : (commits numbers : List ℕ) (start i : ℕ) (d : ℕ × ℕ) → i < length commits → get_or (paired commits numbers start) i d ≡ (get_or commits i 0, get_or numbers (start + i) 0)
 get_or-paired [] numbers start i d low = absurd (omega (arith, low))
 get_or-paired (c ∷ cs) numbers start zero d low = ap (λ (k : ℕ). (c, get_or numbers k 0)) (let e : start ≡ start + 0 = omega arith in e)
@@ -43,22 +43,22 @@ get_or-paired (c ∷ cs) numbers start (suc i) d low =
     get_or-paired cs numbers (start + 1) i d (omega (arith, low))
     ∙ ap (λ (k : ℕ). (get_or cs i 0, get_or numbers k 0)) (let e : start + 1 + i ≡ start + suc i = omega arith in e)
 
--- what stands so far: the copies of the first i that expire later than the clock
+-- the copies kept so far: those of the first i that expire later than the clock
 pub record IsKeptUpto (clock : ℕ) (commits untils : List ℕ) (i : ℕ) (kept tree : List ℕ) (start : ℕ) : Type 0 where
   pub copies : paired kept tree start ≡ filter (is_later clock) (take i (paired commits untils 0))
   pub count : length kept ≡ count_by (is_later clock) (take i (paired commits untils 0))
   pub rising : IsRising kept
   pub below : (k j : ℕ) → k < length kept → i ≤ j → j < length commits → get_or kept k 0 < get_or commits j 0
 
--- the test of a copy at a place
+-- the test of a copy at an index
 later_at : (clock : ℕ) (commits untils : List ℕ) (i : ℕ) → i < length commits → (d : ℕ × ℕ) → is_later clock (get_or (paired commits untils 0) i d) ≡ ltb clock (get_or untils i 0)
 later_at clock commits untils i low d =
     ap (is_later clock) (get_or-paired commits untils 0 i d low) ∙ ap (λ (k : ℕ). ltb clock (get_or untils k 0)) (let e : 0 + i ≡ i = omega arith in e)
 
--- there is a place for one more
-pub kept_room : (clock : ℕ) (commits untils : List ℕ) (i : ℕ) (kept tree : List ℕ) (start : ℕ) → IsKeptUpto clock commits untils i kept tree start → i < length commits → clock < get_or untils i 0 →
+-- there is space for one more
+pub kept_space : (clock : ℕ) (commits untils : List ℕ) (i : ℕ) (kept tree : List ℕ) (start : ℕ) → IsKeptUpto clock commits untils i kept tree start → i < length commits → clock < get_or untils i 0 →
     length kept < count_by (is_later clock) (paired commits untils 0)
-kept_room clock commits untils i kept tree start so_far low late =
+kept_space clock commits untils i kept tree start so_far low late =
     let long = length-paired commits untils 0 in
     let yes = later_at clock commits untils i low (0, 0) ∙ lt-ltb clock (get_or untils i 0) late in
     let more = count_by_more_yes (is_later clock) (paired commits untils 0) i (0, 0) (omega (arith, long, low)) yes in
@@ -179,7 +179,7 @@ count_paired clock (c ∷ cs) (u ∷ us) numbers start same alike =
 pub count_all : (clock : ℕ) (commits untils : List ℕ) → length commits ≡ length untils → count_by (is_later clock) (paired commits untils 0) ≡ count_by (λ until. ltb clock until) untils
 count_all clock commits untils same = count_paired clock commits untils untils 0 same (λ i low. ap (λ (k : ℕ). get_or untils k 0) (let e : 0 + i ≡ i = omega arith in e))
 
--- the copies over a row that reads alike
+-- the copies over a row with the same numbers
 pub copies_alike : (kept row row_after : List ℕ) (start : ℕ) → length row ≡ 2 * start → ((i : ℕ) → length row ≤ 2 * i → get_or row_after i 0 ≡ get_or row i 0) → paired kept row_after start ≡ paired kept row start
 copies_alike kept row row_after start sized alike = paired_alike kept row_after row start start (λ i low. alike (start + i) (omega (arith, sized)))
 
@@ -194,9 +194,9 @@ range_alike commits tree lent lent_commits capacity len value commits_value len_
     ∙ get_or-drop capacity tree (0 + i) 0
     ∙ ap (λ (k : ℕ). get_or tree k 0) (let e : capacity + (0 + i) ≡ capacity + i = omega arith in e)))
 
--- so many copies leave room
-pub later_room : (kept tree : List ℕ) (start capacity count : ℕ) → length kept ≡ count → count < capacity → length (paired kept tree start) < capacity
-later_room kept tree start capacity count is less = (let n = length-paired kept tree start in omega (arith, n, is, less))
+-- fewer copies than the capacity leave space
+pub later_space : (kept tree : List ℕ) (start capacity count : ℕ) → length kept ≡ count → count < capacity → length (paired kept tree start) < capacity
+later_space kept tree start capacity count is less = (let n = length-paired kept tree start in omega (arith, n, is, less))
 
 -- a filter twice is a filter once
 filter_twice : {X : Type 0} (p : X → Bool) (xs : List X) → filter p (filter p xs) ≡ filter p xs

@@ -1,4 +1,4 @@
--- Copies that are the same whatever is asked.
+-- Copies that answer every question alike.
 use Rattle.std.proofs.Common.{◌≡◌, cond, eqb, ltb, not, ℕ, ◌+◌, ◌≤◌, max, Bool, true, false, ◌&&◌, ◌||◌, List, [], ◌∷◌, map, Option, Some, None, is_some, refl, sym, ap, ◌∙◌, subst, arith, inl, inr}
 use Rattle.std.specs.List.{list_any, AllByRecursion, IsDistinct}
 use Rattle.std.specs.Set.{unique_keys, is_member}
@@ -30,7 +30,7 @@ same_later a b clock same key test = latest_unexpired clock key test a ∙ ap (o
 
 -- ---- any list of calls
 
--- a copy more, of which only an unexpired one is held
+-- one copy more, which is held only where it is unexpired
 with_is : (clock : ℕ) (copy : Copy) (copies : List Copy) → with_copy clock copy (unexpired clock copies) ≡ unexpired clock (copy ∷ copies)
 with_is clock copy copies = refl
 
@@ -142,7 +142,7 @@ height_same None (Some v) h = absurd (omega (arith, h))
 height_same (Some u) None h = absurd (omega (arith, h))
 height_same (Some u) (Some v) h = ap (λ (n : ℕ). Some n) (omega (arith, h))
 
--- a choice between a copy more and none
+-- a choice between one copy more and none
 choice_height : (b : Bool) (u : ℕ) (o : Option ℕ) → height (cond b (Some (later_of u o)) o) ≡ cond b (max (u + 1) (height o)) (height o)
 choice_height true u None = omega arith
 choice_height true u (Some v) = omega arith

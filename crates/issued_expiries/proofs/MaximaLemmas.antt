@@ -3,25 +3,25 @@ use Rattle.std.proofs.Common.{◌≡◌, ℕ, ◌+◌, ◌*◌, ◌/◌, ◌-◌
 use Rattle.std.proofs.lemmas.Bool.{cond-true, cond-false, cases_eq, cases_lt, eq-eqb, ne_eqb}
 use Rattle.issued_expiries.specs.Maxima.{IsMaxima, IsAtMost}
 
--- a number that stands alone at an odd place, or 0
+-- the number at an odd index, or 0
 abbrev pub alone : List ℕ → ℕ → ℕ → ℕ
-alone tree test place = cond (eqb (test % 2) 1) (get_or tree place 0) 0
+alone tree test index = cond (eqb (test % 2) 1) (get_or tree index 0) 0
 
-alone_odd : (tree : List ℕ) (test place : ℕ) → test % 2 ≡ 1 → alone tree test place ≡ get_or tree place 0
-alone_odd tree test place odd = cond-true (eqb (test % 2) 1) (get_or tree place 0) 0 (eq-eqb (test % 2) 1 odd)
+alone_odd : (tree : List ℕ) (test index : ℕ) → test % 2 ≡ 1 → alone tree test index ≡ get_or tree index 0
+alone_odd tree test index odd = cond-true (eqb (test % 2) 1) (get_or tree index 0) 0 (eq-eqb (test % 2) 1 odd)
 
-alone_even : (tree : List ℕ) (test place : ℕ) → (test % 2 ≡ 1 → ⊥) → alone tree test place ≡ 0
-alone_even tree test place even = cond-false (eqb (test % 2) 1) (get_or tree place 0) 0 (ne_eqb (test % 2) 1 even)
+alone_even : (tree : List ℕ) (test index : ℕ) → (test % 2 ≡ 1 → ⊥) → alone tree test index ≡ 0
+alone_even tree test index even = cond-false (eqb (test % 2) 1) (get_or tree index 0) 0 (ne_eqb (test % 2) 1 even)
 
--- what stands alone is at most n where all are
-alone_within : (tree : List ℕ) (test place low high n : ℕ) → IsAtMost tree low high n → (test % 2 ≡ 1 → low ≤ place) → (test % 2 ≡ 1 → place < high) → alone tree test place ≤ n
-alone_within tree test place low high n all from below =
+-- that number is at most n where all are
+alone_within : (tree : List ℕ) (test index low high n : ℕ) → IsAtMost tree low high n → (test % 2 ≡ 1 → low ≤ index) → (test % 2 ≡ 1 → index < high) → alone tree test index ≤ n
+alone_within tree test index low high n all from below =
     elim (cases_eq (test % 2) 1) [
-      | inl odd ↦ (let e = alone_odd tree test place odd in let b = all place (from odd) (below odd) in omega (arith, e, b))
-      | inr even ↦ (let e = alone_even tree test place even in omega (arith, e))
+      | inl odd ↦ (let e = alone_odd tree test index odd in let b = all index (from odd) (below odd) in omega (arith, e, b))
+      | inr even ↦ (let e = alone_even tree test index even in omega (arith, e))
     ]
 
--- the places above those of a range are at most n where the range is
+-- the indexes above those of a range are at most n where the range is
 up : (tree : List ℕ) (low high n : ℕ) → IsMaxima tree → 1 ≤ low → high ≤ length tree → IsAtMost tree low high n → IsAtMost tree ((low + 1) / 2) (high / 2) n
 up tree low high n maxima least within all i from below =
     let one : 1 ≤ i = omega arith in
@@ -32,7 +32,7 @@ up tree low high n maxima least within all i from below =
     let right = all (2 * i + 1) (omega arith) (omega arith) in
     omega (arith, here, left, right)
 
--- a place is at most n where the place above it is
+-- an index is at most n where the index above it is
 covered : (tree : List ℕ) (j n : ℕ) → IsMaxima tree → 1 ≤ j / 2 → 2 * (j / 2) + 1 < length tree → get_or tree (j / 2) 0 ≤ n → get_or tree j 0 ≤ n
 covered tree j n maxima one inside above =
     let not_gap : (j / 2 ≡ 0) → ⊥ = λ e. omega (arith, e) in
@@ -42,7 +42,7 @@ covered tree j n maxima one inside above =
       | inr other ↦ (let odd : 2 * (j / 2) + 1 ≡ j = omega (arith, other) in subst (λ (k : ℕ). get_or tree k 0 ≤ n) odd (omega (arith, here, above)))
     ]
 
--- a range is at most n where what stands alone is, and the places above the others
+-- a range is at most n where its single number is, and the indexes above the others
 down : (tree : List ℕ) (low high n : ℕ) → IsMaxima tree → 1 ≤ low → low < high → high ≤ length tree →
     alone tree low low ≤ n → alone tree high (high - 1) ≤ n → IsAtMost tree ((low + 1) / 2) (high / 2) n → IsAtMost tree low high n
 down tree low high n maxima least some within first last all j from below =

@@ -11,7 +11,7 @@ use Rattle.query_normal.specs.declared.key.KeyShape.{KeyShape}
 use Rattle.query_normal.specs.Keys.{same_key}
 use Rattle.query_normal.specs.SameKey.{same_key_equiv}
 use Rattle.issued_expiries.specs.Copies.{Copy, SameCopies, active_keys, is_active, later_of, latest_where, unexpired}
-use Rattle.issued_expiries.specs.KeyCopies.{Kept, greatest, is_later, last_until}
+use Rattle.issued_expiries.specs.KeyCopies.{KeptCopies, greatest, is_later, last_until}
 use Rattle.issued_expiries.specs.Entries.{Entries, kept_of, held_of, greatest_in, Ages, AllAge, AreUnexpired}
 
 -- ---- seconds above a clock
@@ -106,7 +106,7 @@ join_none : (o : Option ℕ) → join o None ≡ o
 join_none None = refl
 join_none (Some u) = refl
 
-distinct_rest : (e : KeyShape × Kept) (entries : Entries) → IsDistinct same_key (keys_of (e ∷ entries)) → IsDistinct same_key (keys_of entries)
+distinct_rest : (e : KeyShape × KeptCopies) (entries : Entries) → IsDistinct same_key (keys_of (e ∷ entries)) → IsDistinct same_key (keys_of entries)
 unfolding IsDistinct
 distinct_rest e entries distinct = distinct.1
 
@@ -128,7 +128,7 @@ latest_kept clock key test (e ∷ entries) distinct =
           ∙ (rw other refl))
     ]
   where
-    absent_past : (key : KeyShape) (e : KeyShape × Kept) (entries : Entries) → IsDistinct same_key (keys_of (e ∷ entries)) → same_key key e.0 ≡ true → kept_of key entries ≡ None
+    absent_past : (key : KeyShape) (e : KeyShape × KeptCopies) (entries : Entries) → IsDistinct same_key (keys_of (e ∷ entries)) → same_key key e.0 ≡ true → kept_of key entries ≡ None
     absent_past key e entries distinct hit = lookup-none (same_key key) entries (none_past_head same_key_equiv key e entries distinct hit)
 
 -- ---- which keys are active
@@ -142,7 +142,7 @@ active_is (x ∷ copies) key =
       | inr other ↦ rw other (active_is copies key)
     ]
 
-some_active : (clock : ℕ) (o : Option Kept) → IfSome o (λ kept. clock < last_until kept) → is_some (if_above clock (greatest_in (λ _. true) o)) ≡ is_some o
+some_active : (clock : ℕ) (o : Option KeptCopies) → IfSome o (λ kept. clock < last_until kept) → is_some (if_above clock (greatest_in (λ _. true) o)) ≡ is_some o
 some_active clock None late = ap (λ (p : Option ℕ). is_some p) (above_nothing clock 0 (omega arith))
 some_active clock (Some kept) late = ap (λ (p : Option ℕ). is_some p) (above_some clock (last_until kept) late)
 
@@ -157,7 +157,7 @@ pub active-map : (copies : List Copy) (key : KeyShape) → list_any (same_key ke
 active-map [] key = refl
 active-map (x ∷ copies) key = ap (λ (b : Bool). same_key key x.0 || b) (active-map copies key)
 
--- so many keys are active as are kept
+-- the number of active keys is that of the entries
 pub active_keys_kept : (clock : ℕ) (entries : Entries) → IsDistinct same_key (keys_of entries) → AreUnexpired clock entries → length entries ≡ active_keys (held_of clock entries)
 active_keys_kept clock entries distinct unexpired =
     sym (length-keys_of entries)
@@ -228,12 +228,12 @@ greatest_upto test (x ∷ xs) =
     ]
 
 -- what a moment leaves of a key
-aged : (moment : ℕ) (test : ℕ → Bool) (before after : Option Kept) (was is : Bool) → Ages moment before after was is → if_above moment (greatest_in test after) ≡ if_above moment (greatest_in test before)
-aged moment test before after was is (inl stays) = ap (λ (o : Option Kept). if_above moment (greatest_in test o)) stays.0
+aged : (moment : ℕ) (test : ℕ → Bool) (before after : Option KeptCopies) (was is : Bool) → Ages moment before after was is → if_above moment (greatest_in test after) ≡ if_above moment (greatest_in test before)
+aged moment test before after was is (inl stays) = ap (λ (o : Option KeptCopies). if_above moment (greatest_in test o)) stays.0
 aged moment test before after was is (inr (kept, before_is, past, gone, idle)) =
-    ap (λ (o : Option Kept). if_above moment (greatest_in test o)) gone
+    ap (λ (o : Option KeptCopies). if_above moment (greatest_in test o)) gone
     ∙ above_nothing moment 0 (omega arith)
-    ∙ sym (ap (λ (o : Option Kept). if_above moment (greatest_in test o)) before_is ∙ above_nothing moment (greatest test kept.copies) (let g = greatest_upto test kept.copies in omega (arith, g, past)))
+    ∙ sym (ap (λ (o : Option KeptCopies). if_above moment (greatest_in test o)) before_is ∙ above_nothing moment (greatest test kept.copies) (let g = greatest_upto test kept.copies in omega (arith, g, past)))
 
 -- the unexpired copies after a moment
 pub aged_held : (clock moment : ℕ) (before after : Entries) (was is : List KeyShape) → clock ≤ moment → IsDistinct same_key (keys_of before) → IsDistinct same_key (keys_of after) → AllAge moment before after was is →
@@ -254,8 +254,8 @@ same_held clock entries distinct key test =
     ∙ only_again clock clock (greatest_in test (kept_of key entries)) (omega arith))
 
 -- which keys are idle after a moment
-idle_after : (moment : ℕ) (before after : Option Kept) (was is : Bool) → Ages moment before after was is → is ≡ (was || is_some before && not (is_some after))
-idle_after moment before after was is (inl stays) = stays.1 ∙ sym (ap (λ (o : Option Kept). was || is_some before && not (is_some o)) stays.0 ∙ still was (is_some before))
+idle_after : (moment : ℕ) (before after : Option KeptCopies) (was is : Bool) → Ages moment before after was is → is ≡ (was || is_some before && not (is_some after))
+idle_after moment before after was is (inl stays) = stays.1 ∙ sym (ap (λ (o : Option KeptCopies). was || is_some before && not (is_some o)) stays.0 ∙ still was (is_some before))
   where
     still : (a b : Bool) → (a || b && not b) ≡ a
     still true true = refl
@@ -263,7 +263,7 @@ idle_after moment before after was is (inl stays) = stays.1 ∙ sym (ap (λ (o :
     still false true = refl
     still false false = refl
 idle_after moment before after was is (inr (kept, before_is, past, gone, idle)) =
-    idle ∙ sym (ap (λ (o : Option Kept). was || is_some o && not (is_some after)) before_is ∙ ap (λ (o : Option Kept). was || not (is_some o)) gone ∙ or_true was)
+    idle ∙ sym (ap (λ (o : Option KeptCopies). was || is_some o && not (is_some after)) before_is ∙ ap (λ (o : Option KeptCopies). was || not (is_some o)) gone ∙ or_true was)
   where
     or_true : (a : Bool) → (a || true) ≡ true
     or_true true = refl

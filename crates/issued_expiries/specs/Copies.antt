@@ -1,11 +1,11 @@
--- Copies that were issued of keys, and what is asked of them.
+-- Internal. Issued copies of keys, and the questions about them.
 use Rattle.std.specs.Prelude.{◌≡◌, ℕ, ◌==◌, Bool, ◌&&◌, max, nat_le, nat_lt, if◌then◌else◌, List, [], ◌∷◌, Option, Some, None, map, filter}
 use Rattle.std.specs.List.{list_any}
 use Rattle.std.specs.Set.{distinct_count}
 use Rattle.query_normal.specs.declared.key.KeyShape.{KeyShape}
 use Rattle.query_normal.specs.Keys.{same_key}
 
--- a copy: its key, the commit that it is of, and the second at which it expires
+-- an issued copy: its key, the commit at which it was read, and the second at which it expires
 abbrev pub Copy : Type 0
 Copy = KeyShape × ℕ × ℕ
 
@@ -39,14 +39,14 @@ until_at copies key commit = latest_where key (λ other. other == commit) copies
 abbrev pub is_active : List Copy → KeyShape → Bool
 is_active copies key = list_any (λ copy. same_key key copy.0) copies
 
--- how many keys have a copy
+-- the number of keys that have a copy
 abbrev pub active_keys : List Copy → ℕ
 active_keys copies = distinct_count same_key (map (λ copy. copy.0) copies)
 
--- whichever key and whichever commits are asked for, the greatest until is the same
+-- for every key and every test of commits the greatest until is the same
 abbrev pub SameCopies : List Copy → List Copy → Type 0
 SameCopies some others = (key : KeyShape) (test : ℕ → Bool) → latest_where key test some ≡ latest_where key test others
 
--- the copies with one more, unless that is expired
+-- the copies with one more, unless it is expired
 abbrev pub with_copy : ℕ → Copy → List Copy → List Copy
 with_copy clock copy copies = if nat_lt clock copy.2 then copy ∷ copies else copies

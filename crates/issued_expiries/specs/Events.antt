@@ -1,11 +1,11 @@
--- Lists of issues, advances and idle keys that were given, the newest first, and what they leave.
+-- Internal. Lists of issues, advances and returned idle keys, the newest first, and their effect.
 use Rattle.std.specs.Prelude.{◌≡◌, ℕ, Bool, false, not, ◌&&◌, ◌||◌, IsTrue, max, nat_lt, List, [], ◌∷◌}
 use Rattle.query_normal.specs.declared.key.KeyShape.{KeyShape}
 use Rattle.query_normal.specs.Keys.{same_key}
 use Rattle.issued_expiries.specs.Copies.{Copy, SameCopies, is_active, unexpired, with_copy}
 use Rattle.issued_expiries.specs.Expiries.{Issued, none_issued, is_idle}
 
--- a copy of a key at a commit until a second, a moment, an idle key that was given, or that all idle keys were given up
+-- a copy of a key at a commit until a second was issued, the clock advanced to a moment, an idle key was returned, or all idle keys were dropped
 pub data Event : Type 0 where
   issue : KeyShape → ℕ → ℕ → Event
   advance : ℕ → Event
@@ -32,7 +32,7 @@ copies_of (forget ∷ events) = copies_of events
 abbrev pub was_active : List Event → KeyShape → Bool
 was_active events key = is_active (unexpired (clock_after events) (copies_of events)) key
 
--- whether an advance made a key inactive, of which no unexpired copy was issued since, and which was not given or given up since
+-- whether an advance made a key inactive, and since then no unexpired copy of it was issued and it was not returned or dropped
 abbrev pub went_idle : List Event → KeyShape → Bool
 went_idle [] key = false
 went_idle (issue other commit until ∷ events) key = not (same_key other key && nat_lt (clock_after events) until) && went_idle events key
@@ -40,7 +40,7 @@ went_idle (advance moment ∷ events) key = went_idle events key || was_active e
 went_idle (give other ∷ events) key = not (same_key other key) && went_idle events key
 went_idle (forget ∷ events) key = false
 
--- what the clauses of the calls say of one that is such an event
+-- the call of an event, by its clauses, took the state from before to after
 abbrev pub Follows : Issued → Event → Issued → Type 0
 Follows before (issue key commit until) after =
     (after.clock ≡ before.clock)
@@ -56,7 +56,7 @@ Follows before (give key) after =
     × ((other : KeyShape) → is_idle after other ≡ (not (same_key key other) && is_idle before other))
 Follows before forget after = after ≡ record before { idle = [] }
 
--- the calls of these events, from nothing on, may end so
+-- the calls of these events, from no copy on, may end in this state
 abbrev pub EndsAs : List Event → Issued → Type 0
 EndsAs [] after = after ≡ none_issued
 EndsAs (event ∷ events) after = (before : Issued) × EndsAs events before × Follows before event after

@@ -1,4 +1,4 @@
-//! The unexpired copies of all keys.
+//! The unexpired issued copies of all keys.
 ghost use Rattle.std.specs.Prelude.{◌≡◌, ◌⊎◌, ℕ, ◌+◌, ◌^◌, ◌<◌, ◌≤◌, max, not, ◌&&◌, ◌||◌, if◌then◌else◌, nat_lt, true, false, [], IsTrue, IfOk, OnOk, OnErr, IfSome, IfNone, All, length};
 ghost use Rattle.std.specs.List.{list_any};
 ghost use Rattle.std.specs.BinaryHeap.{heap_items, heap_len, heap_capacity};
@@ -9,7 +9,7 @@ ghost use Rattle.query_normal.specs.Keys.{same_key};
 ghost use Rattle.issued_expiries.specs.Copies.{SameCopies, active_keys, is_active, latest_of, unexpired, with_copy};
 ghost use Rattle.issued_expiries.specs.Expiries.{none_issued, is_idle, is_reserved};
 
-use crate::held::{Held, expire, make_room, put};
+use crate::held::{HeldKeys, expire, make_space, put};
 use expiring_map::ExpiringMap;
 use expiring_map::key_sets::{leave_out, take_all, take_one};
 use indexmap::IndexSet;
@@ -18,12 +18,13 @@ use query_normal::Key;
 use std::alloc::Global;
 use std::marker::Model;
 
-/// The copies that were issued of keys and are not expired, and the keys of which none is left.
+/// The unexpired issued copies of keys, and the idle keys: how a cache server knows when no outdated copy
+/// is left, as in Quaestor (Gessert et al., VLDB 2017).
 #[derive(Drop)]
 pub struct Expiries {
     alloc: Global,
     clock: u64,
-    held: Held,
+    held: HeldKeys,
     idle: IndexSet<Key>,
 }
 
@@ -46,12 +47,12 @@ impl Model for Expiries {
     ghost invariant = { λ e. record {
       capped : e.clock ≤ GREATEST_SECONDS;
       sound : IsSound e.clock e.held.entries e.held.reserved e.idle.keys;
-      idle_room : length e.held.entries + length e.held.reserved ≤ set_spare e.idle;
+      idle_space : length e.held.entries + length e.held.reserved ≤ set_spare e.idle;
     } };
 }
 
 impl Expiries {
-    /// Nothing is issued yet.
+    /// No copy is issued yet.
     pub fn new(alloc: Global) -> Result<Expiries, Memory>
         ensures { IfOk result (λ expiries. expiries ≡ none_issued) }
     {
@@ -63,8 +64,8 @@ impl Expiries {
         })
     }
 
-    /// Makes room for a copy of a key, so that one `issue` of it takes no memory. What was reserved
-    /// before stays so.
+    /// Reserves space for a copy of a key, so that one `issue` of it allocates nothing. Earlier
+    /// reservations stay.
     pub fn reserve(&mut self, key: &Key) -> Result<(), Memory>
         ensures ok { OnOk result (IsTrue (is_reserved self.new key.now)) }
         ensures others { (other : AKey) → same_key key.now other ≡ false → is_reserved self.new other ≡ is_reserved self.old other }
@@ -74,13 +75,13 @@ impl Expiries {
         if self.held.reserves(key) {
             return Ok(());
         }
-        make_room(&mut self.held, self.alloc, key, self.clock)?;
+        make_space(&mut self.held, self.alloc, key, self.clock)?;
         reserve_idle(&mut self.idle, self.held.len(), self.held.reserved())?;
         self.held.reserve(key)
     }
 
     /// Holds a copy of a reserved key at a commit until a second, if that is later than the clock. A
-    /// held copy at the commit keeps the later of the two. The key is not reserved any more.
+    /// held copy at the commit keeps the later of the two. It uses the reservation of the key up.
     pub fn issue(&mut self, key: &Key, commit: Commit, until: u64)
         requires reserved { IsTrue (is_reserved self.old key.now) }
         requires few { IsTrue (is_active self.old.held key.now) ⊎ (active_keys self.old.held < 1000000) }
@@ -126,7 +127,7 @@ impl Expiries {
         self.held.contains(key)
     }
 
-    /// How many keys have an unexpired copy.
+    /// The number of keys with an unexpired copy.
     pub fn active_count(&self) -> u32
         ensures count { result ≡ active_keys self.now.held }
         ensures few { result ≤ 1000000 }
@@ -135,8 +136,8 @@ impl Expiries {
         self.held.len() as u32
     }
 
-    /// The greatest until of the unexpired copies of a key at or above a commit and below another.
-    /// It takes logarithmic time.
+    /// The greatest until of the unexpired copies of a key at or above a commit and below another, in
+    /// logarithmic time.
     pub fn latest(&self, key: &Key, from: Commit, below: Commit) -> Option<u64>
         ensures { result ≡ latest_of self.now.held key.now from below }
     {
@@ -146,25 +147,27 @@ impl Expiries {
         }
     }
 
-    /// Gives an idle key, which is not idle any more.
+    /// Returns an idle key, which is not idle any more.
     pub fn next_idle(&mut self) -> Option<Key>
         ensures some { IfSome result (λ key. IsTrue (is_idle self.old key)) }
         ensures inactive { IfSome result (λ key. is_active self.old.held key ≡ false) }
         ensures given { IfSome result (λ key. (other : AKey) → is_idle self.new other ≡ (not (same_key key other) && is_idle self.old other)) }
+        ensures fewer { IfSome result (λ _. length self.new.idle + 1 ≡ length self.old.idle) }
         ensures none { IfNone result (self.old.idle ≡ []) }
+        ensures left { IfNone result (self.new.idle ≡ []) }
         ensures rest { self.new ≡ record self.old { idle = self.new.idle } }
     {
         take_one(&mut self.idle)
     }
 
-    /// Gives up the idle keys.
+    /// Drops the idle keys.
     pub fn forget_idle(&mut self)
         ensures { self.new ≡ record self.old { idle = [] } }
     {
         take_all(&mut self.idle);
     }
 
-    /// Gives back what was reserved and not used.
+    /// Drops the reservations that were not used.
     pub fn forget_reserved(&mut self)
         ensures { self.new ≡ record self.old { reserved = [] } }
     {
@@ -179,11 +182,11 @@ fn later_than(until: u64, clock: u64) -> Option<u64>
     if clock < until { Some(until) } else { None }
 }
 
-/// Makes room for each held key, each reserved key and one more among the idle ones.
+/// Reserves space among the idle keys for each held key, each reserved key and one more.
 fn reserve_idle(idle: &mut IndexSet<Key>, held: usize, reserved: usize) -> Result<(), Memory>
     requires { reserved ≤ 2 ^ 63 }
     ensures keys { idle.new.keys ≡ idle.old.keys }
-    ensures room { OnOk result (held + reserved + 1 ≤ set_spare idle.new) }
+    ensures space { OnOk result (held + reserved + 1 ≤ set_spare idle.new) }
     ensures spare { set_spare idle.old ≤ set_spare idle.new }
 {
     let keys = held.checked_add(reserved + 1).ok_or(Memory)?;

@@ -1,4 +1,4 @@
-//! The keys with unexpired copies. Each leaves when its last copy expires.
+//! The keys with unexpired copies. Each expires with its last copy.
 ghost use Rattle.std.specs.Prelude.{◌≡◌, ◌+◌, ◌<◌, ◌≤◌, not, ◌&&◌, ◌||◌, if◌then◌else◌, is_some, IsTrue, IfSome, OnOk, length};
 ghost use Rattle.std.specs.List.{list_any, IsDistinct};
 ghost use Rattle.std.specs.Map.{keys_of};
@@ -6,7 +6,7 @@ ghost use Rattle.indexmap.specs.IndexSet.{spare as set_spare};
 ghost use Rattle.query_normal.specs.declared.key.KeyShape.{KeyShape as AKey};
 ghost use Rattle.query_normal.specs.Keys.{same_key};
 ghost use Rattle.expiring_map.specs.Map.{is_reserved as is_ready};
-ghost use Rattle.issued_expiries.specs.KeyCopies.{HasRoom};
+ghost use Rattle.issued_expiries.specs.KeyCopies.{HasSpace};
 ghost use Rattle.issued_expiries.specs.Entries.{copies_in, kept_of, AllAge, AreTied, AreUnexpired, Puts, Trims};
 
 use crate::key_copies::KeyCopies;
@@ -17,28 +17,28 @@ use query_normal::Key;
 use std::alloc::Global;
 
 /// The keys with unexpired copies.
-pub type Held = ExpiringMap<KeyCopies>;
+pub type HeldKeys = ExpiringMap<KeyCopies>;
 
-/// Makes room for a copy of a key, if it is held.
-pub fn make_room(held: &mut Held, alloc: Global, key: &Key, clock: u64) -> Result<(), Memory>
+/// Makes space for one more copy of a key, if it is held.
+pub fn make_space(held: &mut HeldKeys, alloc: Global, key: &Key, clock: u64) -> Result<(), Memory>
     requires unexpired { AreUnexpired clock (copies_in held.old.entries) }
     requires tied { AreTied held.old.entries }
-    ensures room { OnOk result (IfSome (kept_of key.now (copies_in held.new.entries)) HasRoom) }
+    ensures space { OnOk result (IfSome (kept_of key.now (copies_in held.new.entries)) HasSpace) }
     ensures trims { Trims clock key.now (copies_in held.old.entries) (copies_in held.new.entries) }
     ensures tied { AreTied held.new.entries }
     ensures reserved { held.new.reserved ≡ held.old.reserved }
     ensures len { length held.new.entries ≡ length held.old.entries }
 {
-    match held.place_of(key) {
-        Some(place) => held.value_mut(place).make_room(alloc, clock),
+    match held.index_of(key) {
+        Some(index) => held.value_mut(index).make_space(alloc, clock),
         None => Ok(()),
     }
 }
 
-/// Adds a copy of a reserved key. It takes no memory.
-pub fn put(held: &mut Held, alloc: Global, key: &Key, commit: u64, until: u64)
+/// Adds a copy of a reserved key. It allocates nothing.
+pub fn put(held: &mut HeldKeys, alloc: Global, key: &Key, commit: u64, until: u64)
     requires reserved { IsTrue (is_ready held.old key.now) }
-    requires room { IfSome (kept_of key.now (copies_in held.old.entries)) HasRoom }
+    requires space { IfSome (kept_of key.now (copies_in held.old.entries)) HasSpace }
     requires tied { AreTied held.old.entries }
     ensures puts { Puts key.now commit until (copies_in held.old.entries) (copies_in held.new.entries) }
     ensures tied { AreTied held.new.entries }
@@ -47,17 +47,17 @@ pub fn put(held: &mut Held, alloc: Global, key: &Key, commit: u64, until: u64)
     ensures used { length held.new.reserved < length held.old.reserved }
     ensures len { length held.new.entries ≡ (if is_some (kept_of key.now (copies_in held.old.entries)) then length held.old.entries else length held.old.entries + 1) }
 {
-    match held.place_of(key) {
-        Some(place) => {
-            held.value_mut(place).put(commit, until);
-            held.extend(place, until);
+    match held.index_of(key) {
+        Some(index) => {
+            held.value_mut(index).put(commit, until);
+            held.extend(index, until);
             held.release(key);
         }
         None => held.put(key, until, KeyCopies::one(alloc, commit, until)),
     }
 }
 
-/// Makes a key idle. It takes no memory.
+/// Makes a key idle. It allocates nothing.
 fn add_idle(idle: &mut IndexSet<Key>, key: Key)
     requires { 0 < set_spare idle.old }
     ensures keys { (other : AKey) → list_any (same_key other) idle.new.keys ≡ (same_key key other || list_any (same_key other) idle.old.keys) }
@@ -69,11 +69,11 @@ fn add_idle(idle: &mut IndexSet<Key>, key: Key)
     }
 }
 
-/// Takes out each key whose last copy is not later than the moment. They become idle.
-pub fn expire(held: &mut Held, idle: &mut IndexSet<Key>, moment: Moment)
+/// Removes each key whose last copy is not later than the moment, and makes it idle.
+pub fn expire(held: &mut HeldKeys, idle: &mut IndexSet<Key>, moment: Moment)
     requires distinct { IsDistinct same_key (keys_of (copies_in held.old.entries)) }
     requires tied { AreTied held.old.entries }
-    requires idle_room { length held.old.entries ≤ set_spare idle.old }
+    requires idle_space { length held.old.entries ≤ set_spare idle.old }
     ensures ages { AllAge moment (copies_in held.old.entries) (copies_in held.new.entries) idle.old.keys idle.new.keys }
     ensures unexpired { AreUnexpired moment (copies_in held.new.entries) }
     ensures tied { AreTied held.new.entries }

@@ -1,4 +1,4 @@
-//! The unexpired copies that were issued of keys, and the keys of which no copy is left.
+//! The unexpired issued copies of keys, and the idle keys, of which no copy is left.
 #![tactic(auto)]
 
 mod expiries;

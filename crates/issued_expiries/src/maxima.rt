@@ -1,16 +1,16 @@
-//! A row of numbers under a tree of their maxima, in one list of twice the row's length.
+//! A segment tree of maxima over a row of numbers, in one list of twice the row's length.
 //!
-//! The row is the list's second half. Each place from 1 to the row's start has the greater of the
-//! numbers at twice that place and behind it, so a place covers all that stands below it:
+//! The row is the second half of the list. Index i, from 1 to the row's start, has the greater of the
+//! numbers at indexes 2i and 2i + 1, so it covers all numbers below it:
 //!
 //! ```text
-//!   place   0   1   2   3   4   5   6   7
+//!   index   0   1   2   3   4   5   6   7
 //!               9   5   9   3   5   9   1      the row 3 5 9 1
 //! ```
 ghost use Rattle.std.specs.Prelude.{◌≡◌, ◌≢◌, ℕ, ◌+◌, ◌*◌, ◌/◌, ◌-◌, ◌%◌, ◌<◌, ◌≤◌, ◌==◌, ◌↔◌, if◌then◌else◌, length, slice_index};
 ghost use Rattle.issued_expiries.specs.Maxima.{IsMaxima, IsMaximaBut, IsMaximaFrom, IsAtMost};
 
-/// The greatest of the numbers from a place up to another, or 0 where there is none.
+/// The greatest of the numbers from an index up to an end, or 0 where there is none.
 pub fn greatest_between(tree: &[u64], first: usize, end: usize) -> u64
     requires maxima { IsMaxima tree.now }
     requires first { first < end → 1 ≤ first }
@@ -30,15 +30,15 @@ pub fn greatest_between(tree: &[u64], first: usize, end: usize) -> u64
     greatest
 }
 
-/// The number at an odd place, which does not share its cover with the one before it.
-fn first_if_odd(tree: &[u64], place: usize) -> u64
-    requires { place < length tree.now }
-    ensures { result ≡ (if place % 2 == 1 then slice_index tree.now place else 0) }
+/// The number at an odd index, whose parent covers the number before it too; 0 at an even index.
+fn first_if_odd(tree: &[u64], index: usize) -> u64
+    requires { index < length tree.now }
+    ensures { result ≡ (if index % 2 == 1 then slice_index tree.now index else 0) }
 {
-    if place % 2 == 1 { tree[place] } else { 0 }
+    if index % 2 == 1 { tree[index] } else { 0 }
 }
 
-/// The number before an odd end, which does not share its cover with the one behind it.
+/// The number before an odd end, whose parent covers the number after it too; 0 before an even end.
 fn last_if_odd(tree: &[u64], end: usize) -> u64
     requires some { 1 ≤ end }
     requires within { end ≤ length tree.now }
@@ -48,16 +48,16 @@ fn last_if_odd(tree: &[u64], end: usize) -> u64
 }
 
 /// Writes a number of the row.
-pub fn set_number(tree: &mut [u64], place: usize, number: u64)
+pub fn set_number(tree: &mut [u64], index: usize, number: u64)
     requires maxima { IsMaxima tree.old }
-    requires row { length tree.old ≤ 2 * place }
-    requires within { place < length tree.old }
+    requires row { length tree.old ≤ 2 * index }
+    requires within { index < length tree.old }
     ensures maxima { IsMaxima tree.new }
-    ensures number { slice_index tree.new place ≡ number }
-    ensures others { (i : ℕ) → length tree.old ≤ 2 * i → i ≢ place → slice_index tree.new i ≡ slice_index tree.old i }
+    ensures number { slice_index tree.new index ≡ number }
+    ensures others { (i : ℕ) → length tree.old ≤ 2 * i → i ≢ index → slice_index tree.new i ≡ slice_index tree.old i }
 {
-    tree[place] = number;
-    let mut node = place / 2;
+    tree[index] = number;
+    let mut node = index / 2;
     while node > 0 {
         let greatest = tree[2 * node].max(tree[2 * node + 1]);
         if tree[node] == greatest {
@@ -68,7 +68,7 @@ pub fn set_number(tree: &mut [u64], place: usize, number: u64)
     }
 }
 
-/// Makes the tree over a row.
+/// Builds the tree over a row.
 pub fn build(tree: &mut [u64])
     requires { length tree.old % 2 ≡ 0 }
     ensures maxima { IsMaxima tree.new }
@@ -81,7 +81,7 @@ pub fn build(tree: &mut [u64])
     }
 }
 
-/// Writes a number into the row at a place, whose number and those up to an end move on by one.
+/// Inserts a number into the row at an index. The numbers from there up to an end move on by one.
 pub fn insert_number(tree: &mut [u64], start: usize, end: usize, number: u64)
     requires maxima { IsMaxima tree.old }
     requires row { length tree.old ≤ 2 * start }
@@ -93,11 +93,11 @@ pub fn insert_number(tree: &mut [u64], start: usize, end: usize, number: u64)
     ensures before { (i : ℕ) → length tree.old ≤ 2 * i → i < start → slice_index tree.new i ≡ slice_index tree.old i }
     ensures behind { (i : ℕ) → end < i → slice_index tree.new i ≡ slice_index tree.old i }
 {
-    let mut place = end;
-    while place > start {
-        let before = tree[place - 1];
-        set_number(tree, place, before);
-        place -= 1;
+    let mut index = end;
+    while index > start {
+        let before = tree[index - 1];
+        set_number(tree, index, before);
+        index -= 1;
     }
     set_number(tree, start, number);
 }

@@ -3,7 +3,7 @@ use Rattle.expiring_filter.specs.Counts.{times}
 use Rattle.expiring_filter.proofs.CountLemmas.{times_at, lowered_more}
 use Rattle.expiring_filter.proofs.counters.lower.Goals as goal
 
--- the position at hand was taken back once less than it stands among all
+-- the current position was lowered once less than it is among all
 pub lower_one-requires-clause-some : goal.lower_one-requires-clause-some
 lower_one-requires-clause-some c =
     let within = c.requires.within c.loop-position.position-index 0 c.loop-position-test.true in

@@ -7,7 +7,7 @@ use Rattle.expiring_filter.proofs.counters.lower_one.Goals as goal
 pub clear-requires : goal.clear-requires
 clear-requires c = byte_within _ _ _ c.requires.flat c.requires.within
 
--- the counter leaves 0, or comes to it
+-- the counter leaves 0, or becomes 0
 pub returns-then-after-eq0-clause-flat : goal.returns-then-after-eq0-clause-flat
 returns-then-after-eq0-clause-flat c = flat_written _ _ _ _ _ false c.requires.flat (le-ltb 0 _ (omega (arith, c.if-after-eq0.true))) c.clear.ensures.bits
 

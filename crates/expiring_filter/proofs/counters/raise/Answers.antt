@@ -2,7 +2,7 @@ use Rattle.std.proofs.Common.{◌<◌, ℕ, List, get_or, length, ap, ◌∙◌,
 use Rattle.expiring_filter.proofs.CountLemmas.{times_at, raised_more}
 use Rattle.expiring_filter.proofs.counters.raise.Goals as goal
 
--- the position at hand was counted once less than it stands among all
+-- the current position was counted once less than it is among all
 pub raise_one-requires-clause-fits : goal.raise_one-requires-clause-fits
 raise_one-requires-clause-fits c =
     let within = c.requires.within c.loop-position.position-index 0 c.loop-position-test.true in

@@ -7,7 +7,7 @@ use Rattle.expiring_filter.proofs.counters.raise_one.Goals as goal
 pub set-requires : goal.set-requires
 set-requires c = byte_within _ _ _ c.requires.flat c.requires.within
 
--- the counter leaves 0, or comes to it
+-- the counter leaves 0, or becomes 0
 pub returns-then-before-eq0-clause-flat : goal.returns-then-before-eq0-clause-flat
 returns-then-before-eq0-clause-flat c = flat_written _ _ _ _ _ true c.requires.flat (lt-ltb 0 _ (omega arith)) c.set.ensures.bits
 

@@ -4,7 +4,7 @@ use Rattle.expiring_filter.proofs.filter.put.Goals as goal
 pub count-requires-clause-fits : goal.count-requires-clause-fits
 count-requires-clause-fits c = λ j. counter_fits _ _ _ _ _ c.args.key.now j c.requires.counted
 
--- a new key stands last
+-- a new key is last
 pub returns-clause-held : goal.returns-clause-held
 returns-clause-held c = seconds_put _ _ c.args.key.now c.args.until _ c.requires.absent c.put.ensures.entries
 

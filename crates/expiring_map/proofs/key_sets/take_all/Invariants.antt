@@ -1,4 +1,4 @@
--- the room only grows, and each turn takes a key
+-- the spare capacity only grows, and each turn removes a key
 use Rattle.std.proofs.Common.{◌≤◌}
 use Rattle.indexmap.specs.IndexSet.{spare, index_set_len}
 use Rattle.expiring_map.proofs.key_sets.take_all.Given as goal

@@ -10,7 +10,7 @@ returns-clause-byte c =
     ap (λ m. set c.args.page.now (30 + c.args.position / 8) (bit_or (get_or c.args.page.now (30 + c.args.position / 8) 0) m))
     (shifted_one (c.args.position % 8) (omega arith))
 
--- one byte behind the head was written
+-- one byte after the head was written
 pub returns-clause-page : goal.returns-clause-page
 returns-clause-page c = λ p rest page within was.
     let whole = page.bits ∙ sym (eights p.log2_bits (omega (arith, page.least_bits))) in

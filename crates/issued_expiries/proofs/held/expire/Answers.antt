@@ -1,6 +1,6 @@
 use Rattle.std.proofs.Common.{sym, ◌∙◌, subst, arith}
 use Rattle.expiring_map.specs.Map.{Expiring}
-use Rattle.issued_expiries.specs.KeyCopies.{Kept}
+use Rattle.issued_expiries.specs.KeyCopies.{KeptCopies}
 use Rattle.issued_expiries.specs.Entries.{copies_in, AreUnexpired}
 use Rattle.issued_expiries.proofs.HeldLemmas.{ages_then, ages_expired, tied_rest, distinct_shown, fewer, unexpired_all}
 use Rattle.issued_expiries.proofs.held.expire.Goals as goal
@@ -8,7 +8,7 @@ use Rattle.issued_expiries.proofs.held.expire.Goals as goal
 pub add_idle-requires : goal.add_idle-requires
 add_idle-requires c =
     let one = fewer c.args.moment c.in-Some.key _ _ _ c.in-Some.ensures.some in
-    omega (arith, one, c.loop-key.invariant.room)
+    omega (arith, one, c.loop-key.invariant.space)
 
 pub loop-key-smaller : goal.loop-key-smaller
 loop-key-smaller c =
@@ -25,7 +25,7 @@ loop-key-preserved c =
       tied = tied_rest c.args.moment c.in-Some.key _ _ _ c.in-Some.ensures.some c.loop-key.invariant.tied;
       distinct = distinct_shown _ c.next_expired.ensures.once;
       reserved = c.next_expired.ensures.reserved ∙ c.loop-key.invariant.reserved;
-      room = omega (arith, one, c.loop-key.invariant.room, c.add_idle.ensures.spare);
+      space = omega (arith, one, c.loop-key.invariant.space, c.add_idle.ensures.spare);
       len = omega (arith, one, c.loop-key.invariant.len);
       idle_spare = omega (arith, one, c.loop-key.invariant.idle_spare, c.add_idle.ensures.spare);
     }
@@ -33,5 +33,5 @@ loop-key-preserved c =
 -- no key is left that leaves by then
 pub returns-clause-unexpired : goal.returns-clause-unexpired
 returns-clause-unexpired c =
-    subst (λ (m : Expiring Kept). AreUnexpired c.args.moment (copies_in m.entries)) (sym c.in_default.ensures.same)
+    subst (λ (m : Expiring KeptCopies). AreUnexpired c.args.moment (copies_in m.entries)) (sym c.in_default.ensures.same)
     (unexpired_all c.args.moment c.loop-key.held.entries c.loop-key.invariant.tied c.in_default.ensures.none)

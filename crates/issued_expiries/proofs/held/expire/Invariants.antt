@@ -12,7 +12,7 @@ invariant-loop-key l = record {
   tied : AreTied l.held.entries;
   distinct : IsDistinct same_key (keys_of (copies_in l.held.entries));
   reserved : l.held.reserved ≡ l.initial.held.reserved;
-  room : length l.held.entries ≤ set_spare l.idle;
+  space : length l.held.entries ≤ set_spare l.idle;
   len : length l.held.entries ≤ length l.initial.held.entries;
   idle_spare : set_spare l.initial.idle + length l.held.entries ≤ set_spare l.idle + length l.initial.held.entries;
 }

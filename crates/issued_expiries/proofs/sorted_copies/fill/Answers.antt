@@ -2,8 +2,8 @@ use Rattle.std.proofs.Common.{◌∙◌, arith}
 use Rattle.issued_expiries.proofs.KeepLemmas.{count_all, copies_alike}
 use Rattle.issued_expiries.proofs.sorted_copies.fill.Goals as goal
 
-pub keep_later-requires-clause-room : goal.keep_later-requires-clause-room
-keep_later-requires-clause-room c = (let n = count_all c.args.clock c.args.commits.now c.args.untils.now c.requires.len in omega (arith, n, c.requires.room))
+pub keep_later-requires-clause-space : goal.keep_later-requires-clause-space
+keep_later-requires-clause-space c = (let n = count_all c.args.clock c.args.commits.now c.args.untils.now c.requires.len in omega (arith, n, c.requires.space))
 
 pub keep_later-requires-clause-row : goal.keep_later-requires-clause-row
 keep_later-requires-clause-row c = (let n = count_all c.args.clock c.args.commits.now c.args.untils.now c.requires.len in omega (arith, n, c.requires.row))

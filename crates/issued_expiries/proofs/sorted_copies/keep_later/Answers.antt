@@ -1,6 +1,6 @@
 use Rattle.std.specs.Vec.{vec_capacity}
 use Rattle.std.proofs.Common.{Vec, Global, ◌≡◌, ◌<◌, ◌≤◌, ◌+◌, ℕ, length, ap, ◌∙◌, arith, rules}
-use Rattle.issued_expiries.proofs.KeepLemmas.{kept_room, kept_one, kept_none, kept_first, kept_last, kept_count}
+use Rattle.issued_expiries.proofs.KeepLemmas.{kept_space, kept_one, kept_none, kept_first, kept_last, kept_count}
 use Rattle.issued_expiries.proofs.sorted_copies.keep_later.Goals as goal
 use Rattle.issued_expiries.proofs.sorted_copies.keep_later.Goals.{then-clock-until, else-clock-until}
 
@@ -9,20 +9,20 @@ loop-i-init c = record { upto = kept_first _ _ _ _ _ _ c.requires.empty; capacit
 
 pub bounds-tree-start : goal.bounds-tree-start
 bounds-tree-start c =
-    let room = kept_room _ _ _ _ _ _ _ c.loop-i.invariant.upto c.loop-i-test.true c.if-clock-until.true in
-    omega (arith, room, c.requires.row, c.loop-i.auto.tree)
+    let space = kept_space _ _ _ _ _ _ _ c.loop-i.invariant.upto c.loop-i-test.true c.if-clock-until.true in
+    omega (arith, space, c.requires.row, c.loop-i.auto.tree)
 
 pub push_reserved-requires : goal.push_reserved-requires
 push_reserved-requires c =
-    let room = kept_room _ _ _ _ _ _ _ c.loop-i.invariant.upto c.loop-i-test.true c.if-clock-until.true in
-    omega (arith, room, c.requires.room, c.loop-i.invariant.capacity)
+    let space = kept_space _ _ _ _ _ _ _ c.loop-i.invariant.upto c.loop-i-test.true c.if-clock-until.true in
+    omega (arith, space, c.requires.space, c.loop-i.invariant.capacity)
 
 pub loop-i-preserved : goal.loop-i-preserved
 loop-i-preserved c =
     elim c.if-clock-until.branch [
       | then-clock-until w ↦ (
-          let room = kept_room _ _ _ _ _ _ _ c.loop-i.invariant.upto c.loop-i-test.true w.if-clock-until.true in
-          let within : c.args.start + length c.loop-i.kept.items < length c.loop-i.tree = omega (arith, room, c.requires.row, c.loop-i.auto.tree) in
+          let space = kept_space _ _ _ _ _ _ _ c.loop-i.invariant.upto c.loop-i-test.true w.if-clock-until.true in
+          let within : c.args.start + length c.loop-i.kept.items < length c.loop-i.tree = omega (arith, space, c.requires.row, c.loop-i.auto.tree) in
           let len : w.len.result ≡ length c.loop-i.kept.items = omega (arith, w.len.ensures) in
           record {
             upto = kept_one _ _ _ _ _ _ _ _ _ _ c.loop-i.invariant.upto c.requires.rising c.loop-i-test.true w.if-clock-until.true within len

@@ -16,7 +16,7 @@ invariant_of-self c = record {
       c.uncount.ensures.len c.uncount.ensures.counted c.uncount.ensures.flat;
 }
 
--- the key went
+-- the key was removed
 pub returns-in-Some-clause-held : goal.returns-in-Some-clause-held
 returns-in-Some-clause-held c =
     subst (λ (f : Filter). Removes c.args.key.now f.held (seconds_of c.remove.new.self.entries)) c.self.view_is (removed c.args.key.now _ _ _ c.in-Some.ensures.some)

@@ -14,13 +14,13 @@ all_set-requires c =
     (subst (λ (bytes : List ℕ). All (λ p. p / 8 < length bytes) c.positions_of-positions.result) (sym c.deref.ensures.value)
     (places_within c.self.inside.bits.items _ _ c.self.invariant.bits c.positions_of-positions.ensures.within))
 
--- the places are the key's positions
+-- these are the key's positions
 pub returns : goal.returns
 returns c =
-    let places = c.positions_of-positions.ensures.same ∙ ap (λ text. positions_of text c.self.inside.log2_bits c.self.inside.hashes) c.text.ensures.text in
+    let set_positions = c.positions_of-positions.ensures.same ∙ ap (λ text. positions_of text c.self.inside.log2_bits c.self.inside.hashes) c.text.ensures.text in
     subst (λ (page : Page). c.all_set.result ≡ page_holds page c.args.key.now) c.self.view_is
     (c.all_set.ensures
     ∙ ap₂ (λ (bytes positions : List ℕ). list_all (is_bit_set bytes) positions) c.deref.ensures.value c.as_slice.ensures.same
     ∙ all_bits_set (page_with c.self.inside.log2_bits c.self.inside.hashes c.self.inside.front c.self.inside.commits c.self.inside.moment c.self.inside.bits.items)
     c.self.inside.bits.items _ _ refl c.self.invariant.bits c.positions_of-positions.ensures.within
-    ∙ ap (λ (positions : List ℕ). list_all (is_set (page_with c.self.inside.log2_bits c.self.inside.hashes c.self.inside.front c.self.inside.commits c.self.inside.moment c.self.inside.bits.items)) positions) places)
+    ∙ ap (λ (positions : List ℕ). list_all (is_set (page_with c.self.inside.log2_bits c.self.inside.hashes c.self.inside.front c.self.inside.commits c.self.inside.moment c.self.inside.bits.items)) positions) set_positions)

@@ -6,26 +6,26 @@ use Rattle.query_normal.specs.declared.key.KeyShape.{KeyShape}
 use Rattle.issued_expiries.specs.Copies.{SameCopies, is_active, active_keys, with_copy}
 use Rattle.issued_expiries.specs.Entries.{copies_in, held_of, kept_of}
 use Rattle.issued_expiries.specs.Expiries.{Issued, is_reserved, is_idle}
-use Rattle.issued_expiries.proofs.HeldLemmas.{Held}
+use Rattle.issued_expiries.proofs.HeldLemmas.{HeldKeys}
 use Rattle.issued_expiries.proofs.IssueLemmas.{put_held, sound_put, sound_released, len_after, idle_left}
 use Rattle.issued_expiries.proofs.expiries.Expiries.issue.Goals as goal
 
 pub put-requires-clause-reserved : goal.put-requires-clause-reserved
 put-requires-clause-reserved c = subst (λ (i : Issued). is_reserved i c.args.key.now ≡ true) (sym c.self.view_is) c.requires.reserved
 
-pub put-requires-clause-room : goal.put-requires-clause-room
-put-requires-clause-room c =
+pub put-requires-clause-space : goal.put-requires-clause-space
+put-requires-clause-space c =
     let there = subst (λ (i : Issued). is_reserved i c.args.key.now ≡ true) (sym c.self.view_is) c.requires.reserved in
-    c.self.invariant.sound.room c.args.key.now there
+    c.self.invariant.sound.space c.args.key.now there
 
--- nothing is held of an expired copy
+-- an expired copy is not held
 pub invariant_of-self : goal.invariant_of-self
 invariant_of-self c =
-    let same = ap (λ (es : Held). length es) c.release.ensures.entries in
+    let same = ap (λ (es : HeldKeys). length es) c.release.ensures.entries in
     record {
       capped = c.self.invariant.capped;
       sound = sound_released _ _ _ _ _ _ c.args.key.now c.release.ensures.entries c.release.ensures.reserved c.self.invariant.sound;
-      idle_room = omega (arith, same, c.release.ensures.len, c.self.invariant.idle_room);
+      idle_space = omega (arith, same, c.release.ensures.len, c.self.invariant.idle_space);
     }
 
 pub invariant_of-self-2 : goal.invariant_of-self-2
@@ -37,7 +37,7 @@ invariant_of-self-2 c =
       sound =
           sound_put _ _ _ _ _ _ _ c.args.key.now c.args.commit c.args.until c.self.invariant.sound c.if-until-self.false c.put.ensures.puts c.put.ensures.reserved c.leave_out.ensures.left
           c.put.ensures.distinct c.put.ensures.tied c.put.ensures.len few;
-      idle_room = omega (arith, more, c.put.ensures.used, c.self.invariant.idle_room, c.leave_out.ensures.spare);
+      idle_space = omega (arith, more, c.put.ensures.used, c.self.invariant.idle_space, c.leave_out.ensures.spare);
     }
 
 pub returns-clause-held : goal.returns-clause-held

@@ -5,7 +5,7 @@ use Rattle.issued_expiries.specs.Expiries.{Issued}
 use Rattle.issued_expiries.proofs.IssueLemmas.{popped_inactive}
 use Rattle.issued_expiries.proofs.expiries.Expiries.next_idle.Goals as goal
 
--- the key that came out has no copy
+-- the key that was removed has no copy
 pub returns-clause-inactive : goal.returns-clause-inactive
 returns-clause-inactive c =
     subst (λ (i : Issued). IfSome c.take_one.result (λ key. is_active i.held key ≡ false)) c.self.view_is

@@ -1,4 +1,4 @@
--- Each page has one spelling.
+-- Each page has one encoding.
 use Rattle.std.proofs.Common.{◌≡◌, ℕ, ◌+◌, ◌/◌, ◌^◌, ◌<◌, ◌≤◌, Bool, List, [], ◌∷◌, ◌++◌, length, take, drop, get_or, All, Ok, codes, refl, sym, ap, ap₂, ◌∙◌, arith, length-drop, lit<, inl, inr, drop-cons}
 use Rattle.std.specs.Int.{w64, to_be_bytes, from_be_bytes}
 use Rattle.std.proofs.lemmas.List.{take-append-drop, length-take-le, length-take, get_or-take, get_or-drop, get_or_past}
@@ -24,13 +24,13 @@ read_small bytes small i =
     ]
 
 -- one of eight bytes, read anywhere
-eight_small : (bytes : List ℕ) (place : ℕ) → All (λ b. b < 2 ^ 8) bytes → (i : ℕ) → get_or (take 8 (drop place bytes)) i 0 < 2 ^ 8
-eight_small bytes place small i =
+eight_small : (bytes : List ℕ) (offset : ℕ) → All (λ b. b < 2 ^ 8) bytes → (i : ℕ) → get_or (take 8 (drop offset bytes)) i 0 < 2 ^ 8
+eight_small bytes offset small i =
     elim (cases_lt i 8) [
-      | inl within ↦ rw (get_or-take 8 (drop place bytes) i 0 within ∙ get_or-drop place bytes i 0) (read_small bytes small (place + i))
+      | inl within ↦ rw (get_or-take 8 (drop offset bytes) i 0 within ∙ get_or-drop offset bytes i 0) (read_small bytes small (offset + i))
       | inr past ↦ (
-          let long = length-take 8 (drop place bytes) in
-          rw (get_or_past (take 8 (drop place bytes)) i 0 (omega (arith, long))) (lit< tt))
+          let long = length-take 8 (drop offset bytes) in
+          rw (get_or_past (take 8 (drop offset bytes)) i 0 (omega (arith, long))) (lit< tt))
     ]
 
 -- eight bytes as a number
@@ -38,10 +38,10 @@ word_small : (eight : List ℕ) → ((i : ℕ) → get_or eight i 0 < 2 ^ 8) →
 word_small eight small = omega (arith, small 0, small 1, small 2, small 3, small 4, small 5, small 6, small 7)
 
 -- eight bytes that were read as a number are the bytes of that number
-word_again : (bytes : List ℕ) (place : ℕ) → All (λ b. b < 2 ^ 8) bytes → place + 8 ≤ length bytes → to_be_bytes w64 (word_at bytes place) ≡ take 8 (drop place bytes)
-word_again bytes place small within =
-    let rest = length-drop place bytes in
-    be_bytes_8 (take 8 (drop place bytes)) (word_at bytes place) (length-take-le 8 (drop place bytes) (omega (arith, rest))) (eight_small bytes place small) refl
+word_again : (bytes : List ℕ) (offset : ℕ) → All (λ b. b < 2 ^ 8) bytes → offset + 8 ≤ length bytes → to_be_bytes w64 (word_at bytes offset) ≡ take 8 (drop offset bytes)
+word_again bytes offset small within =
+    let rest = length-drop offset bytes in
+    be_bytes_8 (take 8 (drop offset bytes)) (word_at bytes offset) (length-take-le 8 (drop offset bytes) (omega (arith, rest))) (eight_small bytes offset small) refl
 
 -- two pieces in turn
 pieces : (n m : ℕ) (xs : List ℕ) → take n xs ++ take m (drop n xs) ≡ take (n + m) xs
@@ -54,7 +54,7 @@ pair_again bytes within =
     let five : 5 < length bytes = omega arith in
     sym (ap (λ (xs : List ℕ). take 2 xs) (drop-cons bytes 4 0 four) ∙ ap (λ (xs : List ℕ). get_or bytes 4 0 ∷ take 1 xs) (drop-cons bytes 5 0 five))
 
--- the head that bytes spell is their beginning
+-- the head of the page that bytes are read as is their beginning
 head_in : (bytes : List ℕ) → All (λ b. b < 2 ^ 8) bytes → IsTaken bytes →
     head_text (get_or bytes 5 0) (get_or bytes 4 0) (word_at bytes 6) (word_at bytes 14) (word_at bytes 22) ≡ take 30 bytes
 unfolding head_text
@@ -68,7 +68,7 @@ head_in bytes small t =
     ap₂ (λ (xs ys : List ℕ). xs ++ ys) front (word_again bytes 14 small (omega (arith, t.long))) ∙ pieces 14 8 bytes in
     ap₂ (λ (xs ys : List ℕ). xs ++ ys) commits (word_again bytes 22 small (omega (arith, t.long))) ∙ pieces 22 8 bytes
 
--- the text of the page that bytes spell is the bytes
+-- the text of the page that bytes are read as is the bytes
 pub text_again : (bytes : List ℕ) → All (λ b. b < 2 ^ 8) bytes → IsTaken bytes → page_text (page_in bytes) ≡ bytes
 text_again bytes small t =
     let rest : All (λ b. b < 2 ^ 8) (drop 30 bytes) = All-drop (λ b. b < 2 ^ 8) 30 bytes small in

@@ -2,8 +2,8 @@ use Rattle.std.proofs.Common.{sym, subst, ap, ◌∙◌}
 use Rattle.flat_snapshot.specs.PageText.{IsPage, page_text}
 use Rattle.flat_snapshot.specs.Reading.{read_page}
 use Rattle.flat_snapshot.proofs.ReadLemmas.{taken-from_read}
-use Rattle.flat_snapshot.proofs.SpellingLemmas.{text_again, page_again, read_is_page}
-use Rattle.flat_snapshot.proofs.laws.pages_have_one_spelling.Goals as goal
+use Rattle.flat_snapshot.proofs.EncodingLemmas.{text_again, page_again, read_is_page}
+use Rattle.flat_snapshot.proofs.laws.pages_have_one_encoding.Goals as goal
 
 -- the text of what was read is what was read from, and a page's text is read as the page
 pub returns : goal.returns
