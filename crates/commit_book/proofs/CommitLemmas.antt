@@ -1,4 +1,4 @@
--- The commits as they are handed out, one by one.
+-- The commits as a caller receives them, one by one.
 use Rattle.std.proofs.Common.{◌≡◌, ℕ, zero, suc, ◌+◌, ◌-◌, ◌<◌, ◌≤◌, List, [], ◌∷◌, ◌++◌, Some, length, map, take, drop, get_or, slice_get, refl, ap, ◌∙◌, arith}
 use Rattle.std.specs.List.{enumerate_from}
 use Rattle.std.proofs.lemmas.List.{take_more, map-append, get_or-drop, length-drop}
@@ -7,7 +7,7 @@ use Rattle.std.proofs.lemmas.Option.{slice_get_within, get_or_from_slice_get}
 use Rattle.commit_book.specs.declared.change.Change.{Change}
 use Rattle.commit_book.specs.CommitRows.{commit_row, commit_rows}
 
--- what stands within a list
+-- an item within a list
 pub item_at : {X : Type 0} (xs : List X) (k : ℕ) → k < length xs → (x : X) × (slice_get xs k ≡ Some x)
 item_at [] k low = absurd (omega arith)
 item_at (x ∷ xs) zero low = (x, refl)
@@ -21,11 +21,11 @@ commit_rows_more journal from n change forward at =
     let numbered = length-enumerate_from 1 journal in
     let rest = length-drop from (enumerate_from 1 journal) in
     let count : n + 1 - from ≡ n - from + 1 = omega arith in
-    let place : from + (n - from) ≡ n = omega arith in
+    let index : from + (n - from) ≡ n = omega arith in
     let number : 1 + n ≡ n + 1 = omega arith in
     let here : get_or (drop from (enumerate_from 1 journal)) (n - from) (0, change) ≡ (n + 1, change) =
     get_or-drop from (enumerate_from 1 journal) (n - from) (0, change)
-    ∙ ap (λ (k : ℕ). get_or (enumerate_from 1 journal) k (0, change)) place
+    ∙ ap (λ (k : ℕ). get_or (enumerate_from 1 journal) k (0, change)) index
     ∙ get_or-enumerate_from 1 journal n (0, change) inside
     ∙ ap (λ (k : ℕ). (k, get_or journal n change)) number
     ∙ ap (λ (c : Change). (n + 1, c)) (get_or_from_slice_get journal n change change at) in

@@ -31,7 +31,7 @@ reserved_is book change h = by book.reserved h
 pub is_reserved_from : (book : Contents) (change : Change) → book.reserved ≡ Some change → is_reserved book change ≡ true
 is_reserved_from book change h = ap (λ (o : Option Change). option_map_or (λ (r : Change). same_change r change) o false) h ∙ same_itself change
 
--- a change that was added had its place
+-- a change that was added had its slot
 pub told_added : (old new : Contents) (change : Change) (commit : ℕ) → new ≡ with_commit old change new.names → kept new.journal ≤ new.capacity → commit ≡ length old.journal + 1 → Ok commit ≡ added old change
 told_added old new change commit after fits number =
     let within : kept (old.journal ++ change ∷ []) ≤ old.capacity = subst (λ (b : Contents). kept b.journal ≤ b.capacity) after fits in
@@ -51,7 +51,7 @@ seen_added capacity journal items reserved left were names old r change view the
     let none : option_map (λ (x : Reserved). x.row) left ≡ None = ap (option_map (λ (x : Reserved). x.row)) gone in
     λ i. record { capacity = limit i; journal = longer i; reserved = none i; names = names }
 
--- nothing is told of a change that can be reserved
+-- a change that can be reserved is not refused
 abbrev no_answer : Result (Unit {0}) BookRefusal
 no_answer = Ok tt
 

@@ -21,6 +21,7 @@ use Rattle.std.proofs.lemmas.Fn.{always_returns_same}
 use Rattle.std.proofs.lemmas.List.Sorted.{ranks_by, sorted_far}
 use Rattle.std.proofs.lemmas.Slice.Eq.{bytes_eq-Decides}
 use denote.Param.Members.{Mut}
+use Rattle.q_doc.specs.TextOrder.{text_eq_equiv}
 use Rattle.q_doc.specs.Tree.{Tree, null}
 use Rattle.commit_book.specs.declared.change.Change.{Change}
 use Rattle.commit_book.specs.Journal.{put_at, document_after, document_at}
@@ -134,10 +135,7 @@ module _ (found : List ℕ → Option (ℕ × Tree)) where
 
   none_among : (id : List ℕ) (ids : List (List ℕ)) → AllByRecursion (λ y. bytes_eq id y ≡ false) ids → filter (is_row_of id) (rows_of ids) ≡ []
   none_among id [] h = refl
-  none_among id (key ∷ ids) h = behind id key (found key) (rows_of ids) (turned key h.0) ∙ none_among id ids h.1
-    where
-      turned : (key : List ℕ) → bytes_eq id key ≡ false → bytes_eq key id ≡ false
-      turned key e = elim (cases_Bool (bytes_eq key id)) [ inl f ↦ absurd (let t : bytes_eq id key ≡ true = (bytes_eq-Decides id key).1 (sym ((bytes_eq-Decides key id).0 f)) in cc) | inr f ↦ f ]
+  none_among id (key ∷ ids) h = behind id key (found key) (rows_of ids) (text_eq_equiv.symm key id ∙ h.0) ∙ none_among id ids h.1
 
   listed : (id : List ℕ) (ids : List (List ℕ)) → IsDistinct bytes_eq ids → filter (is_row_of id) (rows_of ids) ≡ (if list_any (bytes_eq id) ids then list_of (row_of id (found id)) else [])
   unfolding IsDistinct
@@ -148,10 +146,7 @@ module _ (found : List ℕ → Option (ℕ × Tree)) where
             let same = (bytes_eq-Decides id key).0 e in
             let own = first key (found key) (rows_of ids) (none_among key ids d.0) in
             rw e (subst (λ (x : List ℕ). filter (is_row_of x) (rows_of (key ∷ ids)) ≡ list_of (row_of x (found x))) (sym same) own)
-        | inr e ↦
-            let back : bytes_eq key id ≡ false =
-            elim (cases_Bool (bytes_eq key id)) [ inl f ↦ absurd (let t : bytes_eq id key ≡ true = (bytes_eq-Decides id key).1 (sym ((bytes_eq-Decides key id).0 f)) in cc) | inr f ↦ f ] in
-            rw e (behind id key (found key) (rows_of ids) back ∙ listed id ids d.1)
+        | inr e ↦ rw e (behind id key (found key) (rows_of ids) (text_eq_equiv.symm key id ∙ e) ∙ listed id ids d.1)
       ]
 
   -- where an id that is not among them has nothing, all documents are there

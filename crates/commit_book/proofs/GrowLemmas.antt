@@ -10,10 +10,10 @@ use Rattle.commit_book.specs.Journal.{document_after, document_at, cost_of, kept
 use Rattle.commit_book.specs.Documents.{docs_after, docs}
 use Rattle.commit_book.specs.Index.{commits_after, commits_of}
 
-slice_get_front : {X : Type 0} (xs ys : List X) (k : ℕ) → k < length xs → slice_get (xs ++ ys) k ≡ slice_get xs k
-slice_get_front [] ys k low = absurd (omega arith)
-slice_get_front (x ∷ xs) ys zero low = refl
-slice_get_front (x ∷ xs) ys (suc k) low = slice_get_front xs ys k (omega arith)
+slice_get_prefix : {X : Type 0} (xs ys : List X) (k : ℕ) → k < length xs → slice_get (xs ++ ys) k ≡ slice_get xs k
+slice_get_prefix [] ys k low = absurd (omega arith)
+slice_get_prefix (x ∷ xs) ys zero low = refl
+slice_get_prefix (x ∷ xs) ys (suc k) low = slice_get_prefix xs ys k (omega arith)
 
 slice_get_end : {X : Type 0} (xs : List X) (y : X) → slice_get (xs ++ y ∷ []) (length xs) ≡ Some y
 slice_get_end [] y = refl
@@ -26,24 +26,24 @@ kept_more journal change =
     omega (arith, parts)
 
 -- more changes behind do not touch the commits of the first
-pub commits_front : (journal more : List Change) (n : ℕ) (collection id : List ℕ) → n ≤ length journal → commits_of (journal ++ more) n collection id ≡ commits_of journal n collection id
-commits_front journal more zero collection id within = refl
-commits_front journal more (suc n) collection id within =
-    ap (λ (o : Option Change). commits_after collection id (suc n) o (commits_of (journal ++ more) n collection id)) (slice_get_front journal more n (omega arith))
-    ∙ ap (commits_after collection id (suc n) (slice_get journal n)) (commits_front journal more n collection id (omega arith))
+pub commits_prefix : (journal more : List Change) (n : ℕ) (collection id : List ℕ) → n ≤ length journal → commits_of (journal ++ more) n collection id ≡ commits_of journal n collection id
+commits_prefix journal more zero collection id within = refl
+commits_prefix journal more (suc n) collection id within =
+    ap (λ (o : Option Change). commits_after collection id (suc n) o (commits_of (journal ++ more) n collection id)) (slice_get_prefix journal more n (omega arith))
+    ∙ ap (commits_after collection id (suc n) (slice_get journal n)) (commits_prefix journal more n collection id (omega arith))
 
--- nor the documents that stood at them
-pub document_front : (journal more : List Change) (n : ℕ) (collection id : List ℕ) → n ≤ length journal → document_at (journal ++ more) n collection id ≡ document_at journal n collection id
-document_front journal more zero collection id within = refl
-document_front journal more (suc n) collection id within =
-    ap (λ (o : Option Change). document_after collection id (suc n) o (document_at (journal ++ more) n collection id)) (slice_get_front journal more n (omega arith))
-    ∙ ap (document_after collection id (suc n) (slice_get journal n)) (document_front journal more n collection id (omega arith))
+-- nor the documents at them
+pub document_prefix : (journal more : List Change) (n : ℕ) (collection id : List ℕ) → n ≤ length journal → document_at (journal ++ more) n collection id ≡ document_at journal n collection id
+document_prefix journal more zero collection id within = refl
+document_prefix journal more (suc n) collection id within =
+    ap (λ (o : Option Change). document_after collection id (suc n) o (document_at (journal ++ more) n collection id)) (slice_get_prefix journal more n (omega arith))
+    ∙ ap (document_after collection id (suc n) (slice_get journal n)) (document_prefix journal more n collection id (omega arith))
 
-pub docs_front : (journal more : List Change) (n : ℕ) (collection : List ℕ) → n ≤ length journal → docs (journal ++ more) n collection ≡ docs journal n collection
-docs_front journal more zero collection within = refl
-docs_front journal more (suc n) collection within =
-    ap (λ (o : Option Change). docs_after collection (suc n) o (docs (journal ++ more) n collection)) (slice_get_front journal more n (omega arith))
-    ∙ ap (docs_after collection (suc n) (slice_get journal n)) (docs_front journal more n collection (omega arith))
+pub docs_prefix : (journal more : List Change) (n : ℕ) (collection : List ℕ) → n ≤ length journal → docs (journal ++ more) n collection ≡ docs journal n collection
+docs_prefix journal more zero collection within = refl
+docs_prefix journal more (suc n) collection within =
+    ap (λ (o : Option Change). docs_after collection (suc n) o (docs (journal ++ more) n collection)) (slice_get_prefix journal more n (omega arith))
+    ∙ ap (docs_after collection (suc n) (slice_get journal n)) (docs_prefix journal more n collection (omega arith))
 
 -- the commits of a record with one change more
 commits_pushed : (journal : List Change) (change : Change) (collection id : List ℕ) →
@@ -52,7 +52,7 @@ commits_pushed journal change collection id =
     let size : length (journal ++ change ∷ []) ≡ suc (length journal) = omega (arith, length_push journal change) in
     ap (λ (n : ℕ). commits_of (journal ++ change ∷ []) n collection id) size
     ∙ ap (λ (o : Option Change). commits_after collection id (suc (length journal)) o (commits_of (journal ++ change ∷ []) (length journal) collection id)) (slice_get_end journal change)
-    ∙ ap (commits_after collection id (suc (length journal)) (Some change)) (commits_front journal (change ∷ []) (length journal) collection id (omega arith))
+    ∙ ap (commits_after collection id (suc (length journal)) (Some change)) (commits_prefix journal (change ∷ []) (length journal) collection id (omega arith))
 
 differs : (a b : List ℕ) → bytes_eq a b ≡ false → b ≢ a
 differs a b e same = absurd (let t : bytes_eq a b ≡ true = (bytes_eq-Decides a b).1 (sym same) in cc)

@@ -1,4 +1,4 @@
--- The commits of a record tell its documents.
+-- The commits of a record determine its documents.
 use Rattle.std.proofs.Common.{◌≡◌, ℕ, zero, suc, ◌+◌, ◌-◌, ◌<◌, ◌≤◌, Bool, true, false, List, [], ◌∷◌, ◌++◌, Option, Some, None, length, filter, nat_le, option_map, option_and_then, All, get_or, slice_get, take, refl, sym, ap, ◌∙◌, subst, arith, inl, inr}
 use Rattle.std.proofs.lemmas.Bool.{cases_Bool, le-leb, lt-leb}
 use Rattle.std.proofs.lemmas.Option.{get_or_from_slice_get, slice_get_within}
@@ -27,16 +27,16 @@ last_at (x ∷ y ∷ xs) (suc k) d end = last_at (y ∷ xs) k d (omega arith)
 
 -- ---- what is not above a number
 
--- items that pass up to a place, and none from there on
+-- items that pass up to an index, and none from there on
 point_filter : (p : ℕ → Bool) (xs : List ℕ) (k : ℕ) → k ≤ length xs → ((i d : ℕ) → i < k → p (get_or xs i d) ≡ true) → ((i d : ℕ) → k ≤ i → i < length xs → p (get_or xs i d) ≡ false) → filter p xs ≡ take k xs
-point_filter p [] zero within front behind = refl
-point_filter p [] (suc k) within front behind = absurd (omega arith)
-point_filter p (x ∷ xs) zero within front behind =
+point_filter p [] zero within before behind = refl
+point_filter p [] (suc k) within before behind = absurd (omega arith)
+point_filter p (x ∷ xs) zero within before behind =
     let e : p x ≡ false = behind 0 x (omega arith) (omega arith) in
     rw e (point_filter p xs zero (omega arith) (λ i d low. absurd (omega arith)) (λ i d low high. behind (suc i) d (omega arith) (omega arith)))
-point_filter p (x ∷ xs) (suc k) within front behind =
-    let e : p x ≡ true = front 0 x (omega arith) in
-    rw e (ap (λ (l : List ℕ). x ∷ l) (point_filter p xs k (omega arith) (λ i d low. front (suc i) d (omega arith)) (λ i d low high. behind (suc i) d (omega arith) (omega arith))))
+point_filter p (x ∷ xs) (suc k) within before behind =
+    let e : p x ≡ true = before 0 x (omega arith) in
+    rw e (ap (λ (l : List ℕ). x ∷ l) (point_filter p xs k (omega arith) (λ i d low. before (suc i) d (omega arith)) (λ i d low high. behind (suc i) d (omega arith) (omega arith))))
 
 -- the last of all is the last that is not above n
 pub version_last : (commits : List ℕ) (n last : ℕ) → IsNonDecreasing commits → Some last ≡ slice_get commits (length commits - 1) → last ≤ n → Some last ≡ version_of commits n
@@ -105,8 +105,8 @@ next_is P journal n collection id p = by (slice_get journal n) refl
     by None e = all_none P
     by (Some change) e =
         elim (cases_Bool (is_of collection id change)) [
-          | inl front ↦ rw front (all_one P (suc n) (p (slice_get_within journal n change e)))
-          | inr behind ↦ rw behind (all_none P)
+          | inl own ↦ rw own (all_one P (suc n) (p (slice_get_within journal n change e)))
+          | inr other ↦ rw other (all_none P)
         ]
 
 pub commits_within : (journal : List Change) (n : ℕ) (collection id : List ℕ) → All (λ v. (0 < v) × (v ≤ n) × (v ≤ length journal)) (commits_of journal n collection id)
@@ -177,8 +177,8 @@ document_told journal (suc n) collection id = by (slice_get journal n) refl (doc
     by (Some change) e before =
         elim (cases_Bool (is_of collection id change)) [
           | inl own ↦
-              let place : slice_get journal (suc n - 1) ≡ Some change = ap (slice_get journal) (omega arith) ∙ e in
-              rw own (ap (λ (o : Option ℕ). put_of (change_at journal o)) (last-append (commits_of journal n collection id) (suc n)) ∙ ap (λ (o : Option Change). put_of (option_map (λ c. (suc n, c)) o)) place)
+              let index : slice_get journal (suc n - 1) ≡ Some change = ap (slice_get journal) (omega arith) ∙ e in
+              rw own (ap (λ (o : Option ℕ). put_of (change_at journal o)) (last-append (commits_of journal n collection id) (suc n)) ∙ ap (λ (o : Option Change). put_of (option_map (λ c. (suc n, c)) o)) index)
           | inr other ↦ rw other before
         ]
 

@@ -5,6 +5,6 @@ mod GrowLemmas
 mod IndexLemmas
 mod NameLemmas
 mod OrderLemmas
-mod RoomLemmas
+mod SpaceLemmas
 mod SameLemmas
 mod StandardFacts

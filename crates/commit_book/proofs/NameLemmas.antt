@@ -7,13 +7,15 @@ use Rattle.std.specs.Option.{option_map_or}
 use Rattle.std.specs.Str.{bytes_eq}
 use Rattle.std.proofs.lemmas.Bool.{cases_Bool}
 use Rattle.std.proofs.lemmas.List.Folds.{list_any-append}
+use Rattle.std.proofs.Math.Bool.{or-false, and-true}
 use Rattle.std.proofs.lemmas.Map.Made.{is_some-lookup, lookup-map_values}
 use Rattle.std.proofs.lemmas.Slice.Eq.{bytes_eq-Decides}
 use Rattle.indexmap.specs.IndexMap.{IndexMap, get_by, spare, IsUnchanged, UpdatesBy, WritesThrough}
+use Rattle.q_doc.specs.TextOrder.{text_eq_equiv}
 use Rattle.commit_book.specs.declared.change.Change.{Change}
-use Rattle.commit_book.specs.declared.index.Place.{Place}
-use Rattle.commit_book.specs.declared.index.Place.TheVariants.{Known, InCollection, InNewCollection}
-use Rattle.commit_book.specs.Index.{commits_under, commits_in, room_under, names_of, IsPlaceUnder, IsPlaceIn, KeepsRoom, KeepsRoomUnder}
+use Rattle.commit_book.specs.declared.index.Slot.{Slot}
+use Rattle.commit_book.specs.declared.index.Slot.TheVariants.{Known, InCollection, InNewCollection}
+use Rattle.commit_book.specs.Index.{commits_under, commits_in, space_under, names_of, IsSlotUnder, IsSlotIn, KeepsSpace, KeepsSpaceUnder}
 use Rattle.commit_book.specs.Journal.{is_of}
 use Rattle.commit_book.specs.Names.{Names, has_collection, has_record, is_in, AreNamesOf, AddsName}
 
@@ -27,38 +29,18 @@ names_more journal change old new were adds = record {
   collections = λ other.
       adds.collections other
       ∙ ap (λ (b : Bool). b || bytes_eq change.collection other) (were.collections other)
-      ∙ last (list_any (is_in other) journal) (bytes_eq change.collection other)
+      ∙ ap (λ (b : Bool). list_any (is_in other) journal || b) (sym (or-false (bytes_eq change.collection other)))
       ∙ sym (list_any-append (is_in other) journal (change ∷ []));
   records = λ other own.
       adds.records other own
       ∙ ap (λ (b : Bool). b || (bytes_eq change.id own && bytes_eq change.collection other)) (were.records other own)
-      ∙ last (list_any (is_of other own) journal) (bytes_eq change.id own && bytes_eq change.collection other)
+      ∙ ap (λ (b : Bool). list_any (is_of other own) journal || b) (sym (or-false (bytes_eq change.id own && bytes_eq change.collection other)))
       ∙ sym (list_any-append (is_of other own) journal (change ∷ []));
 }
-  where
-    last : (a b : Bool) → (a || b) ≡ (a || (b || false))
-    last true b = refl
-    last false true = refl
-    last false false = refl
-
--- the test of equal texts in either order
-pub eq-turned : (a b : List ℕ) → bytes_eq a b ≡ bytes_eq b a
-eq-turned a b =
-    elim (cases_Bool (bytes_eq a b)) [
-      | inl e ↦ e ∙ sym ((bytes_eq-Decides b a).1 (sym ((bytes_eq-Decides a b).0 e)))
-      | inr e ↦ elim (cases_Bool (bytes_eq b a)) [
-        | inl f ↦ absurd (let t : bytes_eq a b ≡ true = (bytes_eq-Decides a b).1 (sym ((bytes_eq-Decides b a).0 f)) in cc)
-        | inr f ↦ e ∙ sym f
-      ]
-    ]
 
 -- an id behind others
 pub named-last : (ids : List (List ℕ)) (id own : List ℕ) → list_any (bytes_eq own) (ids ++ id ∷ []) ≡ (list_any (bytes_eq own) ids || bytes_eq id own)
-named-last ids id own = list_any-append (bytes_eq own) ids (id ∷ []) ∙ ap (λ (b : Bool). list_any (bytes_eq own) ids || b) (one (bytes_eq own id) ∙ eq-turned own id)
-  where
-    one : (b : Bool) → (b || false) ≡ b
-    one true = refl
-    one false = refl
+named-last ids id own = list_any-append (bytes_eq own) ids (id ∷ []) ∙ ap (λ (b : Bool). list_any (bytes_eq own) ids || b) (or-false (bytes_eq own id) ∙ text_eq_equiv.symm own id)
 
 -- ---- the maps
 
@@ -76,25 +58,21 @@ pub is-none : (o : Option (Vec ℕ)) → is_some o ≡ false → o ≡ None
 is-none None h = refl
 is-none (Some v) h = absurd (cc)
 
--- an id with room has its name
-pub still-named : {S : Type 0} (records : Under S) (id own : List ℕ) → 0 < room_under records id → list_any (bytes_eq own) (keys_of records.entries) ≡ (list_any (bytes_eq own) (keys_of records.entries) || bytes_eq id own)
-still-named {S} records id own room =
+-- an id with reserved memory has its name
+pub still-named : {S : Type 0} (records : Under S) (id own : List ℕ) → 0 < space_under records id → list_any (bytes_eq own) (keys_of records.entries) ≡ (list_any (bytes_eq own) (keys_of records.entries) || bytes_eq id own)
+still-named {S} records id own space =
     elim (cases_Bool (bytes_eq id own)) [
       | inl hit ↦ (
           let same : id ≡ own = (bytes_eq-Decides id own).0 hit in
-          let there = sym (is_some-lookup (bytes_eq id) records.entries) ∙ is-there (get_by (bytes_eq id) records) room in
+          let there = sym (is_some-lookup (bytes_eq id) records.entries) ∙ is-there (get_by (bytes_eq id) records) space in
           let named : list_any (bytes_eq own) (keys_of records.entries) ≡ true = ap (λ (x : List ℕ). list_any (bytes_eq x) (keys_of records.entries)) (sym same) ∙ there in
           rw named refl)
-      | inr miss ↦ rw miss (either (list_any (bytes_eq own) (keys_of records.entries)))
+      | inr miss ↦ rw miss (sym (or-false (list_any (bytes_eq own) (keys_of records.entries))))
     ]
   where
     is-there : (o : Option (Vec ℕ)) → 0 < option_map_or (λ (v : Vec ℕ). vec_capacity v - vec_len v) o 0 → is_some o ≡ true
     is-there None h = absurd (omega arith)
     is-there (Some v) h = refl
-
-    either : (b : Bool) → b ≡ (b || false)
-    either true = refl
-    either false = refl
 
 -- the names after one collection's records are written
 abbrev entry_names : {S : Type 0} → List ℕ × Under S → List ℕ × List (List ℕ)
@@ -139,14 +117,14 @@ module _ {S T : Type 0} where
   pub not-there : (maps : Maps S T) (collection id : List ℕ) (records : Under S) → get_by (bytes_eq collection) maps ≡ Some records → has_record (names_of maps) collection id ≡ false → get_by (bytes_eq id) records ≡ None
   not-there maps collection id records found absent = is-none (get_by (bytes_eq id) records) (sym (record-named maps collection id records found) ∙ absent)
 
-  -- the commits of the records that stand there
+  -- the commits of the records that are there
   pub commits-at : (maps : Maps S T) (collection id : List ℕ) (records : Under S) → get_by (bytes_eq collection) maps ≡ Some records → commits_in maps collection id ≡ commits_under records id
   commits-at maps collection id records found = ap (λ (o : Option (Under S)). option_map_or (λ (rs : Under S). commits_under rs id) o []) found
 
   pub commits-none : (maps : Maps S T) (collection id : List ℕ) → has_collection (names_of maps) collection ≡ false → commits_in maps collection id ≡ []
   commits-none maps collection id absent = ap (λ (o : Option (Under S)). option_map_or (λ (rs : Under S). commits_under rs id) o []) (absent-collection maps collection absent)
 
-  -- the records of one collection are put in place of those that it had
+  -- the records of one collection replace those that it had
   adds-name : (old new : Maps S T) (collection id : List ℕ) (records : Under S) →
       ((q : List ℕ) → get_by (bytes_eq q) new ≡ cond (bytes_eq collection q) (Some records) (get_by (bytes_eq q) old)) →
       ((own : List ℕ) → list_any (bytes_eq own) (keys_of records.entries) ≡ (list_any (bytes_eq own) (ids_at (get_by (bytes_eq collection) old)) || bytes_eq id own)) →
@@ -170,10 +148,6 @@ module _ {S T : Type 0} where
       there false None = refl
       there false (Some rs) = refl
 
-      whole : (b : Bool) → (b && true) ≡ b
-      whole true = refl
-      whole false = refl
-
       nothing : (a b : Bool) → a ≡ (a || (b && false))
       nothing true b = refl
       nothing false true = refl
@@ -186,7 +160,7 @@ module _ {S T : Type 0} where
                 let same : collection ≡ q = (bytes_eq-Decides collection q).0 hit in
                 rw hit
                 (ids own
-                ∙ ap₂ (λ (c : List ℕ) (b : Bool). list_any (bytes_eq own) (ids_at (get_by (bytes_eq c) old)) || b) same (sym (whole (bytes_eq id own)))))
+                ∙ ap₂ (λ (c : List ℕ) (b : Bool). list_any (bytes_eq own) (ids_at (get_by (bytes_eq c) old)) || b) same (sym (and-true (bytes_eq id own)))))
             | inr miss ↦ rw miss (nothing (list_any (bytes_eq own) (ids_at (get_by (bytes_eq q) old))) (bytes_eq id own))
           ]
 
@@ -201,38 +175,34 @@ module _ {S T : Type 0} where
       keys_of now.entries ≡ id ∷ [] → AddsName collection id (names_of old) (names_of new)
   adds-put old new collection id now absent puts ids =
       adds-name old new collection id now puts.0
-      (λ own. ap (list_any (bytes_eq own)) ids ∙ one (bytes_eq own id) ∙ eq-turned own id ∙ ap (λ (o : Option (Under S)). list_any (bytes_eq own) (ids_at o) || bytes_eq id own) (sym (absent-collection old collection absent)))
-    where
-      one : (b : Bool) → (b || false) ≡ b
-      one true = refl
-      one false = refl
+      (λ own. ap (list_any (bytes_eq own)) ids ∙ or-false (bytes_eq own id) ∙ text_eq_equiv.symm own id ∙ ap (λ (o : Option (Under S)). list_any (bytes_eq own) (ids_at o) || bytes_eq id own) (sym (absent-collection old collection absent)))
 
   -- ---- what stays
 
-  pub keeps-unchanged : (old new : Maps S T) → IsUnchanged old new → spare old ≤ spare new → KeepsRoom old new
-  keeps-unchanged old new same room = record {
+  pub keeps-unchanged : (old new : Maps S T) → IsUnchanged old new → spare old ≤ spare new → KeepsSpace old new
+  keeps-unchanged old new same space = record {
     commits = λ collection id. ap (λ (es : List (List ℕ × Under S)). option_map_or (λ (records : Under S). commits_under records id) (lookup (bytes_eq collection) es) []) same;
     names = ap (map (entry_names {S = S})) same;
-    room = λ collection id. (
-        let e = ap (λ (es : List (List ℕ × Under S)). option_map_or (λ (records : Under S). room_under records id) (lookup (bytes_eq collection) es) 0) same in
+    space = λ collection id. (
+        let e = ap (λ (es : List (List ℕ × Under S)). option_map_or (λ (records : Under S). space_under records id) (lookup (bytes_eq collection) es) 0) same in
         omega (arith, e));
     records = λ collection. (
         let e = ap (λ (es : List (List ℕ × Under S)). option_map_or (λ (records : Under S). spare records) (lookup (bytes_eq collection) es) 0) same in
         omega (arith, e));
-    spare = room;
+    spare = space;
   }
 
   -- the records that were written
   pub written-at : (old new : Maps S T) (collection : List ℕ) (was now : Under S) → get_by (bytes_eq collection) old ≡ Some was → WritesThrough bytes_eq (bytes_eq collection) old now new → get_by (bytes_eq collection) new ≡ Some now
   written-at old new collection was now found writes = (writes.3 (subst IsSome (sym found) refl)).1
 
-  pub keeps-written : (old new : Maps S T) (collection : List ℕ) (was now : Under S) → get_by (bytes_eq collection) old ≡ Some was → WritesThrough bytes_eq (bytes_eq collection) old now new → KeepsRoomUnder was now → KeepsRoom old new
+  pub keeps-written : (old new : Maps S T) (collection : List ℕ) (was now : Under S) → get_by (bytes_eq collection) old ≡ Some was → WritesThrough bytes_eq (bytes_eq collection) old now new → KeepsSpaceUnder was now → KeepsSpace old new
   keeps-written old new collection was now found writes keeps = record {
     commits = λ q id. (
         by q (λ (o p : Option (Under S)). option_map_or (λ (rs : Under S). commits_under rs id) p [] ≡ option_map_or (λ (rs : Under S). commits_under rs id) o []) refl (keeps.commits id));
     names = ap (map (entry_names {S = S})) writes.0 ∙ names-set (bytes_eq collection) old.entries was now found keeps.ids;
-    room = λ q id. (
-        by q (λ (o p : Option (Under S)). option_map_or (λ (rs : Under S). room_under rs id) o 0 ≤ option_map_or (λ (rs : Under S). room_under rs id) p 0) (omega arith) (keeps.room id));
+    space = λ q id. (
+        by q (λ (o p : Option (Under S)). option_map_or (λ (rs : Under S). space_under rs id) o 0 ≤ option_map_or (λ (rs : Under S). space_under rs id) p 0) (omega arith) (keeps.space id));
     records = λ q. (
         by q (λ (o p : Option (Under S)). option_map_or (λ (rs : Under S). spare rs) o 0 ≤ option_map_or (λ (rs : Under S). spare rs) p 0) (omega arith) keeps.spare);
     spare = (let e = writes.6 in omega (arith, e));
@@ -252,15 +222,15 @@ module _ {S T : Type 0} where
                 subst (P (get_by (bytes_eq q) old)) (sym is) same)
           ]
 
-  -- what has its room keeps it
-  pub place-kept : (old new : Maps S T) (collection id : List ℕ) (place : Place) → KeepsRoom old new → IsPlaceIn old collection id place → IsPlaceIn new collection id place
-  place-kept old new collection id Known keeps there = (let more = keeps.room collection id in omega (arith, more, there))
-  place-kept old new collection id (InCollection added) keeps there = (
+  -- what is reserved stays so
+  pub slot-kept : (old new : Maps S T) (collection id : List ℕ) (slot : Slot) → KeepsSpace old new → IsSlotIn old collection id slot → IsSlotIn new collection id slot
+  slot-kept old new collection id Known keeps there = (let more = keeps.space collection id in omega (arith, more, there))
+  slot-kept old new collection id (InCollection added) keeps there = (
     there.0,
     (let more = keeps.records collection in let some = there.1 in omega (arith, more, some)),
     ap (λ (names : Names). has_record names collection id) keeps.names ∙ there.2,
   )
-  place-kept old new collection id (InNewCollection name among added) keeps there = (
+  slot-kept old new collection id (InNewCollection name among added) keeps there = (
     there.0,
     there.1,
     there.2,
@@ -269,15 +239,15 @@ module _ {S T : Type 0} where
     ap (λ (names : Names). has_collection names collection) keeps.names ∙ there.5,
   )
 
-  -- the place of an id in its collection is its place in the index
-  pub place-written : (old new : Maps S T) (collection id : List ℕ) (was now : Under S) (place : Place) → get_by (bytes_eq collection) old ≡ Some was → WritesThrough bytes_eq (bytes_eq collection) old now new → IsPlaceUnder now id place → IsPlaceIn new collection id place
-  place-written old new collection id was now place found writes = by place
+  -- the slot of an id in its collection is its slot in the index
+  pub slot-written : (old new : Maps S T) (collection id : List ℕ) (was now : Under S) (slot : Slot) → get_by (bytes_eq collection) old ≡ Some was → WritesThrough bytes_eq (bytes_eq collection) old now new → IsSlotUnder now id slot → IsSlotIn new collection id slot
+  slot-written old new collection id was now slot found writes = by slot
     where
       is : get_by (bytes_eq collection) new ≡ Some now
       is = written-at old new collection was now found writes
 
-      by : (place : Place) → IsPlaceUnder now id place → IsPlaceIn new collection id place
-      by Known there = subst (λ (o : Option (Under S)). 0 < option_map_or (λ (rs : Under S). room_under rs id) o 0) (sym is) there
+      by : (slot : Slot) → IsSlotUnder now id slot → IsSlotIn new collection id slot
+      by Known there = subst (λ (o : Option (Under S)). 0 < option_map_or (λ (rs : Under S). space_under rs id) o 0) (sym is) there
       by (InCollection added) there = (
         there.0,
         subst (λ (o : Option (Under S)). 0 < option_map_or (λ (rs : Under S). spare rs) o 0) (sym is) there.1,

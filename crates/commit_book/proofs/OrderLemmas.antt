@@ -50,7 +50,7 @@ abbrev pub Under : List ℕ → List Row → Type 0
 Under id [] = ⊤
 Under id (row ∷ rows) = (less row.0 id ≡ false) × Under id rows
 
--- none comes before one that stands earlier
+-- none comes before an earlier one
 abbrev pub Rises : List Row → Type 0
 Rises [] = ⊤
 Rises (row ∷ rows) = Under row.0 rows × Rises rows

@@ -37,16 +37,16 @@ costs : (cost_of (put (codes "p2") 1) ≡ 77) × (cost_of (delete (codes "p2")) 
 unfolding cost_of digits escape_byte
 costs = (refl, refl, refl)
 
--- a change that comes to the capacity is taken, one above it is not, and the sum is told
+-- a change that comes to the capacity is taken, one above it is not, and the refusal gives the sum
 capacity :
     (added (record { capacity = 154; journal = put (codes "p2") 1 ∷ []; reserved = None; names = [] }) (put (codes "p2") 1) ≡ Ok 2)
     × (added (record { capacity = 153; journal = put (codes "p2") 1 ∷ []; reserved = None; names = [] }) (put (codes "p2") 1) ≡ Err (Full 154))
 unfolding cost_of digits escape_byte
 capacity = (refl, refl)
 
--- ---- what stands at a commit
+-- ---- the documents at a commit
 
--- a document stands from its commit until the next change of its record
+-- a document is there from its commit until the next change of its record
 documents :
     (document_at journal 0 (codes "shop") (codes "p2") ≡ None)
     × (document_at journal 1 (codes "shop") (codes "p2") ≡ Some (1, whole 1))

@@ -1,4 +1,4 @@
--- The words of each refusal.
+-- Internal. The words of each refusal.
 use Rattle.std.specs.Prelude.{ℕ, List, ◌++◌, codes, decimal}
 use Rattle.commit_book.specs.declared.refusal.BookRefusal.{BookRefusal}
 use Rattle.commit_book.specs.declared.refusal.BookRefusal.TheVariants.{Full, Memory}

@@ -1,4 +1,4 @@
--- The commits as they are handed out, each with what it found.
+-- Internal. The commits as a caller receives them, each with the document before it.
 use Rattle.std.specs.Prelude.{ℕ, ◌-◌, List, take, drop, map, option_map}
 use Rattle.std.specs.List.{enumerate_from}
 use Rattle.commit_book.specs.declared.change.Change.{Change}

@@ -1,4 +1,4 @@
--- What contracts see of a book.
+-- Internal. What contracts see of a book.
 use Rattle.std.specs.Prelude.{ℕ, ◌+◌, Bool, false, List, [], ◌∷◌, ◌++◌, Option, None, length, if◌then◌else◌, nat_le}
 use Rattle.std.specs.Option.{option_map_or}
 use Rattle.std.specs.declared.result.Result.{Result}
@@ -10,7 +10,7 @@ use Rattle.commit_book.specs.Journal.{kept_with}
 use Rattle.commit_book.specs.Names.{Names}
 use Rattle.commit_book.specs.Same.{same_change}
 
--- The changes so far, the bytes that they may take, the change for which there is room, and the names in the index.
+-- The changes so far, the bytes that they may take, the change for which memory is reserved, and the names in the index.
 pub record Contents : Type 0 where
   pub capacity : ℕ
   pub journal : List Change
@@ -33,7 +33,7 @@ added book change = if nat_le (kept_with book.journal change) book.capacity then
 abbrev pub refusal_of : Contents → Change → BookRefusal
 refusal_of book change = if nat_le (kept_with book.journal change) book.capacity then Memory else Full (kept_with book.journal change)
 
--- there is room for this change
+-- memory is reserved for this change
 abbrev pub is_reserved : Contents → Change → Bool
 is_reserved book change = option_map_or (λ reserved. same_change reserved change) book.reserved false
 

@@ -1,4 +1,4 @@
--- The documents of a collection after the first changes of a journal.
+-- Internal. The documents of a collection after the first changes of a journal.
 use Rattle.std.specs.Prelude.{◌≡◌, ℕ, zero, suc, Bool, not, if◌then◌else◌, List, [], ◌∷◌, Option, Some, None, slice_get, filter, bytes_eq, option_map}
 use Rattle.std.specs.Ordering.{is_lt, nat_cmp}
 use Rattle.std.specs.Cmp.Lexicographic.{slice_cmp}
@@ -9,7 +9,7 @@ use Rattle.commit_book.specs.declared.change.Change.{Change}
 abbrev pub Row : Type 0
 Row = List ℕ × ℕ × Tree
 
--- a row at its place among rows in byte order of ids
+-- a row put where it belongs among rows in byte order of ids
 abbrev pub insert_row : Row → List Row → List Row
 insert_row new [] = new ∷ []
 insert_row new (row ∷ rows) = if is_lt (slice_cmp nat_cmp new.0 row.0) then new ∷ row ∷ rows else row ∷ insert_row new rows

@@ -1,4 +1,4 @@
--- The commits of each record, by which its documents are found.
+-- Internal. The commits of each record, by which its documents are found.
 use Rattle.std.specs.Prelude.{◌≡◌, ℕ, zero, suc, ◌+◌, ◌-◌, ◌^◌, ◌<◌, ◌≤◌, false, map, List, [], ◌∷◌, ◌++◌, Option, Some, None, vec_len, vec_capacity, if◌then◌else◌, nat_le, length, filter, slice_get, bytes_eq, All, IfSome, option_map, option_and_then}
 use Rattle.std.specs.Option.{option_map_or}
 use Rattle.std.specs.Global.{Vec}
@@ -8,8 +8,8 @@ use Rattle.indexmap.specs.IndexMap.{IndexMap, get_by, spare}
 use Rattle.q_doc.specs.Tree.{Tree}
 use Rattle.commit_book.specs.declared.change.Change.{Change}
 use Rattle.commit_book.specs.declared.index.NewRecord.{NewRecord}
-use Rattle.commit_book.specs.declared.index.Place.{Place}
-use Rattle.commit_book.specs.declared.index.Place.TheVariants.{Known, InCollection, InNewCollection}
+use Rattle.commit_book.specs.declared.index.Slot.{Slot}
+use Rattle.commit_book.specs.declared.index.Slot.TheVariants.{Known, InCollection, InNewCollection}
 use Rattle.commit_book.specs.declared.row.Reserved.{Reserved}
 use Rattle.commit_book.specs.Journal.{is_of, put_at, kept, kept_with}
 use Rattle.commit_book.specs.Names.{Names, AreNamesOf, has_collection, has_record}
@@ -47,27 +47,27 @@ pub record AreCommits (journal : List Change) (commits : List ℕ) : Type 0 wher
   pub rising : IsNonDecreasing commits
   pub within : All (λ commit. (0 < commit) × (commit ≤ length journal)) commits
 
--- the commits that stand under an id
+-- the commits of an id
 abbrev pub commits_under : {S : Type 0} → IndexMap (List ℕ) (Vec ℕ) S → List ℕ → List ℕ
 commits_under records id = option_map_or (λ v. v.items) (get_by (bytes_eq id) records) []
 
--- the document that stands under an id after the first n changes
+-- the document of an id after the first n changes
 abbrev pub document_under : {S : Type 0} → List Change → IndexMap (List ℕ) (Vec ℕ) S → ℕ → List ℕ → Option (ℕ × Tree)
 document_under journal records n id = put_of (change_of journal (commits_under records id) n)
 
--- for how many commits more of an id there is room
-abbrev pub room_under : {S : Type 0} → IndexMap (List ℕ) (Vec ℕ) S → List ℕ → ℕ
-room_under records id = option_map_or (λ v. vec_capacity v - vec_len v) (get_by (bytes_eq id) records) 0
+-- the number of further commits of an id for which memory is reserved
+abbrev pub space_under : {S : Type 0} → IndexMap (List ℕ) (Vec ℕ) S → List ℕ → ℕ
+space_under records id = option_map_or (λ v. vec_capacity v - vec_len v) (get_by (bytes_eq id) records) 0
 
--- the commits that stand under a record
+-- the commits of a record in the index
 abbrev pub commits_in : {S T : Type 0} → IndexMap (List ℕ) (IndexMap (List ℕ) (Vec ℕ) S) T → List ℕ → List ℕ → List ℕ
 commits_in collections collection id = option_map_or (λ records. commits_under records id) (get_by (bytes_eq collection) collections) []
 
--- for how many commits more of a record there is room
-abbrev pub room_in : {S T : Type 0} → IndexMap (List ℕ) (IndexMap (List ℕ) (Vec ℕ) S) T → List ℕ → List ℕ → ℕ
-room_in collections collection id = option_map_or (λ records. room_under records id) (get_by (bytes_eq collection) collections) 0
+-- the number of further commits of a record for which memory is reserved
+abbrev pub space_in : {S T : Type 0} → IndexMap (List ℕ) (IndexMap (List ℕ) (Vec ℕ) S) T → List ℕ → List ℕ → ℕ
+space_in collections collection id = option_map_or (λ records. space_under records id) (get_by (bytes_eq collection) collections) 0
 
--- for how many records more of a collection there is room
+-- the number of further records of a collection for which memory is reserved
 abbrev pub spare_in : {S T : Type 0} → IndexMap (List ℕ) (IndexMap (List ℕ) (Vec ℕ) S) T → List ℕ → ℕ
 spare_in collections collection = option_map_or (λ records. spare records) (get_by (bytes_eq collection) collections) 0
 
@@ -75,53 +75,53 @@ spare_in collections collection = option_map_or (λ records. spare records) (get
 abbrev pub names_of : {S T : Type 0} → IndexMap (List ℕ) (IndexMap (List ℕ) (Vec ℕ) S) T → Names
 names_of collections = map (λ e. (e.0, keys_of e.1.entries)) collections.entries
 
--- under each record stand the numbers of its changes, and no record stands there without one
+-- each record has the numbers of its changes, and no record is in the index without one
 pub record IsIndexOf {S T : Type 0} (journal : List Change) (collections : IndexMap (List ℕ) (IndexMap (List ℕ) (Vec ℕ) S) T) : Type 0 where
   pub commits : (collection id : List ℕ) → commits_in collections collection id ≡ commits_of journal (length journal) collection id
   pub names : AreNamesOf journal (names_of collections)
 
--- a record that has no commit, with room for one
+-- a record that has no commit, with memory reserved for one
 pub record IsNew (id : List ℕ) (record' : NewRecord) : Type 0 where
   pub id_is : record'.id ≡ id
   pub none : record'.commits.items ≡ []
-  pub room : vec_len record'.commits < vec_capacity record'.commits
+  pub space : vec_len record'.commits < vec_capacity record'.commits
 
 -- the next commit of an id can be added under its collection without memory
-abbrev pub IsPlaceUnder : {S : Type 0} → IndexMap (List ℕ) (Vec ℕ) S → List ℕ → Place → Type 0
-IsPlaceUnder records id Known = 0 < room_under records id
-IsPlaceUnder records id (InCollection new) = IsNew id new × (0 < spare records) × (get_by (bytes_eq id) records ≡ None)
-IsPlaceUnder records id (InNewCollection name among new) = ⊥
+abbrev pub IsSlotUnder : {S : Type 0} → IndexMap (List ℕ) (Vec ℕ) S → List ℕ → Slot → Type 0
+IsSlotUnder records id Known = 0 < space_under records id
+IsSlotUnder records id (InCollection new) = IsNew id new × (0 < spare records) × (get_by (bytes_eq id) records ≡ None)
+IsSlotUnder records id (InNewCollection name among new) = ⊥
 
 -- the next commit of a record can be added without memory
-abbrev pub IsPlaceIn : {S T : Type 0} → IndexMap (List ℕ) (IndexMap (List ℕ) (Vec ℕ) S) T → List ℕ → List ℕ → Place → Type 0
-IsPlaceIn collections collection id Known = 0 < room_in collections collection id
-IsPlaceIn collections collection id (InCollection new) =
+abbrev pub IsSlotIn : {S T : Type 0} → IndexMap (List ℕ) (IndexMap (List ℕ) (Vec ℕ) S) T → List ℕ → List ℕ → Slot → Type 0
+IsSlotIn collections collection id Known = 0 < space_in collections collection id
+IsSlotIn collections collection id (InCollection new) =
     IsNew id new × (0 < spare_in collections collection) × (has_record (names_of collections) collection id ≡ false)
-IsPlaceIn collections collection id (InNewCollection name among new) =
+IsSlotIn collections collection id (InNewCollection name among new) =
     IsNew id new × (name ≡ collection) × (among.entries ≡ []) × (0 < spare among) × (0 < spare collections) × (has_collection (names_of collections) collection ≡ false)
 
 -- a change can be added without memory, and fits
 pub record IsReadyFor {S T : Type 0} (capacity : ℕ) (rows : Vec Change) (collections : IndexMap (List ℕ) (IndexMap (List ℕ) (Vec ℕ) S) T) (reserved : Reserved) : Type 0 where
   pub fits : kept_with rows.items reserved.row ≤ capacity
-  pub room : vec_len rows < vec_capacity rows
-  pub place : IsPlaceIn collections reserved.row.collection reserved.row.id reserved.place
+  pub space : vec_len rows < vec_capacity rows
+  pub slot : IsSlotIn collections reserved.row.collection reserved.row.id reserved.slot
 
--- the commits and the names stay, and there is room for what there was room
-pub record KeepsRoom {S T : Type 0} (old new : IndexMap (List ℕ) (IndexMap (List ℕ) (Vec ℕ) S) T) : Type 0 where
+-- the commits and the names stay, and what was reserved stays reserved
+pub record KeepsSpace {S T : Type 0} (old new : IndexMap (List ℕ) (IndexMap (List ℕ) (Vec ℕ) S) T) : Type 0 where
   pub commits : (collection id : List ℕ) → commits_in new collection id ≡ commits_in old collection id
   pub names : names_of new ≡ names_of old
-  pub room : (collection id : List ℕ) → room_in old collection id ≤ room_in new collection id
+  pub space : (collection id : List ℕ) → space_in old collection id ≤ space_in new collection id
   pub records : (collection : List ℕ) → spare_in old collection ≤ spare_in new collection
   pub spare : spare old ≤ spare new
 
 -- the same of the records of one collection
-pub record KeepsRoomUnder {S : Type 0} (old new : IndexMap (List ℕ) (Vec ℕ) S) : Type 0 where
+pub record KeepsSpaceUnder {S : Type 0} (old new : IndexMap (List ℕ) (Vec ℕ) S) : Type 0 where
   pub commits : (id : List ℕ) → commits_under new id ≡ commits_under old id
   pub ids : keys_of new.entries ≡ keys_of old.entries
-  pub room : (id : List ℕ) → room_under old id ≤ room_under new id
+  pub space : (id : List ℕ) → space_under old id ≤ space_under new id
   pub spare : spare old ≤ spare new
 
--- the sum and the index are those of the rows, and what is reserved has its room
+-- the sum and the index are those of the rows, and the reserved change has its memory
 pub record IsSound {S T : Type 0} (capacity bytes : ℕ) (rows : Vec Change) (collections : IndexMap (List ℕ) (IndexMap (List ℕ) (Vec ℕ) S) T) (reserved : Option Reserved) : Type 0 where
   pub most : capacity ≤ 2 ^ 62
   pub sum : bytes ≡ kept rows.items

@@ -1,4 +1,4 @@
--- A journal is the list of the changes, the newest last. The change at place n, counted from 1, is commit n.
+-- Believed. A journal is the list of the changes, the newest last. The n-th change, counted from 1, is commit n.
 use Rattle.std.specs.Prelude.{ℕ, zero, suc, ◌+◌, Bool, ◌&&◌, ◌||◌, if◌then◌else◌, List, [], Option, Some, None, length, slice_get, sum_by, bytes_eq, is_some, option_map, option_and_then}
 use Rattle.std.specs.Option.{option_map_or}
 use Rattle.q_doc.specs.Tree.{Tree}

@@ -1,4 +1,4 @@
--- Whether two changes are one.
+-- Internal. Whether two changes are one.
 use Rattle.std.specs.Prelude.{Bool, true, false, ◌&&◌, Option, Some, None, bytes_eq}
 use Rattle.std.specs.Ordering.{eq_by_cmp}
 use Rattle.q_doc.specs.Tree.{Tree}

@@ -12,7 +12,7 @@ ghost use Rattle.commit_book.specs.Names.{AreNamesOf};
 use crate::change::{Change, CommitRow, copy_of, is_same};
 use crate::documents::documents_under;
 use crate::found::{copy_of_found, document_of, printed_of, row_at};
-use crate::index::{Collections, commits_in, place_in, push_in};
+use crate::index::{Collections, commits_in, push_in, slot_in};
 use crate::refusal::BookRefusal;
 use crate::row::{Reserved, Row, cost_of, text_of};
 use indexmap::IndexMap;
@@ -22,7 +22,7 @@ use std::alloc::Global;
 use std::marker::Model;
 
 /// Every change in turn, the first being commit 1, within a capacity in bytes. Contracts see the
-/// changes, the capacity, and the change for which there is room.
+/// changes, the capacity, and the change for which memory is reserved.
 #[derive(Drop)]
 pub struct Book {
     alloc: Global,
@@ -73,7 +73,7 @@ impl Book {
         })
     }
 
-    /// Makes room for a change, so that adding it takes no memory. It takes the place of the change
+    /// Reserves memory for a change, so that adding it takes none. It replaces the change
     /// that was reserved before.
     pub fn reserve(&mut self, change: &Change) -> Result<(), BookRefusal>
         ensures told { (result ≡ Err NoMemory) ⊎ (result ≡ judged self.old change.now) }
@@ -91,8 +91,8 @@ impl Book {
         }
         let row = Row::of(self.alloc, change, text)?;
         self.rows.reserve(1)?;
-        let place = place_in(&mut self.collections, &change.collection, &change.id)?;
-        self.reserved = Some(Reserved { row, place });
+        let slot = slot_in(&mut self.collections, &change.collection, &change.id)?;
+        self.reserved = Some(Reserved { row, slot });
         Ok(())
     }
 
@@ -118,14 +118,14 @@ impl Book {
         ensures fits { kept self.new.journal ≤ self.new.capacity }
     {
         match self.reserved.take() {
-            Some(Reserved { row, place }) => {
+            Some(Reserved { row, slot }) => {
                 let commit = self.rows.len() as u64 + 1;
                 let change = row.change();
                 push_in(
                     &mut self.collections,
                     &change.collection,
                     &change.id,
-                    place,
+                    slot,
                     commit,
                 );
                 self.bytes += row.cost();
@@ -151,7 +151,7 @@ impl Book {
         Ok(self.add_reserved())
     }
 
-    /// Whether there is room for this change.
+    /// Whether memory is reserved for this change.
     fn is_reserved(&self, change: &Change) -> bool
         ensures { result ≡ is_reserved self.now change.now }
     {
@@ -225,9 +225,9 @@ impl Book {
         if commit == 0 {
             return None;
         }
-        let place = commit - 1;
-        let change = self.rows.get(place as usize)?.change();
-        if change.document.is_some() || self.has_document(place, change) {
+        let earlier = commit - 1;
+        let change = self.rows.get(earlier as usize)?.change();
+        if change.document.is_some() || self.has_document(earlier, change) {
             Some(change)
         } else {
             None
@@ -250,21 +250,21 @@ impl Book {
         ensures { IfOk result (λ rows. rows.items ≡ commit_rows self.now.journal from to) }
     {
         let mut rows = Vec::with_capacity(self.alloc, (to - from) as usize)?;
-        for place in from as usize..to as usize {
-            rows.push(self.commit_row(place)?)?;
+        for index in from as usize..to as usize {
+            rows.push(self.commit_row(index)?)?;
         }
         Ok(rows)
     }
 
-    /// The commit of the row at a place.
-    fn commit_row(&self, place: usize) -> Result<CommitRow, Memory>
-        requires { place < length self.now.journal }
-        ensures { IfOk result (λ row. (change : AChange) → slice_get self.now.journal place ≡ Some change → row ≡ commit_row self.now.journal (place + 1) change) }
+    /// The commit of the row at a index.
+    fn commit_row(&self, index: usize) -> Result<CommitRow, Memory>
+        requires { index < length self.now.journal }
+        ensures { IfOk result (λ row. (change : AChange) → slice_get self.now.journal index ≡ Some change → row ≡ commit_row self.now.journal (index + 1) change) }
     {
-        let change = self.rows[place].change();
-        let before = self.document_at(place as u64, &change.collection, &change.id);
+        let change = self.rows[index].change();
+        let before = self.document_at(index as u64, &change.collection, &change.id);
         Ok(CommitRow {
-            commit: place as u64 + 1,
+            commit: index as u64 + 1,
             collection: change.collection.clone()?,
             id: change.id.clone()?,
             before: copy_of_found(before)?,

@@ -35,7 +35,7 @@ impl Change {
     {
         match &self.document {
             Some(document) => {
-                // Its root tells that its text is not too long.
+                // Its root shows that its text is not too long.
                 let _root = document.root();
                 cost_with(self, document.printed_len())
             }

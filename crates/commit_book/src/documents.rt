@@ -22,8 +22,8 @@ pub fn documents_under(
 {
     let count = records.len();
     let mut found = Vec::with_capacity(alloc, count)?;
-    for place in 0..count {
-        match records.get_index(place) {
+    for index in 0..count {
+        match records.get_index(index) {
             Some((id, commits)) => push_document(&mut found, rows, id, commits, commit)?,
             None => unreachable!(),
         }

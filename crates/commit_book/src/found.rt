@@ -1,4 +1,4 @@
-//! What stands in the rows at a commit, found by the commits of a record.
+//! The documents in the rows at a commit, found by the commits of a record.
 ghost use Rattle.std.specs.Prelude.{◌≡◌, IfOk, option_map};
 ghost use Rattle.std.specs.List.Sorted.{IsNonDecreasing};
 ghost use Rattle.commit_book.specs.Index.{AreCommits, version_of, change_of};

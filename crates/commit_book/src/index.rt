@@ -3,7 +3,7 @@ ghost use Rattle.std.specs.Prelude.{◌≡◌, ℕ, ◌<◌, ◌++◌, ◌∷◌
 ghost use Rattle.std.specs.Str.{bytes_eq};
 ghost use Rattle.std.specs.Map.{keys_of};
 ghost use Rattle.indexmap.specs.IndexMap.{get_by, spare};
-ghost use Rattle.commit_book.specs.Index.{commits_under, commits_in, room_under, room_in, names_of, spare_in, IsNew, IsPlaceUnder, IsPlaceIn, KeepsRoom, KeepsRoomUnder};
+ghost use Rattle.commit_book.specs.Index.{commits_under, commits_in, space_under, space_in, names_of, spare_in, IsNew, IsSlotUnder, IsSlotIn, KeepsSpace, KeepsSpaceUnder};
 ghost use Rattle.commit_book.specs.Names.{AddsName, has_collection, has_record};
 
 use indexmap::IndexMap;
@@ -16,21 +16,21 @@ pub type Records = IndexMap<Name, Vec<Commit>>;
 /// The records of each collection. Each collection has one.
 pub type Collections = IndexMap<Name, Records>;
 
-/// A record that is not in the index, with room for its first commit.
+/// A record that is not in the index, with memory reserved for its first commit.
 #[derive(Drop)]
 pub struct NewRecord {
     pub id: Name,
     pub commits: Vec<Commit>,
 }
 
-/// Where the next commit of a record goes, with room for it.
+/// Where the next commit of a record goes. Memory for it is reserved.
 #[derive(Drop)]
-pub enum Place {
+pub enum Slot {
     /// The record is in the index.
     Known,
-    /// Its collection is, and has room for it.
+    /// Its collection is, and has spare capacity for the record.
     InCollection(NewRecord),
-    /// The index has room for the collection, and that for the record.
+    /// The index has spare capacity for the collection, and the collection for the record.
     InNewCollection(Name, Records, NewRecord),
 }
 
@@ -54,24 +54,24 @@ fn commits_under<'a>(records: &'a Records, id: &Name) -> &'a [Commit]
     }
 }
 
-/// Adds a commit of a record at the place that was found for it. It takes no memory.
+/// Adds a commit of a record in its slot. It takes no memory.
 pub fn push_in(
     collections: &mut Collections,
     collection: &Name,
     id: &Name,
-    place: Place,
+    slot: Slot,
     commit: Commit,
 )
-    requires { IsPlaceIn collections.old collection.now id.now place }
+    requires { IsSlotIn collections.old collection.now id.now slot }
     ensures own { commits_in collections.new collection.now id.now ≡ commits_in collections.old collection.now id.now ++ commit ∷ [] }
     ensures ids { (other : List ℕ) → other ≢ id.now → commits_in collections.new collection.now other ≡ commits_in collections.old collection.now other }
     ensures others { (collection' id' : List ℕ) → collection' ≢ collection.now → commits_in collections.new collection' id' ≡ commits_in collections.old collection' id' }
     ensures names { AddsName collection.now id.now (names_of collections.old) (names_of collections.new) }
 {
-    match place {
-        Place::Known => push_known(collections, collection, id, commit),
-        Place::InCollection(new) => put_record(collections, collection, new, commit),
-        Place::InNewCollection(name, records, new) => {
+    match slot {
+        Slot::Known => push_known(collections, collection, id, commit),
+        Slot::InCollection(new) => put_record(collections, collection, new, commit),
+        Slot::InNewCollection(name, records, new) => {
             put_collection(collections, name, records, new, commit)
         }
     }
@@ -79,7 +79,7 @@ pub fn push_in(
 
 /// Adds a commit of a record that is in the index.
 fn push_known(collections: &mut Collections, collection: &Name, id: &Name, commit: Commit)
-    requires { 0 < room_in collections.old collection.now id.now }
+    requires { 0 < space_in collections.old collection.now id.now }
     ensures own { commits_in collections.new collection.now id.now ≡ commits_in collections.old collection.now id.now ++ commit ∷ [] }
     ensures ids { (other : List ℕ) → other ≢ id.now → commits_in collections.new collection.now other ≡ commits_in collections.old collection.now other }
     ensures others { (collection' id' : List ℕ) → collection' ≢ collection.now → commits_in collections.new collection' id' ≡ commits_in collections.old collection' id' }
@@ -93,7 +93,7 @@ fn push_known(collections: &mut Collections, collection: &Name, id: &Name, commi
 
 /// Adds a commit of an id that is in its collection.
 fn push_under(records: &mut Records, id: &Name, commit: Commit)
-    requires { 0 < room_under records.old id.now }
+    requires { 0 < space_under records.old id.now }
     ensures own { commits_under records.new id.now ≡ commits_under records.old id.now ++ commit ∷ [] }
     ensures others { (other : List ℕ) → other ≢ id.now → commits_under records.new other ≡ commits_under records.old other }
     ensures ids { keys_of records.new.entries ≡ keys_of records.old.entries }
@@ -162,53 +162,49 @@ fn put_collection(
     }
 }
 
-/// The place of the next commit of a record, with room for it. No name comes into the index.
-pub fn place_in(
-    collections: &mut Collections,
-    collection: &Name,
-    id: &Name,
-) -> Result<Place, Memory>
-    ensures ok { IfOk result (λ place. IsPlaceIn collections.new collection.now id.now place) }
-    ensures keeps { KeepsRoom collections.old collections.new }
+/// The slot of the next commit of a record, with memory reserved. It adds no name to the index.
+pub fn slot_in(collections: &mut Collections, collection: &Name, id: &Name) -> Result<Slot, Memory>
+    ensures ok { IfOk result (λ slot. IsSlotIn collections.new collection.now id.now slot) }
+    ensures keeps { KeepsSpace collections.old collections.new }
 {
     match collections.get_mut(collection) {
-        Some(records) => place_under(records, id),
-        None => new_place(collections, collection, id),
+        Some(records) => slot_under(records, id),
+        None => new_slot(collections, collection, id),
     }
 }
 
-/// The place of the next commit of an id in its collection, with room for it.
-fn place_under(records: &mut Records, id: &Name) -> Result<Place, Memory>
-    ensures ok { IfOk result (λ place. IsPlaceUnder records.new id.now place) }
-    ensures keeps { KeepsRoomUnder records.old records.new }
+/// The slot of the next commit of an id in its collection, with memory reserved.
+fn slot_under(records: &mut Records, id: &Name) -> Result<Slot, Memory>
+    ensures ok { IfOk result (λ slot. IsSlotUnder records.new id.now slot) }
+    ensures keeps { KeepsSpaceUnder records.old records.new }
 {
     match records.get_mut(id) {
         Some(commits) => {
             commits.reserve(1)?;
-            Ok(Place::Known)
+            Ok(Slot::Known)
         }
         None => {
             records.reserve(1)?;
-            Ok(Place::InCollection(new_record(*records.allocator(), id)?))
+            Ok(Slot::InCollection(new_record(*records.allocator(), id)?))
         }
     }
 }
 
-/// The place of a record whose collection is not in the index, with room for both.
-fn new_place(collections: &mut Collections, collection: &Name, id: &Name) -> Result<Place, Memory>
+/// The slot of a record whose collection is not in the index, with memory reserved for both.
+fn new_slot(collections: &mut Collections, collection: &Name, id: &Name) -> Result<Slot, Memory>
     requires { get_by (bytes_eq collection.now) collections.old ≡ None }
-    ensures ok { IfOk result (λ place. IsPlaceIn collections.new collection.now id.now place) }
-    ensures keeps { KeepsRoom collections.old collections.new }
+    ensures ok { IfOk result (λ slot. IsSlotIn collections.new collection.now id.now slot) }
+    ensures keeps { KeepsSpace collections.old collections.new }
 {
     collections.reserve(1)?;
     let alloc = *collections.allocator();
     let mut records = IndexMap::new(alloc);
     records.reserve(1)?;
     let new = new_record(alloc, id)?;
-    Ok(Place::InNewCollection(collection.clone()?, records, new))
+    Ok(Slot::InNewCollection(collection.clone()?, records, new))
 }
 
-/// A record without a commit, with room for one.
+/// A record without a commit, with memory reserved for one.
 fn new_record(alloc: Global, id: &Name) -> Result<NewRecord, Memory>
     ensures { IfOk result (λ new. IsNew id.now new) }
 {

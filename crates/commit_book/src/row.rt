@@ -3,13 +3,13 @@ ghost use Rattle.std.specs.Prelude.{◌≡◌, ◌<◌, ◌≤◌, ◌^◌, ◌+
 ghost use Rattle.commit_book.specs.Journal.{text_of, cost_of, row_bytes};
 
 use crate::change::Change;
-use crate::index::Place;
+use crate::index::Slot;
 use q_base::{Memory, SharedText};
 use q_doc::Doc;
 use std::alloc::{AllocError, Global};
 use std::marker::Model;
 
-/// A change with the printed text of its document, which reads hand out. Contracts see the change.
+/// A change with the printed text of its document, which reads return. Contracts see the change.
 #[derive(Drop)]
 pub struct Row {
     change: Change,
@@ -32,11 +32,11 @@ impl Model for Row {
     ghost invariant = { λ r. r.text ≡ text_of r.change.document };
 }
 
-/// A row that is to be added, and the place of its commit in the index.
+/// A row that is to be added, and the slot of its commit in the index.
 #[derive(Drop)]
 pub struct Reserved {
     pub row: Row,
-    pub place: Place,
+    pub slot: Slot,
 }
 
 impl Row {
@@ -116,7 +116,7 @@ pub fn cost_of(change: &Change, text: &[u8]) -> u64
     cost_with(change, text.len())
 }
 
-/// What a change takes of the capacity, in bytes, with a text of so many.
+/// What a change with a text of this length takes of the capacity, in bytes.
 pub fn cost_with(change: &Change, size: usize) -> u64
     requires { size < 2 ^ 63 }
     ensures cost { result ≡ row_bytes + length change.now.collection + length change.now.id + size }

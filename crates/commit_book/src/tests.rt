@@ -1,4 +1,5 @@
-//! What no clause says: the worked case of the capacity, and that calls succeed where there is memory.
+//! What no clause says: the worked case of the capacity, that calls succeed where there is memory,
+//! and that look-ups take none.
 
 use crate::{Book, BookRefusal, Change};
 use q_base::Name;
@@ -63,13 +64,13 @@ fn a_change_above_the_capacity_is_refused(rt: HostRuntime) -> Result<(), Fail> {
 }
 
 /// Whether a record of `shop` has this text at a commit; an empty text is none.
-fn has_text(book: &Book, commit: u64, shop: &Name, id: &Name, want: &[u8]) -> bool {
+fn has_text(book: &Book, commit: u64, shop: &Name, id: &Name, expected: &[u8]) -> bool {
     if commit > book.count() {
         return false;
     }
     match book.text_at(commit, shop, id) {
-        Some((_, text)) => text.as_slice() == want,
-        None => want.is_empty(),
+        Some((_, text)) => text.as_slice() == expected,
+        None => expected.is_empty(),
     }
 }
 
@@ -96,7 +97,7 @@ fn put_again(alloc: Global, book: &mut Book) -> Result<(), Fail> {
 }
 
 #[test]
-fn documents_stand_at_their_commits(rt: HostRuntime) -> Result<(), Fail> {
+fn documents_are_at_their_commits(rt: HostRuntime) -> Result<(), Fail> {
     let alloc = rt.alloc();
     let shop = Name::read(alloc, b"shop")?;
     let id = Name::read(alloc, b"p2")?;
@@ -117,5 +118,31 @@ fn lists_are_made_where_there_is_memory(rt: HostRuntime) -> Result<(), Fail> {
     assert_eq!(rt; documents.len(), 2);
     let commits = book.commits(0, last)?;
     assert_eq!(rt; commits.len() as u64, last);
+    Ok(())
+}
+
+/// A book of one commit, which puts p2.
+fn one_commit(alloc: Global) -> Result<Book, Fail> {
+    let mut book = Book::new(alloc, 65_792)?;
+    add(alloc, &mut book, b"p2", b"{\"a\":1}")?;
+    Ok(book)
+}
+
+/// Whether the look-ups of the last commit find a document of this collection.
+fn is_found(book: &Book, shop: &Name, id: &Name) -> bool {
+    let last = book.count();
+    book.document_at(last, shop, id).is_some() && book.text_at(last, shop, id).is_some()
+}
+
+/// The allocation at the end is the first one after the set-up.
+#[test]
+fn look_ups_take_no_memory(rt: HostRuntime) -> Result<(), Fail> {
+    let alloc = rt.alloc();
+    let shop = Name::read(alloc, b"shop")?;
+    let id = Name::read(alloc, b"p2")?;
+    let book = one_commit(alloc)?;
+    assert!(rt; is_found(&book, &shop, &id));
+    let next = Vec::<u8>::with_capacity(alloc, 1);
+    assert!(rt; next.is_ok(), "the next allocation was refused");
     Ok(())
 }

@@ -1,8 +1,8 @@
-pub mod RoomLemmas
+pub mod PageRoomLemmas
 pub mod GreatestLemmas
 pub mod CopyLemmas
-pub mod MarkLemmas
-pub mod HandedLemmas
+pub mod InvalidationLemmas
+pub mod IssueLemmas
 pub mod SoundLemmas
 pub mod StateLemmas
 pub mod MatchLemmas

@@ -1,7 +1,8 @@
--- What the marks of a match raise.
+-- What the invalidations of a match raise.
 use Rattle.std.proofs.Common.{◌≡◌, ℕ, zero, suc, ◌+◌, ◌<◌, ◌≤◌, ◌==◌, Bool, true, false, ◌&&◌, ◌||◌, ◌⊎◌, max, nat_lt, nat_le, List, [], ◌∷◌, ◌++◌, length, map, All, is_some, Option, Some, None, unwrap_or, slice_get, slice_index_or, get_or, take, option_map, option_and_then, bytes_eq, if◌then◌else◌, refl, sym, ap, ap₂, ◌∙◌, subst, arith, inl, inr}
 use Rattle.std.specs.List.{list_any}
-use Rattle.std.proofs.lemmas.Bool.{cases_Bool, cases_lt, lt-ltb, le-ltb, le-leb, lt-leb, ltb-true, leb-true, eq-eqb, eqb-true}
+use Rattle.std.proofs.lemmas.Bool.{cases_Bool, cases_lt, lt-ltb, le-ltb, le-leb, lt-leb, ltb-true, leb-true, eq-eqb, eqb-true, or_left, or_right}
+use Rattle.std.proofs.Math.Bool.{and-true, and-false, and_comm, or-false}
 use Rattle.std.proofs.Math.Seq.{take-suc}
 use Rattle.query_normal.specs.Keys.{same_key}
 use Rattle.query_normal.specs.SameKey.{same_key-Decides, same_key_equiv}
@@ -12,29 +13,29 @@ use Rattle.commit_book.specs.declared.change.Change.{Change}
 use Rattle.commit_book.specs.Journal.{is_of, document_at}
 use Rattle.hub_model.specs.Copies.{live}
 use Rattle.hub_model.specs.Outdated.{is_changed}
-use Rattle.hub_model.specs.State.{Reading, State, until_of}
+use Rattle.hub_model.specs.State.{IssuedCopy, State, until_of}
 use Rattle.hub_model.specs.Until.{until_among, latest_until, until_of_outdated}
 use Rattle.hub_model.proofs.Changes.{record-changed}
 use Rattle.hub_model.proofs.Covered.{outdated_until-commit}
-use Rattle.hub_core.specs.declared.marks.Mark.{Mark}
-use Rattle.hub_core.specs.Marks.{key_of, altered_key, is_key, is_mark, is_after, AreMarksOf, marked_until}
-use Rattle.hub_core.specs.Standing.{HasCopies, copy_of}
-use Rattle.hub_core.specs.Handed.{until_below}
+use Rattle.hub_core.specs.declared.invalidations.Invalidation.{Invalidation}
+use Rattle.hub_core.specs.Invalidations.{key_of, altered_key, is_key, is_invalidation, is_after, AreInvalidationsOf, invalidated_until}
+use Rattle.hub_core.specs.HubState.{HasCopies, copy_of}
+use Rattle.hub_core.specs.CopiesView.{until_below}
 use Rattle.hub_core.proofs.CopyLemmas.{latest, latest-cons}
 use Rattle.hub_core.proofs.GreatestLemmas.{best, best-cons, best-append, best-hit, best-le}
-use Rattle.hub_core.proofs.HandedLemmas.{inactive-none}
+use Rattle.hub_core.proofs.IssueLemmas.{inactive-none}
 
 -- ---- the last copy of a key
 
 -- the second of the last copy is the greatest until
-until-latest : (key : KeyShape) (test : ℕ → Bool) (rs : List Reading) → unwrap_or (latest_where key test (map copy_of rs)) 0 ≡ until_among key (λ r. test r.at) rs
+until-latest : (key : KeyShape) (test : ℕ → Bool) (rs : List IssuedCopy) → unwrap_or (latest_where key test (map copy_of rs)) 0 ≡ until_among key (λ r. test r.at) rs
 until-latest key test [] = refl
 until-latest key test (r ∷ rs) =
     let rest = until-latest key test rs in
     ap (λ (o : Option ℕ). unwrap_or o 0) (latest-cons key test (copy_of r) (map copy_of rs))
     ∙ by (same_key key r.key && test r.at) (latest_where key test (map copy_of rs))
     ∙ ap (λ (n : ℕ). max (if same_key key r.key && test r.at then until_of r else 0) n) rest
-    ∙ sym (best-cons until_of (λ (x : Reading). same_key key x.key && test x.at) r rs)
+    ∙ sym (best-cons until_of (λ (x : IssuedCopy). same_key key x.key && test x.at) r rs)
   where
     by : (b : Bool) (o : Option ℕ) → unwrap_or (latest (if b then Some (until_of r) else None) o) 0 ≡ max (if b then until_of r else 0) (unwrap_or o 0)
     by true None = omega arith
@@ -47,27 +48,13 @@ below-until copies s key commit same =
 
 -- ---- the key whose result a commit changed
 
-both_true : (b : Bool) → (b && true) ≡ b
-both_true true = refl
-both_true false = refl
-
-both_false : (b : Bool) → (b && false) ≡ false
-both_false true = refl
-both_false false = refl
-
 -- a change is of a record where their keys are equal
 pub is_of-key : (change : Change) (collection id : List ℕ) → is_of collection id change ≡ same_key (key_of change) (Record collection id)
-is_of-key change collection id = turned (bytes_eq change.id id) (bytes_eq change.collection collection)
-  where
-    turned : (a b : Bool) → (a && b) ≡ (b && a)
-    turned true true = refl
-    turned true false = refl
-    turned false true = refl
-    turned false false = refl
+is_of-key change collection id = and_comm (bytes_eq change.id id) (bytes_eq change.collection collection)
 
 -- the key that a commit altered is the only one whose result it changed
-altered-told : (journal : List Change) (n : ℕ) (key : KeyShape) → n < length journal → is_changed key journal (suc n) ≡ is_key key (altered_key journal (suc n))
-altered-told journal n (Record collection id) low = of (there journal n low)
+altered-decides : (journal : List Change) (n : ℕ) (key : KeyShape) → n < length journal → is_changed key journal (suc n) ≡ is_key key (altered_key journal (suc n))
+altered-decides journal n (Record collection id) low = of (there journal n low)
   where
     there : (xs : List Change) (i : ℕ) → i < length xs → (x : Change) × (slice_get xs i ≡ Some x)
     there [] i low = absurd (omega (arith, low))
@@ -83,9 +70,9 @@ altered-told journal n (Record collection id) low = of (there journal n low)
         ap₂ (λ (a b : List ℕ). is_some x.document || is_some (document_at journal n a b)) c i
     same_record x false miss = refl
 
-    tells : (x : Change) (a : Bool) → (same_key (Record collection id) (key_of x) && a) ≡ is_key (Record collection id) (option_map key_of (if a then Some x else None))
-    tells x true = both_true (same_key (Record collection id) (key_of x))
-    tells x false = both_false (same_key (Record collection id) (key_of x))
+    decides : (x : Change) (a : Bool) → (same_key (Record collection id) (key_of x) && a) ≡ is_key (Record collection id) (option_map key_of (if a then Some x else None))
+    decides x true = and-true (same_key (Record collection id) (key_of x))
+    decides x false = and-false (same_key (Record collection id) (key_of x))
 
     of : (x : Change) × (slice_get journal n ≡ Some x) → is_changed (Record collection id) journal (suc n) ≡ is_key (Record collection id) (altered_key journal (suc n))
     of found =
@@ -93,48 +80,44 @@ altered-told journal n (Record collection id) low = of (there journal n low)
         record-changed collection id journal n x found.1
         ∙ ap (λ (b : Bool). b && (is_some x.document || is_some (document_at journal n collection id))) (is_of-key x collection id ∙ same_key_equiv.symm (key_of x) (Record collection id))
         ∙ same_record x (same_key (Record collection id) (key_of x)) refl
-        ∙ tells x (is_some x.document || is_some (document_at journal n x.collection x.id))
+        ∙ decides x (is_some x.document || is_some (document_at journal n x.collection x.id))
         ∙ sym (ap (λ (o : Option Change). is_key (Record collection id) (option_map key_of (option_and_then (λ change. if is_some change.document || is_some (document_at journal n change.collection change.id) then Some change else None) o))) found.1)
 
--- ---- the marks of commits
+-- ---- the invalidations by commits
 
 -- no commit is after itself
-pub marks-none : (journal : List Change) (copies : List Copy) (front : ℕ) → AreMarksOf journal copies front front []
-marks-none journal copies front key commit active =
+pub invalidations-none : (journal : List Change) (copies : List Copy) (front : ℕ) → AreInvalidationsOf journal copies front front []
+invalidations-none journal copies front key commit active =
     elim (cases_lt front commit) [
       | inl above ↦ rw (lt-ltb front commit above, lt-leb commit front above) refl
       | inr below ↦ rw (le-ltb front commit below) refl
     ]
 
 -- one commit more
-pub marks-next : (journal : List Change) (copies : List Copy) (front n : ℕ) (old new : List Mark) → AreMarksOf journal copies front n old →
-    ((key : KeyShape) (commit : ℕ) → list_any (is_mark key commit) new ≡ (list_any (is_mark key commit) old || (is_key key (altered_key journal (n + 1)) && (n + 1 == commit)))) →
-    front ≤ n → n < length journal → AreMarksOf journal copies front (n + 1) new
-marks-next journal copies front n old new were more forward within key commit active =
+pub invalidations-next : (journal : List Change) (copies : List Copy) (front n : ℕ) (old new : List Invalidation) → AreInvalidationsOf journal copies front n old →
+    ((key : KeyShape) (commit : ℕ) → list_any (is_invalidation key commit) new ≡ (list_any (is_invalidation key commit) old || (is_key key (altered_key journal (n + 1)) && (n + 1 == commit)))) →
+    front ≤ n → n < length journal → AreInvalidationsOf journal copies front (n + 1) new
+invalidations-next journal copies front n old new were more forward within key commit active =
     more key commit
     ∙ ap (λ (b : Bool). b || (is_key key (altered_key journal (n + 1)) && (n + 1 == commit))) (were key commit active)
     ∙ by (cases_Bool (n + 1 == commit))
   where
-    either : (b : Bool) → (b || false) ≡ b
-    either true = refl
-    either false = refl
-
     by : ((n + 1 == commit) ≡ true) ⊎ ((n + 1 == commit) ≡ false) → ((is_after front n commit && is_changed key journal commit) || (is_key key (altered_key journal (n + 1)) && (n + 1 == commit))) ≡ (is_after front (n + 1) commit && is_changed key journal commit)
     by (inl hit) =
         let same : n + 1 ≡ commit = eqb-true (n + 1) commit hit in
         let next : suc n ≡ n + 1 = omega arith in
         let told : is_key key (altered_key journal (n + 1)) ≡ is_changed key journal commit =
-        ap (λ (m : ℕ). is_key key (altered_key journal m)) (sym next) ∙ sym (altered-told journal n key within) ∙ ap (is_changed key journal) (next ∙ same) in
+        ap (λ (m : ℕ). is_key key (altered_key journal m)) (sym next) ∙ sym (altered-decides journal n key within) ∙ ap (is_changed key journal) (next ∙ same) in
         let above : front < commit = omega (arith, same, forward) in
         let beyond : n < commit = omega (arith, same) in
         let up : commit ≤ n + 1 = omega (arith, same) in
         ap₂ (λ (b c : Bool). (b && is_changed key journal commit) || c)
         (ap₂ (λ (b c : Bool). b && c) (lt-ltb front commit above) (lt-leb commit n beyond))
-        (ap₂ (λ (b c : Bool). b && c) told hit ∙ both_true (is_changed key journal commit))
+        (ap₂ (λ (b c : Bool). b && c) told hit ∙ and-true (is_changed key journal commit))
         ∙ sym (ap₂ (λ (b c : Bool). (b && c) && is_changed key journal commit) (lt-ltb front commit above) (le-leb commit (n + 1) up))
     by (inr miss) =
-        ap (λ (b : Bool). (is_after front n commit && is_changed key journal commit) || b) (ap (λ (b : Bool). is_key key (altered_key journal (n + 1)) && b) miss ∙ both_false (is_key key (altered_key journal (n + 1))))
-        ∙ either (is_after front n commit && is_changed key journal commit)
+        ap (λ (b : Bool). (is_after front n commit && is_changed key journal commit) || b) (ap (λ (b : Bool). is_key key (altered_key journal (n + 1)) && b) miss ∙ and-false (is_key key (altered_key journal (n + 1))))
+        ∙ or-false (is_after front n commit && is_changed key journal commit)
         ∙ ap (λ (b : Bool). (nat_lt front commit && b) && is_changed key journal commit)
         (elim (cases_lt n commit) [
           | inl beyond ↦ (let apart : n + 1 < commit = beyond-next beyond in lt-leb commit n beyond ∙ sym (lt-leb commit (n + 1) apart))
@@ -190,37 +173,33 @@ module _ (U L : ℕ → ℕ) (changed : ℕ → Bool) (step : (n : ℕ) → U (s
         | inr low ↦ (let rest = raised-least m n some low hit in let one = step m in omega (arith, rest, one))
       ]
 
--- a mark that is there raises its key as far as its copies go
-any-most : (copies : List Copy) (key : KeyShape) (n : ℕ) (marks : List Mark) → list_any (is_mark key n) marks ≡ true → until_below copies key n ≤ marked_until copies marks key
+-- an invalidation that is there raises its key as far as its copies go
+any-most : (copies : List Copy) (key : KeyShape) (n : ℕ) (invalidations : List Invalidation) → list_any (is_invalidation key n) invalidations ≡ true → until_below copies key n ≤ invalidated_until copies invalidations key
 any-most copies key n [] there = absurd (let e = there in cc)
 any-most copies key n (m ∷ ms) there =
-    let u : Mark → ℕ = λ x. until_below copies x.key x.commit in
-    let p : Mark → Bool = λ x. same_key key x.key in
+    let u : Invalidation → ℕ = λ x. until_below copies x.key x.commit in
+    let p : Invalidation → Bool = λ x. same_key key x.key in
     by (same_key key m.key) (m.commit == n) refl refl (best-cons u p m ms) (λ rest. any-most copies key n ms rest)
   where
-    by : (a b : Bool) → same_key key m.key ≡ a → (m.commit == n) ≡ b → marked_until copies (m ∷ ms) key ≡ max (if same_key key m.key then until_below copies m.key m.commit else 0) (marked_until copies ms key) →
-        (list_any (is_mark key n) ms ≡ true → until_below copies key n ≤ marked_until copies ms key) → until_below copies key n ≤ marked_until copies (m ∷ ms) key
+    by : (a b : Bool) → same_key key m.key ≡ a → (m.commit == n) ≡ b → invalidated_until copies (m ∷ ms) key ≡ max (if same_key key m.key then until_below copies m.key m.commit else 0) (invalidated_until copies ms key) →
+        (list_any (is_invalidation key n) ms ≡ true → until_below copies key n ≤ invalidated_until copies ms key) → until_below copies key n ≤ invalidated_until copies (m ∷ ms) key
     by true true own at more further =
         let k : key ≡ m.key = (same_key-Decides key m.key).0 own in
         let c : m.commit ≡ n = eqb-true m.commit n at in
         let first : (if same_key key m.key then until_below copies m.key m.commit else 0) ≡ until_below copies key n = ap (λ (b : Bool). if b then until_below copies m.key m.commit else 0) own ∙ ap₂ (until_below copies) (sym k) c in
         omega (arith, more, first)
     by true false own at more further =
-        let low = further (sym (ap₂ (λ (a b : Bool). (a && b) || list_any (is_mark key n) ms) own at) ∙ there) in
+        let low = further (sym (ap₂ (λ (a b : Bool). (a && b) || list_any (is_invalidation key n) ms) own at) ∙ there) in
         omega (arith, more, low)
     by false b own at more further =
-        let low = further (sym (ap (λ (a : Bool). (a && (m.commit == n)) || list_any (is_mark key n) ms) own) ∙ there) in
+        let low = further (sym (ap (λ (a : Bool). (a && (m.commit == n)) || list_any (is_invalidation key n) ms) own) ∙ there) in
         omega (arith, more, low)
 
--- each mark is there
+-- each invalidation is there
 any-own : {X : Type 0} (p : X → Bool) (xs : List X) (k : ℕ) (d : X) → k < length xs → p (slice_index_or xs k d) ≡ true → list_any p xs ≡ true
 any-own p [] k d low hit = absurd (omega (arith, low))
-any-own p (x ∷ xs) zero d low hit = ap (λ (b : Bool). b || list_any p xs) hit
-any-own p (x ∷ xs) (suc k) d low hit = ap (λ (b : Bool). p x || b) (any-own p xs k d (omega (arith, low)) hit) ∙ either (p x)
-  where
-    either : (b : Bool) → (b || true) ≡ true
-    either true = refl
-    either false = refl
+any-own p (x ∷ xs) zero d low hit = or_left (p x) (list_any p xs) hit
+any-own p (x ∷ xs) (suc k) d low hit = or_right (p x) (list_any p xs) (any-own p xs k d (omega (arith, low)) hit)
 
 both-parts : (a b c : Bool) → ((a && b) && c) ≡ true → (a ≡ true) × (b ≡ true) × (c ≡ true)
 both-parts true true true h = (refl, refl, refl)
@@ -228,12 +207,12 @@ both-parts true true false h = absurd (let e = h in cc)
 both-parts true false c h = absurd (let e = h in cc)
 both-parts false b c h = absurd (let e = h in cc)
 
--- the marks of the commits up to one raise a key as far as these outdate its copies
-pub marks-raise : (copies before : List Copy) (s : State) (front to : ℕ) (marks : List Mark) (key : KeyShape) → HasCopies copies s → front ≤ to → AreMarksOf s.journal before front to marks → (is_active copies key ≡ true → is_active before key ≡ true) →
-    until_of_outdated (record s { front = to }) key ≡ max (until_of_outdated (record s { front = front }) key) (marked_until copies marks key)
-marks-raise copies before s front to marks key same forward are was =
-    let upper = raised-most raised own changed step front (marked_until copies marks key) to forward (λ n above within hit. reached (cases_Bool (is_active copies key)) n above within hit) in
-    let lower = best-le (λ (m : Mark). until_below copies m.key m.commit) (λ (m : Mark). same_key key m.key) (raised to) marks (λ k d low hit. covered (cases_Bool (is_active copies key)) k d low hit) in
+-- the invalidations by the commits up to one raise a key as far as these outdate its copies
+pub invalidations-raise : (copies before : List Copy) (s : State) (front to : ℕ) (invalidations : List Invalidation) (key : KeyShape) → HasCopies copies s → front ≤ to → AreInvalidationsOf s.journal before front to invalidations → (is_active copies key ≡ true → is_active before key ≡ true) →
+    until_of_outdated (record s { front = to }) key ≡ max (until_of_outdated (record s { front = front }) key) (invalidated_until copies invalidations key)
+invalidations-raise copies before s front to invalidations key same forward are was =
+    let upper = raised-most raised own changed step front (invalidated_until copies invalidations key) to forward (λ n above within hit. reached (cases_Bool (is_active copies key)) n above within hit) in
+    let lower = best-le (λ (m : Invalidation). until_below copies m.key m.commit) (λ (m : Invalidation). same_key key m.key) (raised to) invalidations (λ k d low hit. covered (cases_Bool (is_active copies key)) k d low hit) in
     let stays = raised-stays raised own changed step front to forward in
     omega (arith, upper, lower, stays)
   where
@@ -252,11 +231,11 @@ marks-raise copies before s front to marks key same forward are was =
     gone : is_active copies key ≡ false → (n : ℕ) → until_below copies key n ≡ 0
     gone idle n = ap (λ (o : Option ℕ). unwrap_or o 0) (inactive-none copies key (is_between 0 n) idle)
 
-    reached : (is_active copies key ≡ true) ⊎ (is_active copies key ≡ false) → (n : ℕ) → front < n → n ≤ to → changed n ≡ true → own n ≤ marked_until copies marks key
+    reached : (is_active copies key ≡ true) ⊎ (is_active copies key ≡ false) → (n : ℕ) → front < n → n ≤ to → changed n ≡ true → own n ≤ invalidated_until copies invalidations key
     reached (inl active) n above within hit =
-        let there : list_any (is_mark key n) marks ≡ true =
+        let there : list_any (is_invalidation key n) invalidations ≡ true =
         are key n (was active) ∙ ap₂ (λ (b c : Bool). (b && c) && is_changed key s.journal n) (lt-ltb front n above) (le-leb n to within) ∙ hit in
-        let most = any-most copies key n marks there in
+        let most = any-most copies key n invalidations there in
         let is = below-until copies s key n same in
         omega (arith, most, is)
     reached (inr idle) n above within hit =
@@ -264,12 +243,12 @@ marks-raise copies before s front to marks key same forward are was =
         let is = below-until copies s key n same in
         omega (arith, none, is)
 
-    covered : (is_active copies key ≡ true) ⊎ (is_active copies key ≡ false) → (k : ℕ) (d : Mark) → k < length marks → same_key key (slice_index_or marks k d).key ≡ true → until_below copies (slice_index_or marks k d).key (slice_index_or marks k d).commit ≤ raised to
+    covered : (is_active copies key ≡ true) ⊎ (is_active copies key ≡ false) → (k : ℕ) (d : Invalidation) → k < length invalidations → same_key key (slice_index_or invalidations k d).key ≡ true → until_below copies (slice_index_or invalidations k d).key (slice_index_or invalidations k d).commit ≤ raised to
     covered (inl active) k d low hit =
-        let m = slice_index_or marks k d in
+        let m = slice_index_or invalidations k d in
         let k_is : key ≡ m.key = (same_key-Decides key m.key).0 hit in
-        let mark : is_mark key m.commit m ≡ true = ap₂ (λ (a b : Bool). a && b) hit (eq-eqb m.commit m.commit refl) in
-        let there : list_any (is_mark key m.commit) marks ≡ true = any-own (is_mark key m.commit) marks k d low mark in
+        let invalidation : is_invalidation key m.commit m ≡ true = ap₂ (λ (a b : Bool). a && b) hit (eq-eqb m.commit m.commit refl) in
+        let there : list_any (is_invalidation key m.commit) invalidations ≡ true = any-own (is_invalidation key m.commit) invalidations k d low invalidation in
         let parts = both-parts (nat_lt front m.commit) (nat_le m.commit to) (is_changed key s.journal m.commit) (sym (are key m.commit (was active)) ∙ there) in
         let above = ltb-true front m.commit parts.0 in
         let least = raised-least raised own changed step to m.commit (omega (arith, above)) (leb-true m.commit to parts.1) parts.2 in
@@ -277,29 +256,29 @@ marks-raise copies before s front to marks key same forward are was =
         let value : until_below copies m.key m.commit ≡ until_below copies key m.commit = ap (λ (x : KeyShape). until_below copies x m.commit) (sym k_is) in
         omega (arith, least, is, value)
     covered (inr idle) k d low hit =
-        let m = slice_index_or marks k d in
+        let m = slice_index_or invalidations k d in
         let k_is : key ≡ m.key = (same_key-Decides key m.key).0 hit in
         let none = gone idle m.commit in
         let value : until_below copies m.key m.commit ≡ until_below copies key m.commit = ap (λ (x : KeyShape). until_below copies x m.commit) (sym k_is) in
         omega (arith, none, value)
 
--- one mark more
-pub marked-more : (copies : List Copy) (marks : List Mark) (m : Mark) (key : KeyShape) → marked_until copies (marks ++ m ∷ []) key ≡ max (marked_until copies marks key) (if same_key key m.key then until_below copies m.key m.commit else 0)
-marked-more copies marks m key =
-    let u : Mark → ℕ = λ m. until_below copies m.key m.commit in
-    let p : Mark → Bool = λ m. same_key key m.key in
-    best-append u p marks (m ∷ [])
-    ∙ ap (max (best u p marks)) (best-cons u p m [] ∙ (let h : max (if p m then u m else 0) 0 ≡ (if p m then u m else 0) = omega arith in h))
+-- one invalidation more
+pub invalidated-more : (copies : List Copy) (invalidations : List Invalidation) (m : Invalidation) (key : KeyShape) → invalidated_until copies (invalidations ++ m ∷ []) key ≡ max (invalidated_until copies invalidations key) (if same_key key m.key then until_below copies m.key m.commit else 0)
+invalidated-more copies invalidations m key =
+    let u : Invalidation → ℕ = λ m. until_below copies m.key m.commit in
+    let p : Invalidation → Bool = λ m. same_key key m.key in
+    best-append u p invalidations (m ∷ [])
+    ∙ ap (max (best u p invalidations)) (best-cons u p m [] ∙ (let h : max (if p m then u m else 0) 0 ≡ (if p m then u m else 0) = omega arith in h))
 
-pub marked-take : (copies : List Copy) (marks : List Mark) (i : ℕ) (m : Mark) (key : KeyShape) (first old new : ℕ) → m ≡ get_or marks i m → i < length marks → old ≡ max first (marked_until copies (take i marks) key) →
-    new ≡ max old (if same_key key m.key then until_below copies m.key m.commit else 0) → new ≡ max first (marked_until copies (take (i + 1) marks) key)
-marked-take copies marks i m key first old new item low was is =
-    let next : take (i + 1) marks ≡ take i marks ++ m ∷ [] =
-    ap (λ n. take n marks) (let h : i + 1 ≡ suc i = omega arith in h) ∙ take-suc marks i m low ∙ ap (λ (x : Mark). take i marks ++ x ∷ []) (sym item) in
-    let more = marked-more copies (take i marks) m key in
+pub invalidated-take : (copies : List Copy) (invalidations : List Invalidation) (i : ℕ) (m : Invalidation) (key : KeyShape) (first old new : ℕ) → m ≡ get_or invalidations i m → i < length invalidations → old ≡ max first (invalidated_until copies (take i invalidations) key) →
+    new ≡ max old (if same_key key m.key then until_below copies m.key m.commit else 0) → new ≡ max first (invalidated_until copies (take (i + 1) invalidations) key)
+invalidated-take copies invalidations i m key first old new item low was is =
+    let next : take (i + 1) invalidations ≡ take i invalidations ++ m ∷ [] =
+    ap (λ n. take n invalidations) (let h : i + 1 ≡ suc i = omega arith in h) ∙ take-suc invalidations i m low ∙ ap (λ (x : Invalidation). take i invalidations ++ x ∷ []) (sym item) in
+    let more = invalidated-more copies (take i invalidations) m key in
     let last = if same_key key m.key then until_below copies m.key m.commit else 0 in
-    let there : marked_until copies (take (i + 1) marks) key ≡ max (marked_until copies (take i marks) key) last = ap (λ (ms : List Mark). marked_until copies ms key) next ∙ more in
+    let there : invalidated_until copies (take (i + 1) invalidations) key ≡ max (invalidated_until copies (take i invalidations) key) last = ap (λ (ms : List Invalidation). invalidated_until copies ms key) next ∙ more in
     is
     ∙ ap (λ n. max n last) was
-    ∙ (let h : max (max first (marked_until copies (take i marks) key)) last ≡ max first (max (marked_until copies (take i marks) key) last) = omega arith in h)
+    ∙ (let h : max (max first (invalidated_until copies (take i invalidations) key)) last ≡ max first (max (invalidated_until copies (take i invalidations) key) last) = omega arith in h)
     ∙ ap (max first) (sym there)

@@ -1,4 +1,4 @@
--- The copies and the marked keys stay those of one clock.
+-- The copies and the invalidated keys stay those of one clock.
 use Rattle.std.proofs.Common.{◌≡◌, ℕ, zero, suc, ◌<◌, ◌≤◌, Bool, true, false, not, ◌&&◌, ◌||◌, ◌⊎◌, max, nat_lt, List, [], ◌∷◌, length, map, All, IsTrue, Some, if◌then◌else◌, refl, sym, ap, ◌∙◌, subst, arith, inl, inr}
 use Rattle.std.specs.List.{list_any, IsDistinct}
 use Rattle.std.proofs.lemmas.Bool.{cases_Bool, ltb-true}
@@ -10,9 +10,9 @@ use Rattle.issued_expiries.specs.Expiries.{Issued}
 use Rattle.expiring_filter.specs.Filter.{Filter}
 use Rattle.expiring_filter.specs.Held.{Expires, put_until, is_among}
 use Rattle.hub_model.specs.Setting.{Setting}
-use Rattle.hub_core.specs.Handed.{IsSound, AreMarked, last_until, until_in}
-use Rattle.hub_core.proofs.MarkLemmas.{until-expired, once-expired, until-put, once-put, held-later, any-map}
-use Rattle.hub_core.proofs.HandedLemmas.{count-less, count-marked, count-with, backed-later, backed-more, late-later, late-more, active-later, same-with, below-last, active-last}
+use Rattle.hub_core.specs.CopiesView.{IsSound, AreInvalidated, last_until, until_in}
+use Rattle.hub_core.proofs.InvalidationLemmas.{until-expired, once-expired, until-put, once-put, held-later, any-map}
+use Rattle.hub_core.proofs.IssueLemmas.{count-less, count-invalidated, count-with, backed-later, backed-more, late-later, late-more, active-later, same-with, below-last, active-last}
 
 -- when the clock moves
 pub sound-later : (g : Setting) (issued new_issued : Issued) (filter new_filter : Filter) → IsSound g issued filter → new_filter.log2_bits ≡ filter.log2_bits → new_filter.hashes ≡ filter.hashes →
@@ -47,20 +47,20 @@ sound-more g issued new_issued filter copy sound late clocks with room =
       backed = λ key. (let before = sound.backed key in let after = backed-more copy issued.held new_issued.held key same in omega (arith, before, after));
     }
 
--- the marked keys are active
-marked-active : (g : Setting) (issued : Issued) (filter : Filter) → IsSound g issued filter → (key : KeyShape) → list_any (λ e. same_key key e.0) filter.held ≡ true → is_active issued.held key ≡ true
-marked-active g issued filter sound key there =
+-- the invalidated keys are active
+invalidated-active : (g : Setting) (issued : Issued) (filter : Filter) → IsSound g issued filter → (key : KeyShape) → list_any (λ e. same_key key e.0) filter.held ≡ true → is_active issued.held key ≡ true
+invalidated-active g issued filter sound key there =
     let later : issued.clock < until_in filter.held key = ltb-true issued.clock (until_in filter.held key) (sym (held-later issued.clock filter.held key sound.later) ∙ there) in
     let backed = sound.backed key in
     active-last issued.held key (omega (arith, later, backed))
 
--- there is room for the mark of an active key
-pub mark-few : (g : Setting) (issued : Issued) (filter : Filter) (key : KeyShape) → IsSound g issued filter → is_active issued.held key ≡ true → IsTrue (is_among filter.held key) ⊎ (length filter.held < 1000000)
-mark-few g issued filter key sound active =
+-- the number of keys allows one more invalidation of an active key
+pub invalidation-few : (g : Setting) (issued : Issued) (filter : Filter) (key : KeyShape) → IsSound g issued filter → is_active issued.held key ≡ true → IsTrue (is_among filter.held key) ⊎ (length filter.held < 1000000)
+invalidation-few g issued filter key sound active =
     elim (cases_Bool (is_among filter.held key)) [
       | inl there ↦ inl there
       | inr absent ↦ (
-          let fewer = count-marked issued.held filter.held key sound.once absent active (marked-active g issued filter sound) in
+          let fewer = count-invalidated issued.held filter.held key sound.once absent active (invalidated-active g issued filter sound) in
           let few = sound.few in
           let most = sound.limits.active_most in
           inr (omega (arith, fewer, few, most)))
@@ -80,10 +80,10 @@ later-put clock (e ∷ held) key until late later =
       | inr miss ↦ rw miss (first-later clock e (put_until held key until) (later 0 e (omega arith)) (later-put clock held key until late (λ k d low. later (suc k) d (omega (arith, low)))))
     ]
 
--- with one mark more
-pub sound-marked : (g : Setting) (issued : Issued) (filter new_filter : Filter) (key : KeyShape) (until : ℕ) → IsSound g issued filter → issued.clock < until → until ≤ last_until issued.held key →
+-- with one invalidation more
+pub sound-invalidated : (g : Setting) (issued : Issued) (filter new_filter : Filter) (key : KeyShape) (until : ℕ) → IsSound g issued filter → issued.clock < until → until ≤ last_until issued.held key →
     new_filter.log2_bits ≡ filter.log2_bits → new_filter.hashes ≡ filter.hashes → new_filter.held ≡ put_until filter.held key until → IsSound g issued new_filter
-sound-marked g issued filter new_filter key until sound late low bits hashes held = record {
+sound-invalidated g issued filter new_filter key until sound late low bits hashes held = record {
   limits = sound.limits;
   log2_bits = bits ∙ sound.log2_bits;
   hashes = hashes ∙ sound.hashes;
@@ -106,11 +106,11 @@ sound-marked g issued filter new_filter key until sound late low bits hashes hel
       ]);
 }
 
--- a key that could be marked still can be
-pub still-room : (filter new_filter : Filter) (key : KeyShape) (until : ℕ) (other : KeyShape) → new_filter.held ≡ put_until filter.held key until →
+-- a key that could be invalidated still can be
+pub still-reserved : (filter new_filter : Filter) (key : KeyShape) (until : ℕ) (other : KeyShape) → new_filter.held ≡ put_until filter.held key until →
     list_any (same_key other) new_filter.reserved ≡ (not (same_key key other) && list_any (same_key other) filter.reserved) →
     IsTrue (list_any (same_key other) filter.reserved) ⊎ IsTrue (is_among filter.held other) → IsTrue (list_any (same_key other) new_filter.reserved) ⊎ IsTrue (is_among new_filter.held other)
-still-room filter new_filter key until other held reserved was =
+still-reserved filter new_filter key until other held reserved was =
     elim (cases_Bool (same_key key other)) [
       | inl own ↦ (
           let same : key ≡ other = (same_key-Decides key other).0 own in
@@ -141,12 +141,12 @@ still-room filter new_filter key until other held reserved was =
         either true b c h k = refl
         either false b c h k = k h
 
--- the marked keys are those whose second is later than the clock, each once
-pub are-marked : (g : Setting) (issued : Issued) (filter : Filter) → IsSound g issued filter →
-    AreMarked (record { setting = g; clock = issued.clock; copies = issued.held; outdated = filter.held; idle = issued.idle; ready = issued.reserved; markable = filter.reserved })
-are-marked g issued filter sound = record {
+-- the invalidated keys are those whose second is later than the clock, each once
+pub are-invalidated : (g : Setting) (issued : Issued) (filter : Filter) → IsSound g issued filter →
+    AreInvalidated (record { setting = g; clock = issued.clock; copies = issued.held; outdated = filter.held; idle = issued.idle; ready = issued.reserved; invalidatable = filter.reserved })
+are-invalidated g issued filter sound = record {
   once = sound.once;
-  marked = λ key. any-map (λ (e : KeyShape × ℕ). e.0) (same_key key) filter.held ∙ held-later issued.clock filter.held key sound.later;
+  invalidated = λ key. any-map (λ (e : KeyShape × ℕ). e.0) (same_key key) filter.held ∙ held-later issued.clock filter.held key sound.later;
 }
 
 -- a key with a copy of an earlier commit is active
@@ -156,7 +156,7 @@ copy-active g issued filter key commit until sound is =
     let most = below-last issued.held key commit until (sym is) in
     active-last issued.held key (omega (arith, late, most))
 
--- there is room for a copy where its key is active, or one more may be
-pub room-is : (a : Bool) (count limit : ℕ) → (a || nat_lt count limit) ≡ true → (a ≡ true) ⊎ (count < limit)
-room-is true count limit some = inl refl
-room-is false count limit some = inr (ltb-true count limit some)
+-- a copy may be issued where its key is active, or one more may be
+pub may-issue : (a : Bool) (count limit : ℕ) → (a || nat_lt count limit) ≡ true → (a ≡ true) ⊎ (count < limit)
+may-issue true count limit some = inl refl
+may-issue false count limit some = inr (ltb-true count limit some)

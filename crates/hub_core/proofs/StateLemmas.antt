@@ -11,29 +11,30 @@ use Rattle.hub_model.specs.Copies.{issues, is_live, live, active_keys as active_
 use Rattle.hub_model.specs.Lifetime.{ttl_of}
 use Rattle.hub_model.specs.Record.{is_outdated_in}
 use Rattle.hub_model.specs.Setting.{Setting}
-use Rattle.hub_model.specs.State.{Reading, State, at_moment, until_of}
+use Rattle.hub_model.specs.State.{IssuedCopy, State, at_moment, until_of}
 use Rattle.hub_model.specs.Step.{has_read}
-use Rattle.hub_model.proofs.Handed.{live-read, outdated_until-read}
+use Rattle.hub_model.proofs.Issues.{live-read, outdated_until-read}
 use Rattle.hub_model.proofs.KeySets.{among-unique, distinct-unique}
 use Rattle.hub_model.proofs.Recorded.{outdated_until-longer}
 use Rattle.hub_model.proofs.Untils.{until-at_moment}
 use Rattle.commit_book.specs.declared.change.Change.{Change}
-use Rattle.hub_core.specs.Standing.{HasTime, HasCopies, HasMarks, copy_of, copies_of}
-use Rattle.hub_core.specs.Handed.{Handed, lifetime, while_later, until_in}
-use Rattle.hub_core.proofs.CopyLemmas.{same-unexpired, same-more, same-active}
-use Rattle.hub_core.proofs.MarkLemmas.{any-map}
+use Rattle.hub_core.specs.HubState.{HasTime, HasCopies, HasInvalidations, copy_of, copies_of}
+use Rattle.hub_core.specs.CopiesView.{CopiesView, lifetime, while_later, until_in}
+use Rattle.issued_expiries.proofs.LawLemmas.{active_alike, same_later}
+use Rattle.hub_core.proofs.CopyLemmas.{same-more}
+use Rattle.hub_core.proofs.InvalidationLemmas.{any-map}
 
 -- ---- the clock
 
 -- what is later than the later of two clocks is later than both
-live-again : (early late : ℕ) (rs : List Reading) → early ≤ late → filter (is_live late) rs ≡ filter (is_live late) (filter (is_live early) rs)
+live-again : (early late : ℕ) (rs : List IssuedCopy) → early ≤ late → filter (is_live late) rs ≡ filter (is_live late) (filter (is_live early) rs)
 live-again early late [] low = refl
 live-again early late (r ∷ rs) low =
     let rest = live-again early late rs low in
     elim (cases_lt late (until_of r)) [
       | inl after ↦ (
           let first = lt-ltb late (until_of r) after in
-          rw (first, lt-ltb early (until_of r) (omega (arith, low, after)), first) (ap (λ (xs : List Reading). r ∷ xs) rest))
+          rw (first, lt-ltb early (until_of r) (omega (arith, low, after)), first) (ap (λ (xs : List IssuedCopy). r ∷ xs) rest))
       | inr past ↦ (
           let first = le-ltb late (until_of r) past in
           elim (cases_lt early (until_of r)) [
@@ -42,7 +43,7 @@ live-again early late (r ∷ rs) low =
           ])
     ]
 
-copies-live : (clock : ℕ) (rs : List Reading) → map copy_of (filter (is_live clock) rs) ≡ unexpired clock (map copy_of rs)
+copies-live : (clock : ℕ) (rs : List IssuedCopy) → map copy_of (filter (is_live clock) rs) ≡ unexpired clock (map copy_of rs)
 copies-live clock [] = refl
 copies-live clock (r ∷ rs) =
     let rest = copies-live clock rs in
@@ -63,18 +64,18 @@ time-moved clock front new moment s at is = record { clock = is ∙ ap (λ (n : 
 pub copies-later : (copies new : List Copy) (clock moment : ℕ) (s : State) → HasCopies copies s → SameCopies new (unexpired clock copies) → clock ≡ max s.clock moment → HasCopies new (at_moment s moment)
 copies-later copies new clock moment s at left now = λ key test.
     left key test
-    ∙ same-unexpired clock copies (copies_of s) at key test
+    ∙ same_later copies (copies_of s) clock at key test
     ∙ ap (λ (n : ℕ). latest_where key test (unexpired n (copies_of s))) now
     ∙ sym (ap (latest_where key test) (copies-moved s moment))
 
-pub marks-later : (outdated new : List (KeyShape × ℕ)) (clock moment : ℕ) (s : State) → HasMarks outdated s → ((key : KeyShape) → until_in new key ≡ while_later clock (until_in outdated key)) → clock ≡ max s.clock moment → HasMarks new (at_moment s moment)
-marks-later outdated new clock moment s at left now = λ key.
+pub invalidations-later : (outdated new : List (KeyShape × ℕ)) (clock moment : ℕ) (s : State) → HasInvalidations outdated s → ((key : KeyShape) → until_in new key ≡ while_later clock (until_in outdated key)) → clock ≡ max s.clock moment → HasInvalidations new (at_moment s moment)
+invalidations-later outdated new clock moment s at left now = λ key.
     left key ∙ ap₂ while_later now (at key) ∙ sym (until-at_moment s moment key (is_outdated_in s))
 
 -- ---- a commit
 
-pub marks-written : (outdated : List (KeyShape × ℕ)) (change : Change) (s : State) → HasMarks outdated s → s.front ≤ length s.journal → HasMarks outdated (record s { journal = s.journal ++ change ∷ [] })
-marks-written outdated change s at within = λ key. at key ∙ sym (outdated_until-longer s (change ∷ []) key within)
+pub invalidations-written : (outdated : List (KeyShape × ℕ)) (change : Change) (s : State) → HasInvalidations outdated s → s.front ≤ length s.journal → HasInvalidations outdated (record s { journal = s.journal ++ change ∷ [] })
+invalidations-written outdated change s at within = λ key. at key ∙ sym (outdated_until-longer s (change ∷ []) key within)
 
 -- ---- a read
 
@@ -82,7 +83,7 @@ pub copies-read : (g : Setting) (copies new : List Copy) (key : KeyShape) (at tt
     HasCopies new (has_read g key at s)
 copies-read g copies new key at ttl clock s is now life more =
     let n = ttl_of g s key at in
-    let r : Reading = record { key = key; at = at; clock = s.clock; ttl = n } in
+    let r : IssuedCopy = record { key = key; at = at; clock = s.clock; ttl = n } in
     let same : SameCopies new (if nat_lt 0 n then (key, at, s.clock + n) ∷ copies else copies) =
     subst (λ (c : ℕ). SameCopies new (if nat_lt 0 n then (key, at, c + n) ∷ copies else copies)) now
     (subst (λ (m : ℕ). SameCopies new (if nat_lt 0 m then (key, at, clock + m) ∷ copies else copies)) life more) in
@@ -101,21 +102,21 @@ copies-read g copies new key at ttl clock s is now life more =
           ∙ sym (ap (latest_where k test) (all ∙ ap (λ (b : Bool). copies_of s ++ map copy_of (if b then r ∷ [] else [])) none ∙ append-nil (copies_of s))))
     ]
 
-pub marks-read : (g : Setting) (outdated : List (KeyShape × ℕ)) (key : KeyShape) (at : ℕ) (s : State) → HasMarks outdated s → s.front ≤ at → HasMarks outdated (has_read g key at s)
-marks-read g outdated key at s is low = λ other. is other ∙ sym (outdated_until-read g s key at other low)
+pub invalidations-read : (g : Setting) (outdated : List (KeyShape × ℕ)) (key : KeyShape) (at : ℕ) (s : State) → HasInvalidations outdated s → s.front ≤ at → HasInvalidations outdated (has_read g key at s)
+invalidations-read g outdated key at s is low = λ other. is other ∙ sym (outdated_until-read g s key at other low)
 
 -- ---- the lifetime of a read
 
 active-copies : (copies : List Copy) (s : State) → HasCopies copies s → (key : KeyShape) → is_active copies key ≡ is_active_in s key
-active-copies copies s is key = same-active copies (copies_of s) is key ∙ any-map copy_of (λ (c : Copy). same_key key c.0) (live s)
+active-copies copies s is key = active_alike copies (copies_of s) key is ∙ any-map copy_of (λ (c : Copy). same_key key c.0) (live s)
 
-pub lifetime-at : (h : Handed) (s : State) (key : KeyShape) (g : Setting) (at : ℕ) → HasCopies h.copies s → h.setting ≡ g → lifetime h key ≡ ttl_of g s key at
+pub lifetime-at : (h : CopiesView) (s : State) (key : KeyShape) (g : Setting) (at : ℕ) → HasCopies h.copies s → h.setting ≡ g → lifetime h key ≡ ttl_of g s key at
 lifetime-at h s key g at is setting =
     let number : length (active_of s) ≡ active_keys h.copies =
-    length-from_keys same_key_equiv (active_of s) (map (λ (c : Copy). c.0) h.copies) (distinct-unique (map (λ (r : Reading). r.key) (live s)))
+    length-from_keys same_key_equiv (active_of s) (map (λ (c : Copy). c.0) h.copies) (distinct-unique (map (λ (r : IssuedCopy). r.key) (live s)))
     (λ k.
-    among-unique (map (λ (r : Reading). r.key) (live s)) k
-    ∙ any-map (λ (r : Reading). r.key) (same_key k) (live s)
+    among-unique (map (λ (r : IssuedCopy). r.key) (live s)) k
+    ∙ any-map (λ (r : IssuedCopy). r.key) (same_key k) (live s)
     ∙ sym (active-copies h.copies s is k)
     ∙ sym (any-map (λ (c : Copy). c.0) (same_key k) h.copies)) in
     turned (is_active h.copies key) (active_keys h.copies) h.setting.active h.setting.ttl_high

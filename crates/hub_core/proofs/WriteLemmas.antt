@@ -13,12 +13,12 @@ use Rattle.hub_model.specs.Step.{found_of, found_now, is_accepted, is_met, wrote
 
 -- ---- what the book answers
 
--- an answer that is not want of memory is the defined one
+-- an answer other than Memory is the defined one
 answered : (book : Contents) (change : Change) (result : Result ℕ BookRefusal) → (result ≡ Err Memory) ⊎ (result ≡ added book change) → (result ≡ Err Memory → ⊥) → result ≡ added book change
 answered book change result (inl wrong) other = absurd (other wrong)
 answered book change result (inr is) other = is
 
--- it is a commit where there is room
+-- it is a commit where it fits the capacity
 pub added-ok : (book : Contents) (change : Change) (commit : ℕ) → (Ok commit ≡ Err Memory) ⊎ (Ok commit ≡ added book change) → (nat_le (kept_with book.journal change) book.capacity ≡ true) × (commit ≡ length book.journal + 1)
 added-ok book change commit told = by (nat_le (kept_with book.journal change) book.capacity) refl
   where
@@ -46,9 +46,9 @@ added-full book change bytes result full told = by (nat_le (kept_with book.journ
         cc
     by false h = h
 
--- there was room where memory was wanting
+-- the change fitted where the answer was Memory
 pub added-memory : (book : Contents) (change : Change) (result : Result ℕ BookRefusal) → result ≡ Err Memory → (IsErr (added book change) → result ≡ added book change) → nat_le (kept_with book.journal change) book.capacity ≡ true
-added-memory book change result wanting full = by (nat_le (kept_with book.journal change) book.capacity) refl
+added-memory book change result none full = by (nat_le (kept_with book.journal change) book.capacity) refl
   where
     refused : Full (kept_with book.journal change) ≡ Memory → ⊥
     refused e = cc
@@ -70,15 +70,15 @@ found-now journal s change found same is = is ∙ ap (λ (xs : List Change). fou
 met-now : (journal : List Change) (s : State) (change : Change) (condition : Condition) (found : Found) (commits : ℕ) (b : Bool) → journal ≡ s.journal → found ≡ found_now s change → commits ≡ length journal → is_met condition found commits ≡ b → is_met condition (found_now s change) (length s.journal) ≡ b
 met-now journal s change condition found commits b same found_is count met = ap₂ (is_met condition) (sym found_is) (sym (count ∙ ap length same)) ∙ met
 
--- with the change there is room in the state where there is in the book
-room-now : (g : Setting) (journal : List Change) (s : State) (change : Change) (capacity : ℕ) (b : Bool) → journal ≡ s.journal → capacity ≡ g.capacity → nat_le (kept_with journal change) capacity ≡ b → nat_le (kept_with s.journal change) g.capacity ≡ b
-room-now g journal s change capacity b same limit room = ap₂ (λ (xs : List Change) (n : ℕ). nat_le (kept_with xs change) n) (sym same) (sym limit) ∙ room
+-- the change fits in the state where it fits in the book
+fits-now : (g : Setting) (journal : List Change) (s : State) (change : Change) (capacity : ℕ) (b : Bool) → journal ≡ s.journal → capacity ≡ g.capacity → nat_le (kept_with journal change) capacity ≡ b → nat_le (kept_with s.journal change) g.capacity ≡ b
+fits-now g journal s change capacity b same limit fits = ap₂ (λ (xs : List Change) (n : ℕ). nat_le (kept_with xs change) n) (sym same) (sym limit) ∙ fits
 
 -- so the state accepts it
 pub accepted-now : (g : Setting) (journal : List Change) (s : State) (change : Change) (condition : Condition) (found : Found) (commits capacity : ℕ) → journal ≡ s.journal → found ≡ found_of (document_at journal (length journal) change.collection change.id) → commits ≡ length journal →
     is_met condition found commits ≡ true → capacity ≡ g.capacity → nat_le (kept_with journal change) capacity ≡ true → is_accepted g s change condition ≡ true
-accepted-now g journal s change condition found commits capacity same is count met limit room =
-    ap₂ (λ (a b : Bool). a && b) (met-now journal s change condition found commits true same (found-now journal s change found same is) count met) (room-now g journal s change capacity true same limit room)
+accepted-now g journal s change condition found commits capacity same is count met limit fits =
+    ap₂ (λ (a b : Bool). a && b) (met-now journal s change condition found commits true same (found-now journal s change found same is) count met) (fits-now g journal s change capacity true same limit fits)
 
 -- the state behind a write, by whether it is accepted
 left : Change → State → Bool → State
@@ -94,13 +94,13 @@ leaves-unmet g journal s change condition found commits same is count unmet =
 pub leaves-full : (g : Setting) (journal : List Change) (s : State) (change : Change) (condition : Condition) (found : Found) (commits capacity : ℕ) → journal ≡ s.journal → found ≡ found_of (document_at journal (length journal) change.collection change.id) → commits ≡ length journal →
     is_met condition found commits ≡ true → capacity ≡ g.capacity → nat_le (kept_with journal change) capacity ≡ false → s ≡ wrote g change condition s
 unfolding left
-leaves-full g journal s change condition found commits capacity same is count met limit room =
+leaves-full g journal s change condition found commits capacity same is count met limit fits =
     let found_is = found-now journal s change found same is in
-    sym (ap₂ (λ (a b : Bool). left change s (a && b)) (met-now journal s change condition found commits true same found_is count met) (room-now g journal s change capacity false same limit room))
+    sym (ap₂ (λ (a b : Bool). left change s (a && b)) (met-now journal s change condition found commits true same found_is count met) (fits-now g journal s change capacity false same limit fits))
 
 pub leaves-done : (g : Setting) (journal : List Change) (s : State) (change : Change) (condition : Condition) (found : Found) (commits capacity : ℕ) → journal ≡ s.journal → found ≡ found_of (document_at journal (length journal) change.collection change.id) → commits ≡ length journal →
     is_met condition found commits ≡ true → capacity ≡ g.capacity → nat_le (kept_with journal change) capacity ≡ true → record s { journal = s.journal ++ change ∷ [] } ≡ wrote g change condition s
 unfolding left
-leaves-done g journal s change condition found commits capacity same is count met limit room =
+leaves-done g journal s change condition found commits capacity same is count met limit fits =
     let found_is = found-now journal s change found same is in
-    sym (ap₂ (λ (a b : Bool). left change s (a && b)) (met-now journal s change condition found commits true same found_is count met) (room-now g journal s change capacity true same limit room))
+    sym (ap₂ (λ (a b : Bool). left change s (a && b)) (met-now journal s change condition found commits true same found_is count met) (fits-now g journal s change capacity true same limit fits))

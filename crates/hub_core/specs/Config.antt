@@ -1,4 +1,4 @@
--- Which numbers are a configuration.
+-- Internal. Which numbers are a configuration.
 use Rattle.std.specs.Prelude.{ℕ, Bool, ◌||◌, nat_lt, if◌then◌else◌, Result, Ok, Err}
 use Rattle.hub_model.specs.Setting.{Setting}
 use Rattle.query_normal.specs.Pages.{least_log2_bits, most_log2_bits, fewest_hashes, most_hashes}
@@ -13,7 +13,7 @@ least_ttl = 1
 abbrev pub most_ttl : ℕ
 most_ttl = 31536000
 
--- so many keys may be active at most
+-- the greatest number of keys that may be active
 abbrev pub most_active : ℕ
 most_active = 1000000
 
@@ -26,16 +26,16 @@ abbrev pub most_capacity : ℕ
 most_capacity = 134217728
 
 -- the number is below the one or above the other
-abbrev pub is_outside : ℕ → ℕ → ℕ → Bool
-is_outside low high n = nat_lt n low || nat_lt high n
+abbrev pub is_beyond : ℕ → ℕ → ℕ → Bool
+is_beyond low high n = nat_lt n low || nat_lt high n
 
--- the configuration of these numbers, or the first that is outside its limits
+-- the configuration of these numbers, or the first that is not within its limits
 abbrev pub configured : Setting → Result Setting ConfigRefusal
 configured g =
-    if is_outside least_log2_bits most_log2_bits g.log2_bits then Err (BadBits g.log2_bits)
-    else (if is_outside fewest_hashes most_hashes g.hashes then Err (BadHashes g.hashes)
+    if is_beyond least_log2_bits most_log2_bits g.log2_bits then Err (BadBits g.log2_bits)
+    else (if is_beyond fewest_hashes most_hashes g.hashes then Err (BadHashes g.hashes)
     else (if nat_lt g.ttl_low least_ttl || nat_lt g.ttl_high g.ttl_low || nat_lt most_ttl g.ttl_high
     then Err (BadTtl g.ttl_low g.ttl_high)
     else (if nat_lt most_active g.active then Err (BadActive g.active)
-    else (if is_outside least_capacity most_capacity g.capacity then Err (BadCapacity g.capacity)
+    else (if is_beyond least_capacity most_capacity g.capacity then Err (BadCapacity g.capacity)
     else Ok g))))

@@ -1,4 +1,4 @@
--- The words of each refusal.
+-- Internal. The words of each refusal.
 use Rattle.std.specs.Prelude.{ℕ, List, ◌++◌, codes, decimal}
 use Rattle.hub_core.specs.declared.config.ConfigRefusal.{ConfigRefusal}
 use Rattle.hub_core.specs.declared.config.ConfigRefusal.TheVariants.{BadBits, BadHashes, BadTtl, BadActive, BadCapacity}

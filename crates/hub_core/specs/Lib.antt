@@ -1,9 +1,9 @@
 pub mod Config
 pub mod ConfigRefusal
-pub mod Handed
-pub mod Marks
-pub mod Room
-pub mod Standing
+pub mod CopiesView
+pub mod HubState
+pub mod Invalidations
+pub mod PageRoom
 pub use Rattle.flat_snapshot.specs.PageText
 pub use Rattle.hub_model.specs.Legal
 pub use Rattle.hub_model.specs.Record

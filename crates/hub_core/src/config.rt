@@ -13,10 +13,10 @@ const LEAST_LOG2_BITS: u8 = 10;
 /// And at most this.
 const MOST_LOG2_BITS: u8 = 22;
 
-/// A key has at least so many positions.
+/// The least number of positions of a key.
 const FEWEST_HASHES: u8 = 1;
 
-/// And at most so many.
+/// The greatest number of positions of a key.
 const MOST_HASHES: u8 = 16;
 
 /// The least lifetime, in seconds.
@@ -25,7 +25,7 @@ const LEAST_TTL: u32 = 1;
 /// The greatest lifetime, in seconds: a year.
 const MOST_TTL: u32 = 31_536_000;
 
-/// At most so many keys are active at once.
+/// The greatest number of keys that may be active at once.
 const MOST_ACTIVE: u32 = 1_000_000;
 
 /// The least capacity, in bytes, which every document fits.

@@ -1,11 +1,11 @@
-//! The copies that reads handed out, and the keys of those that are outdated.
-ghost use Rattle.std.specs.Prelude.{◌≡◌, ◌+◌, ◌*◌, ◌^◌, ◌<◌, max, ◌∷◌, [], if◌then◌else◌, nat_lt, length, IsTrue, IfOk, OnOk, OnErr};
-ghost use Rattle.issued_expiries.specs.Copies.{SameCopies, unexpired};
+//! The issued copies, and the keys of those that are outdated.
+ghost use Rattle.std.specs.Prelude.{◌≡◌, ◌+◌, ◌*◌, ◌^◌, ◌<◌, max, ◌∷◌, [], if◌then◌else◌, nat_lt, length, IsTrue, false, IfSome, IfNone, IfOk, OnOk, OnErr};
+ghost use Rattle.issued_expiries.specs.Copies.{SameCopies, is_active, unexpired};
 ghost use Rattle.query_normal.specs.Bits.{flat_bits};
 ghost use Rattle.query_normal.specs.Keys.{same_key};
 ghost use Rattle.query_normal.specs.declared.key.KeyShape.{KeyShape as AKey};
 ghost use Rattle.hub_model.specs.Record.{bits_of};
-ghost use Rattle.hub_core.specs.Handed.{none_handed, has_room, while_later, until_in, until_below, is_marked, marked_keys, AreMarked, IsReadyFor, IsMarkable, CanMark};
+ghost use Rattle.hub_core.specs.CopiesView.{no_copies, may_issue, while_later, until_in, until_below, is_invalidated, invalidated_keys, AreInvalidated, IsReadyFor, IsInvalidationReserved, CanInvalidate};
 
 use crate::config::Config;
 use expiring_filter::CountingFilter;
@@ -24,9 +24,9 @@ pub struct Copies {
 }
 
 impl Model for Copies {
-    ghost use Rattle.hub_core.specs.Handed.{Handed, IsSound};
+    ghost use Rattle.hub_core.specs.CopiesView.{CopiesView, IsSound};
 
-    ghost Value = { Handed };
+    ghost Value = { CopiesView };
 
     ghost view = { λ c. record {
       setting = c.config;
@@ -35,7 +35,7 @@ impl Model for Copies {
       outdated = c.outdated.held;
       idle = c.issued.idle;
       ready = c.issued.reserved;
-      markable = c.outdated.reserved;
+      invalidatable = c.outdated.reserved;
     } };
 
     ghost invariant = { λ c. IsSound c.config c.issued c.outdated };
@@ -44,7 +44,7 @@ impl Model for Copies {
 impl Copies {
     /// No copy.
     pub fn new(alloc: Global, config: Config) -> Result<Copies, Memory>
-        ensures { IfOk result (λ c. c ≡ none_handed config) }
+        ensures { IfOk result (λ c. c ≡ no_copies config) }
     {
         let issued = Expiries::new(alloc)?;
         let outdated = CountingFilter::new(alloc, config.log2_bits(), config.hashes())?;
@@ -82,14 +82,17 @@ impl Copies {
         self.outdated.advance(clock);
     }
 
-    /// Lets the idle keys go.
-    pub fn forget_idle(&mut self)
-        ensures { self.new ≡ record self.old { idle = [] } }
+    /// Gives an idle key, which is not idle any more.
+    pub fn next_idle(&mut self) -> Option<Key>
+        ensures inactive { IfSome result (λ key. is_active self.old.copies key ≡ false) }
+        ensures fewer { IfSome result (λ _. length self.new.idle + 1 ≡ length self.old.idle) }
+        ensures none { IfNone result (self.new.idle ≡ []) }
+        ensures rest { self.new ≡ record self.old { idle = self.new.idle } }
     {
-        self.issued.forget_idle();
+        self.issued.next_idle()
     }
 
-    /// Makes room for a copy of a key.
+    /// Reserves memory for a copy of a key.
     pub fn reserve(&mut self, key: &Key) -> Result<(), Memory>
         requires { self.old.ready ≡ [] }
         ensures ok { OnOk result (IsReadyFor self.new key.now) }
@@ -99,18 +102,18 @@ impl Copies {
         self.issued.reserve(key)
     }
 
-    /// Whether a copy of a key may be handed out: the key is active, or one key more may be.
-    pub fn has_room(&self, key: &Key) -> bool
-        ensures { result ≡ has_room self.now key.now }
+    /// Whether a copy of a key may be issued: the key is active, or one key more may be.
+    pub fn may_issue(&self, key: &Key) -> bool
+        ensures { result ≡ may_issue self.now key.now }
     {
         self.issued.active_count() < self.config.active() || self.issued.active(key)
     }
 
-    /// Hands out a copy of a key for a lifetime, and none where that is 0. The key is not ready any
+    /// Issues a copy of a key for a lifetime, and none where that is 0. The key is not ready any
     /// more.
-    pub fn hand_out(&mut self, key: &Key, commit: Commit, ttl: u32)
+    pub fn issue(&mut self, key: &Key, commit: Commit, ttl: u32)
         requires ready { IsReadyFor self.old key.now }
-        requires room { 0 < ttl → IsTrue (has_room self.old key.now) }
+        requires allowed { 0 < ttl → IsTrue (may_issue self.old key.now) }
         ensures copies { SameCopies self.new.copies (if nat_lt 0 ttl then (key.now, commit, self.old.clock + ttl) ∷ self.old.copies else self.old.copies) }
         ensures ready { self.new.ready ≡ [] }
         ensures idle { self.old.idle ≡ [] → self.new.idle ≡ [] }
@@ -124,11 +127,11 @@ impl Copies {
         self.issued.issue(key, commit, until);
     }
 
-    /// Makes room to mark a key.
-    pub fn reserve_mark(&mut self, key: &Key) -> Result<(), Memory>
-        ensures ok { OnOk result (IsMarkable self.new key.now) }
-        ensures others { (other : AKey) → IsMarkable self.old other → IsMarkable self.new other }
-        ensures rest { self.new ≡ record self.old { markable = self.new.markable } }
+    /// Reserves memory to invalidate a key.
+    pub fn reserve_invalidation(&mut self, key: &Key) -> Result<(), Memory>
+        ensures ok { OnOk result (IsInvalidationReserved self.new key.now) }
+        ensures others { (other : AKey) → IsInvalidationReserved self.old other → IsInvalidationReserved self.new other }
+        ensures rest { self.new ≡ record self.old { invalidatable = self.new.invalidatable } }
     {
         if self.issued.active(key) {
             self.outdated.reserve(key)?;
@@ -136,44 +139,44 @@ impl Copies {
         Ok(())
     }
 
-    /// Marks a key as long as its copies of commits below one may be kept.
-    pub fn mark(&mut self, key: &Key, below: Commit)
-        requires { CanMark self.old key.now }
+    /// Invalidates a key as long as its copies of commits below one may be kept.
+    pub fn invalidate(&mut self, key: &Key, below: Commit)
+        requires { CanInvalidate self.old key.now }
         ensures outdated { (other : AKey) → until_in self.new.outdated other ≡ max (until_in self.old.outdated other) (if same_key other key.now then until_below self.old.copies key.now below else 0) }
-        ensures room { (other : AKey) → CanMark self.old other → CanMark self.new other }
-        ensures rest { self.new ≡ record self.old { outdated = self.new.outdated; markable = self.new.markable } }
+        ensures still { (other : AKey) → CanInvalidate self.old other → CanInvalidate self.new other }
+        ensures rest { self.new ≡ record self.old { outdated = self.new.outdated; invalidatable = self.new.invalidatable } }
     {
         if let Some(until) = self.issued.latest(key, 0, below) {
             self.outdated.add(key, until);
         }
     }
 
-    /// Gives back the room for marks that was not used.
-    pub fn forget_marks(&mut self)
-        ensures { self.new ≡ record self.old { markable = [] } }
+    /// Gives back what was reserved for invalidations and not used.
+    pub fn forget_invalidations(&mut self)
+        ensures { self.new ≡ record self.old { invalidatable = [] } }
     {
         self.outdated.forget_reserved();
     }
 
-    /// Whether a key is marked.
-    pub fn is_marked(&self, key: &Key) -> bool
-        ensures { result ≡ is_marked self.now key.now }
+    /// Whether a key is invalidated.
+    pub fn is_invalidated(&self, key: &Key) -> bool
+        ensures { result ≡ is_invalidated self.now key.now }
     {
         self.outdated.holds(key)
     }
 
-    /// The number of marked keys.
-    pub fn marked(&self) -> u32
-        ensures count { result ≡ length (marked_keys self.now) }
-        ensures keys { AreMarked self.now }
+    /// The number of invalidated keys.
+    pub fn invalidated_count(&self) -> u32
+        ensures count { result ≡ length (invalidated_keys self.now) }
+        ensures keys { AreInvalidated self.now }
     {
         self.outdated.keys()
     }
 
-    /// The bits of the marked keys.
+    /// The bits of the invalidated keys.
     pub fn bits(&self) -> &[u8]
-        ensures bits { flat_bits result.now ≡ bits_of (marked_keys self.now) self.now.setting.log2_bits self.now.setting.hashes }
-        ensures keys { AreMarked self.now }
+        ensures bits { flat_bits result.now ≡ bits_of (invalidated_keys self.now) self.now.setting.log2_bits self.now.setting.hashes }
+        ensures keys { AreInvalidated self.now }
         ensures len { 8 * length result.now ≡ 2 ^ self.now.setting.log2_bits }
     {
         self.outdated.bits()

@@ -8,14 +8,14 @@ ghost use Rattle.hub_model.specs.Reply.{outcome_of, wrote, read, matched, fetche
 ghost use Rattle.hub_model.specs.State.{State, start};
 ghost use Rattle.hub_model.specs.Step.{found_of, is_accepted, after, after_all};
 ghost use Rattle.hub_model.specs.Helps.{helps_of};
-ghost use Rattle.hub_core.specs.Room.{IsRoomFor};
-ghost use Rattle.hub_core.specs.Handed.{lifetime, Passes};
-ghost use Rattle.hub_core.specs.Standing.{IsAt, IsLean};
+ghost use Rattle.hub_core.specs.PageRoom.{IsRoomFor};
+ghost use Rattle.hub_core.specs.CopiesView.{lifetime, Passes};
+ghost use Rattle.hub_core.specs.HubState.{IsAt, IsLean};
 
 use crate::config::Config;
 use crate::copies::Copies;
-use crate::marks::{mark_all, reserve_marks};
-use crate::room::{Numbers, PageRoom};
+use crate::invalidations::{invalidate_all, reserve_invalidations};
+use crate::page_room::{Numbers, PageRoom};
 use commit_book::{Book, BookRefusal};
 use hub_model::{Answer, Change, Condition, Found, Matched, Outcome, Stats, Tags, Written};
 use q_base::{Commit, Memory, Moment};
@@ -23,7 +23,7 @@ use query_normal::{Key, KeyShape};
 use std::alloc::Global;
 use std::marker::Model;
 
-/// A store of documents, which knows of each copy of a result that it handed out whether it is
+/// A store of documents, which knows of each copy of a result that it issued whether it is
 /// outdated. Each call that makes an entry of the history says so.
 #[derive(Drop)]
 pub struct Hub {
@@ -37,7 +37,7 @@ impl Model for Hub {
     ghost use Rattle.std.specs.Prelude.{◌≡◌, ◌≤◌, length};
     ghost use Rattle.std.specs.Coded.{codes};
     ghost use Rattle.q_doc.specs.Code.{tree_code};
-    ghost use Rattle.hub_core.specs.Standing.{HubView, IsLean, hub_of};
+    ghost use Rattle.hub_core.specs.HubState.{HubView, IsLean, hub_of};
 
     ghost Value = { HubView };
 
@@ -53,7 +53,7 @@ impl Model for Hub {
 }
 
 impl Hub {
-    /// A hub that stands for no entry.
+    /// A hub that represents the empty history.
     pub fn new(alloc: Global, config: Config) -> Result<Hub, Memory>
         ensures setting { IfOk result (λ hub. hub.setting ≡ config) }
         ensures begins { IfOk result (λ hub. IsAt hub start) }
@@ -130,7 +130,7 @@ impl Hub {
         self.copies.reserve(key)?;
         pass(&mut self.copies, moment);
         let ttl = lifetime(&self.copies, key);
-        self.copies.hand_out(key, commit, ttl);
+        self.copies.issue(key, commit, ttl);
         Ok(Answer {
             commit,
             clock: self.copies.clock(),
@@ -139,7 +139,7 @@ impl Hub {
         })
     }
 
-    /// Matches the commits up to one against the copies that were handed out, as one entry. It looks
+    /// Matches the commits up to one against the issued copies, as one entry. It looks
     /// at no key but those whose results these commits changed.
     pub fn match_to(&mut self, moment: Moment, to: Commit) -> Result<Matched, Memory>
         requires above { self.old.front < to }
@@ -154,11 +154,11 @@ impl Hub {
         ensures memory { OnErr result (self.new ≡ self.old) }
         ensures lean { IsLean self.new }
     {
-        match reserve_marks(self.alloc, &self.book, &mut self.copies, self.front, to) {
-            Ok(marks) => {
+        match reserve_invalidations(self.alloc, &self.book, &mut self.copies, self.front, to) {
+            Ok(invalidations) => {
                 pass(&mut self.copies, moment);
-                mark_all(&mut self.copies, &marks);
-                self.copies.forget_marks();
+                invalidate_all(&mut self.copies, &invalidations);
+                self.copies.forget_invalidations();
                 self.front = to;
                 Ok(Matched {
                     front: to,
@@ -166,13 +166,13 @@ impl Hub {
                 })
             }
             Err(Memory) => {
-                self.copies.forget_marks();
+                self.copies.forget_invalidations();
                 Err(Memory)
             }
         }
     }
 
-    /// Writes the page into the room, as one entry. It takes no memory.
+    /// Writes the page into the buffer, as one entry. It takes no memory.
     pub fn fetch(&mut self, moment: Moment, room: &mut PageRoom)
         requires { IsRoomFor self.old.setting room.old }
         ensures told { (s : State) → IsAt self.old s → option_map fetched room.new.page ≡ Some (reply_in self.old.setting s (Fetch moment)) }
@@ -228,14 +228,14 @@ impl Hub {
     pub fn holds(&self, key: &Key) -> bool
         ensures { (s : State) → IsAt self.now s → result ≡ is_recorded s key.now }
     {
-        self.copies.is_marked(key)
+        self.copies.is_invalidated(key)
     }
 
     /// The number of keys in the record.
     pub fn record_count(&self) -> u32
         ensures { (s : State) → IsAt self.now s → result ≡ length (record_of s) }
     {
-        self.copies.marked()
+        self.copies.invalidated_count()
     }
 }
 
@@ -244,7 +244,14 @@ fn pass(copies: &mut Copies, moment: Moment)
     ensures { Passes moment copies.old copies.new }
 {
     copies.advance(moment);
-    copies.forget_idle();
+    take_idle(copies);
+}
+
+/// Takes each idle key. Whatever a hub keeps of a key besides its copies ends here.
+fn take_idle(copies: &mut Copies)
+    ensures { copies.new ≡ record copies.old { idle = [] } }
+{
+    while copies.next_idle().is_some() {}
 }
 
 /// For how many seconds a copy of a key may be kept: not at all where a further key would be active
@@ -252,7 +259,7 @@ fn pass(copies: &mut Copies, moment: Moment)
 fn lifetime(copies: &Copies, key: &Key) -> u32
     ensures { result ≡ lifetime copies.now key.now }
 {
-    if copies.has_room(key) {
+    if copies.may_issue(key) {
         copies.config().ttl_high()
     } else {
         0
@@ -269,7 +276,7 @@ fn found(book: &Book, change: &Change) -> Found
     }
 }
 
-/// What a read tells of a key at a commit: the text that the book keeps, which is shared.
+/// The outcome of a read of a key at a commit: the text that the book keeps, which is shared.
 fn outcome_at(book: &Book, commit: Commit, key: &Key) -> Result<Outcome, Memory>
     requires { commit ≤ length book.now.journal }
     ensures { IfOk result (λ o. o ≡ outcome_of (result_at key.now book.now.journal commit)) }

@@ -1,17 +1,17 @@
-//! The hub: it stands for a history, and answers each entry as the definitions do.
+//! The hub: it represents a history, and answers each entry as the definitions do.
 #![tactic(auto)]
 
 mod config;
 mod copies;
 mod hub;
+mod invalidations;
 mod laws;
-mod marks;
-mod room;
+mod page_room;
 
 pub use config::{Config, ConfigRefusal};
 pub use hub::Hub;
-pub use laws::hubs_stand_for_histories;
-pub use room::PageRoom;
+pub use laws::hubs_represent_histories;
+pub use page_room::PageRoom;
 
 #[cfg(test)]
 mod tests;

@@ -1,6 +1,6 @@
--- What the calls of a desk do that match all commits or fetch a page; and what contracts see of a desk that owns its hub.
+-- Believed. What the calls of a desk do that match all commits or fetch a page; and what contracts see of a desk that owns its hub.
 use Rattle.std.specs.Prelude.{◌≡◌, ℕ, ◌++◌, nat_lt, if◌then◌else◌, List, length, Some}
-use Rattle.hub_core.specs.Room.{RoomView}
+use Rattle.hub_core.specs.PageRoom.{PageRoomView}
 use Rattle.hub_model.specs.declared.entry.Entry.{Entry}
 use Rattle.hub_model.specs.declared.entry.Entry.TheVariants.{Match, Fetch, Tick}
 use Rattle.hub_model.specs.declared.entry.Matched.{Matched}
@@ -16,13 +16,13 @@ use Rattle.query_normal.specs.Pages.{Page}
 abbrev pub matching : State → ℕ → Entry
 matching s moment = if nat_lt s.front (length s.journal) then Match moment (length s.journal) else Tick moment
 
--- the front and the clock that the reply to such an entry tells
+-- the front and the clock in the reply to such an entry
 abbrev pub IsFrontOf : Replied → Matched → Type 0
 IsFrontOf (matched match) told = told ≡ match
 IsFrontOf (counted stats) told = told ≡ record { front = stats.front; clock = stats.clock }
 IsFrontOf replied told = ⊥
 
--- The desk has made the entry that matches all commits at its place, and was told the front and the clock.
+-- The desk has made the entry that matches all commits, and its answer is the front and the clock of the reply.
 pub record MatchesAll (g : Setting) (old new : List Entry) (mine_old mine_new : List (ℕ × Entry)) (moment : ℕ) (told : Matched) : Type 0 where
   pub entry : Entry
   pub replied : Replied
@@ -30,8 +30,8 @@ pub record MatchesAll (g : Setting) (old new : List Entry) (mine_old mine_new : 
   pub entry_is : entry ≡ matching (state_of g (made.before ++ made.helps)) moment
   pub told_is : IsFrontOf replied told
 
--- The desk has made the entry that fetches a page, and the room holds the page that was told.
-pub record Fetches (g : Setting) (old new : List Entry) (mine_old mine_new : List (ℕ × Entry)) (moment : ℕ) (room : RoomView) : Type 0 where
+-- The desk has made the entry that fetches a page, and the buffer has the page of the reply.
+pub record Fetches (g : Setting) (old new : List Entry) (mine_old mine_new : List (ℕ × Entry)) (moment : ℕ) (room : PageRoomView) : Type 0 where
   pub page : Page
   pub held : room.page ≡ Some page
   pub made : Makes g old new mine_old mine_new (Fetch moment) (fetched page)
@@ -47,9 +47,9 @@ abbrev pub most_entries : ℕ
 most_entries = 2
 
 -- What contracts see of a desk that owns its hub.
-pub record Kept : Type 0 where
+pub record OwnedView : Type 0 where
   pub setting : Setting
   -- the history, whole
   pub entries : List Entry
-  -- so many entries can be stored without memory
-  pub room : ℕ
+  -- the number of entries that can be stored without memory
+  pub capacity : ℕ

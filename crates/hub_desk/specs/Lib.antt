@@ -1,7 +1,7 @@
 pub mod Desk
 pub use Rattle.hub_core.specs.Config
-pub use Rattle.hub_core.specs.Room
-pub use Rattle.hub_core.specs.Standing
+pub use Rattle.hub_core.specs.PageRoom
+pub use Rattle.hub_core.specs.HubState
 pub use Rattle.hub_model.specs.Legal
 pub use Rattle.hub_model.specs.Reply
 pub use Rattle.hub_model.specs.Setting

@@ -1,6 +1,6 @@
 //! The store as a connection sees it: calls that make entries of one history.
 ghost use Rattle.std.specs.Prelude.{◌≡◌, ℕ, ◌≤◌, true, List, length, IfOk, OnOk, OnErr};
-ghost use Rattle.hub_core.specs.Room.{IsRoomFor};
+ghost use Rattle.hub_core.specs.PageRoom.{IsRoomFor};
 ghost use Rattle.hub_model.specs.declared.entry.Entry.{Entry as AnEntry};
 ghost use Rattle.hub_model.specs.declared.entry.Entry.TheVariants.{Write, Read, Tick};
 ghost use Rattle.hub_model.specs.Desk.{Makes, Learns};
@@ -15,13 +15,13 @@ use q_base::{Memory, Moment};
 use query_normal::Key;
 
 /// What a connection asks of the store. A desk knows a history, which others may make longer, and
-/// its own entries with their places there. A call that answers want of memory makes no entry, and
+/// its own entries with their places there. A call that answers Memory makes no entry, and
 /// may be made again.
 pub trait Desk {
-    /// What the desk is tied to. Whatever else would tell of entries that a desk made stands here:
-    /// places of its own that `mine` leaves out, places at which it was parted from another desk,
+    /// What the desk is tied to. It holds whatever else would show entries that the desk made:
+    /// places of its own that `mine` leaves out, places at which it was split from another desk,
     /// and lists of others that were joined to its own. A desk that kept one of these elsewhere
-    /// could make an entry that is not among `mine`, and answer want of memory.
+    /// could make an entry that is not among `mine`, and answer Memory.
     type Anchor;
 
     /// What the desk is tied to, which no call changes.
@@ -39,15 +39,15 @@ pub trait Desk {
     /// The next request's entries need no memory.
     ghost is_ready: { Self → Type 0 };
 
-    /// Takes the room for the entries of one request: its own, and what stands ahead of it.
+    /// Reserves memory for the entries of one request: its own, and what comes ahead of it.
     fn ready(&mut self) -> Result<(), Memory>
         ensures ready { OnOk result (is_ready self.new) }
         ensures none { Learns (setting self.old) (seen self.old) (seen self.new) (mine self.old) (mine self.new) }
         ensures anchor { anchor self.new ≡ anchor self.old }
         ensures setting { setting self.new ≡ setting self.old };
 
-    /// Writes: one entry, behind those that have to stand ahead of it. Memory is wanting only for a
-    /// write that would be accepted: what refuses one is told without.
+    /// Writes: one entry, behind those that have to come ahead of it. It answers Memory only for a
+    /// write that would be accepted: a refusal needs no memory.
     fn write(
         &mut self,
         moment: Moment,
@@ -72,7 +72,7 @@ pub trait Desk {
         ensures anchor { anchor self.new ≡ anchor self.old }
         ensures setting { setting self.new ≡ setting self.old };
 
-    /// Matches all commits against the results that were handed out: one entry, which is a tick
+    /// Matches all commits against the issued copies: one entry, which is a tick
     /// where the front is the last commit already.
     fn match_all(&mut self, moment: Moment) -> Result<Matched, Memory>
         requires { is_ready self.old }
@@ -82,7 +82,7 @@ pub trait Desk {
         ensures anchor { anchor self.new ≡ anchor self.old }
         ensures setting { setting self.new ≡ setting self.old };
 
-    /// Writes the page of the outdated keys into the room: one entry. It takes no memory.
+    /// Writes the page of the outdated keys into the buffer: one entry. It takes no memory.
     fn fetch(&mut self, moment: Moment, room: &mut PageRoom)
         requires ready { is_ready self.old }
         requires room { IsRoomFor (setting self.old) room.old }

@@ -1,7 +1,7 @@
 //! A desk that owns its hub, and keeps the list of its entries.
 ghost use Rattle.std.specs.Prelude.{◌≡◌, ◌+◌, ◌<◌, ◌≤◌, [], ◌∷◌, length, vec_len, vec_capacity, IfOk};
 ghost use Rattle.std.specs.List.{enumerate_from};
-ghost use Rattle.hub_core.specs.Standing.{Represents};
+ghost use Rattle.hub_core.specs.HubState.{Represents};
 ghost use Rattle.hub_desk.specs.Desk.{IsNoted, most_entries};
 
 use crate::desk::Desk;
@@ -13,11 +13,11 @@ use query_normal::Key;
 use std::alloc::Global;
 use std::marker::Model;
 
-/// So many entries a call makes at most: one ahead of its own, and its own.
+/// The greatest number of entries of one call: one ahead of its own, and its own.
 const MOST_ENTRIES: usize = 2;
 
-/// A hub with the history that it stands for, all of whose entries are this desk's own. Contracts see
-/// the configuration, the history, and for how many entries there is room.
+/// A hub with the history that it represents, all of whose entries are of this desk. Contracts see
+/// the configuration, the history, and the capacity for entries.
 #[derive(Drop)]
 pub struct Owned {
     hub: Hub,
@@ -28,17 +28,17 @@ impl Model for Owned {
     ghost use Rattle.std.specs.Prelude.{vec_capacity};
     ghost use Rattle.std.specs.Coded.{codes};
     ghost use Rattle.q_doc.specs.Code.{tree_code};
-    ghost use Rattle.hub_desk.specs.Desk.{Kept};
-    ghost use Rattle.hub_core.specs.Standing.{Represents};
+    ghost use Rattle.hub_desk.specs.Desk.{OwnedView};
+    ghost use Rattle.hub_core.specs.HubState.{Represents};
 
-    ghost Value = { Kept };
+    ghost Value = { OwnedView };
 
     ghost coded = { Prim.hlevel (codes, tree_code) };
 
     ghost view = { λ o. record {
       setting = o.hub.setting;
       entries = o.entries.items;
-      room = vec_capacity o.entries;
+      capacity = vec_capacity o.entries;
     } };
 
     ghost invariant = { λ o. Represents o.hub o.entries.items };
@@ -59,16 +59,16 @@ impl Owned {
         })
     }
 
-    /// The hub, which stands for the history.
+    /// The hub, which represents the history.
     pub fn hub(&self) -> &Hub
         ensures setting { result.now.setting ≡ self.now.setting }
-        ensures stands { Represents result.now self.now.entries }
+        ensures represents { Represents result.now self.now.entries }
     {
         &self.hub
     }
 }
 
-/// Stores an entry in the room that was taken for it.
+/// Stores an entry in the memory that was reserved for it.
 fn note(entries: &mut Vec<Entry>, entry: Entry)
     requires { vec_len entries.old < vec_capacity entries.old }
     ensures { IsNoted entries.old.items entries.new.items (entry ∷ []) }
@@ -91,7 +91,7 @@ impl Desk for Owned {
 
     ghost mine = { λ o. enumerate_from 0 o.entries };
 
-    ghost is_ready = { λ o. length o.entries + most_entries ≤ o.room };
+    ghost is_ready = { λ o. length o.entries + most_entries ≤ o.capacity };
 
     fn ready(&mut self) -> Result<(), Memory> {
         self.entries.reserve(MOST_ENTRIES)?;

@@ -20,7 +20,7 @@ use Rattle.hub_model.specs.Step.{found_of, found_now, is_met, is_accepted, wrote
 use Rattle.hub_model.proofs.Changes.{version_at}
 use Rattle.hub_model.proofs.Copies.{any_from, found_by}
 
--- ---- the tests tell the facts
+-- ---- the tests decide the facts
 
 abbrev within : ℕ → ℕ → ℕ → Bool
 within version commits t = nat_le version t && nat_le t commits
@@ -120,7 +120,7 @@ journal-writes g history journal = ((λ h. journal-alone g start history journal
 
 -- ---- a listed result
 
--- what stood before a commit is there behind it, where it is not of that commit
+-- a document before a commit is there behind it, where it is not of that commit
 older : (collection id : List ℕ) (n : ℕ) (row : Option Change) (before : Option (ℕ × Tree)) (d : ℕ × Tree) → document_after collection id (suc n) row before ≡ Some d → d.0 ≤ n → before ≡ Some d
 older collection id n None before d h late = h
 older collection id n (Some change) before d h late = by (is_of collection id change) change.document h
@@ -130,7 +130,7 @@ older collection id n (Some change) before d h late = by (is_of collection id ch
     by true None e = cc
     by false document e = e
 
--- a document stands at each commit from its own on
+-- a document is there at each commit from its own on
 stands : (journal : List Change) (collection id : List ℕ) (n t : ℕ) (d : ℕ × Tree) → document_at journal n collection id ≡ Some d → d.0 ≤ t → t ≤ n → document_at journal t collection id ≡ Some d
 stands journal collection id zero t d h late within = cc
 stands journal collection id (suc n) t d h late within = elim (cases_lt t (suc n)) [

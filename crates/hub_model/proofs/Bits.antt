@@ -42,7 +42,7 @@ if_one : (b : Bool) → b ≡ true → 0 < cond b 1 0
 if_one true h = omega arith
 if_one false h = cc
 
--- what stands among the positions of a list of keys
+-- the positions of a list of keys
 counted-from : (keys : List KeyShape) (log2_bits hashes j : ℕ) → 0 < count_among keys log2_bits hashes j → (key : KeyShape) × Contains keys key × Contains (positions key log2_bits hashes) j
 counted-from keys log2_bits hashes j h =
     let k = term_above (λ key. count_by (λ p. p == j) (positions key log2_bits hashes)) keys h in

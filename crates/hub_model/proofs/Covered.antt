@@ -11,19 +11,19 @@ use Rattle.hub_model.specs.Copies.{live}
 use Rattle.hub_model.specs.Journal.{result_at, same_finding}
 use Rattle.hub_model.specs.Outdated.{IsOutdated, IsChangedAfter, is_outdated, is_changed}
 use Rattle.hub_model.specs.Record.{is_outdated_in}
-use Rattle.hub_model.specs.State.{Reading, State, until_of}
+use Rattle.hub_model.specs.State.{IssuedCopy, State, until_of}
 use Rattle.hub_model.specs.Until.{greatest, until_among, latest_until, until_of_outdated}
 use Rattle.hub_model.proofs.Moves.{moves-from_differs, differs-from_moves}
 use Rattle.hub_model.proofs.Recorded.{not_outdated}
-use Rattle.hub_model.proofs.Results.{same_finding-Decides, result_at_told, outdated-from_test, test-from_outdated}
+use Rattle.hub_model.proofs.Results.{same_finding-Decides, result_at_decided, outdated-from_test, test-from_outdated}
 
 -- ---- by neighbouring commits
 
 pub outdated-by_steps : (key : KeyShape) (c : ℕ) (journal : List Change) (front : ℕ) → IsOutdated key c journal front → IsChangedAfter key c journal front
-outdated-by_steps key c journal front = moves-from_differs (result_at key journal) (result_at_told key journal) c front
+outdated-by_steps key c journal front = moves-from_differs (result_at key journal) (result_at_decided key journal) c front
 
 pub steps-outdated : (key : KeyShape) (c : ℕ) (journal : List Change) (front : ℕ) → IsChangedAfter key c journal front → IsOutdated key c journal front
-steps-outdated key c journal front = differs-from_moves (result_at key journal) (result_at_told key journal) c front
+steps-outdated key c journal front = differs-from_moves (result_at key journal) (result_at_decided key journal) c front
 
 -- two tests that pass together are one
 same_test : (a b : Bool) → (a ≡ true → b ≡ true) → (b ≡ true → a ≡ true) → a ≡ b
@@ -34,18 +34,18 @@ same_test false false to back = refl
 before_suc : (n : ℕ) → suc n - 1 ≡ n
 before_suc n = omega arith
 
--- what the test of a change tells
-changed_told : (key : KeyShape) (journal : List Change) (n : ℕ) → is_changed key journal n ≡ true → result_at key journal n ≢ result_at key journal (n - 1)
-changed_told key journal n h e = both_ways (same_finding (result_at key journal n) (result_at key journal (n - 1)))
+-- what the test of a change decides
+changed_differs : (key : KeyShape) (journal : List Change) (n : ℕ) → is_changed key journal n ≡ true → result_at key journal n ≢ result_at key journal (n - 1)
+changed_differs key journal n h e = both_ways (same_finding (result_at key journal n) (result_at key journal (n - 1)))
     (not-true (same_finding (result_at key journal n) (result_at key journal (n - 1))) h) ((same_finding-Decides (result_at key journal n) (result_at key journal (n - 1))).1 e)
 
-unchanged_told : (key : KeyShape) (journal : List Change) (n : ℕ) → is_changed key journal n ≡ false → result_at key journal n ≡ result_at key journal (n - 1)
-unchanged_told key journal n h = (same_finding-Decides (result_at key journal n) (result_at key journal (n - 1))).0 (not-false (same_finding (result_at key journal n) (result_at key journal (n - 1))) h)
+unchanged_same : (key : KeyShape) (journal : List Change) (n : ℕ) → is_changed key journal n ≡ false → result_at key journal n ≡ result_at key journal (n - 1)
+unchanged_same key journal n h = (same_finding-Decides (result_at key journal n) (result_at key journal (n - 1))).0 (not-false (same_finding (result_at key journal n) (result_at key journal (n - 1))) h)
 
 -- where the next commit changes the result, the copies before it are outdated, and no other
 pub is_outdated-changed : (key : KeyShape) (c : ℕ) (journal : List Change) (n : ℕ) → is_changed key journal (suc n) ≡ true → is_outdated key c journal (suc n) ≡ nat_lt c (suc n)
 is_outdated-changed key c journal n h = elim (cases_lt c (suc n)) [
-  | inl before ↦ test-from_outdated key c journal (suc n) (steps-outdated key c journal (suc n) (suc n, before, omega arith, changed_told key journal (suc n) h)) ∙ sym (lt-ltb c (suc n) before)
+  | inl before ↦ test-from_outdated key c journal (suc n) (steps-outdated key c journal (suc n) (suc n, before, omega arith, changed_differs key journal (suc n) h)) ∙ sym (lt-ltb c (suc n) before)
   | inr after ↦ not_outdated key c journal (suc n) after ∙ sym (le-ltb c (suc n) after)
 ]
 
@@ -55,7 +55,7 @@ is_outdated-unchanged key c journal n h = same_test (is_outdated key c journal (
     (λ t. (
     let m = outdated-by_steps key c journal (suc n) (outdated-from_test key c journal (suc n) t) in
     elim (cases_eq m.0 (suc n)) [
-      | inl last ↦ absurd (m.3 (subst (λ k. result_at key journal k ≡ result_at key journal (k - 1)) (sym last) (unchanged_told key journal (suc n) h)))
+      | inl last ↦ absurd (m.3 (subst (λ k. result_at key journal k ≡ result_at key journal (k - 1)) (sym last) (unchanged_same key journal (suc n) h)))
       | inr earlier ↦ (let upto = m.2 in test-from_outdated key c journal n (steps-outdated key c journal n (m.0, m.1, omega (arith, upto, earlier), m.3)))
     ]))
     (λ t. (let d = outdated-from_test key c journal n t in let upto = d.2 in test-from_outdated key c journal (suc n) (d.0, d.1, omega (arith, upto), d.3)))
@@ -67,18 +67,18 @@ outdated_before key c journal front t = (let d = outdated-from_test key c journa
 -- ---- the untils of a key
 
 -- the tests of one key may be compared at that key alone
-of_key : (key : KeyShape) (test other : Reading → Bool) → ((r : Reading) → r.key ≡ key → test r ≡ other r) → (r : Reading) → (same_key key r.key && test r) ≡ (same_key key r.key && other r)
+of_key : (key : KeyShape) (test other : IssuedCopy → Bool) → ((r : IssuedCopy) → r.key ≡ key → test r ≡ other r) → (r : IssuedCopy) → (same_key key r.key && test r) ≡ (same_key key r.key && other r)
 of_key key test other h r = by (same_key key r.key) refl
   where
     by : (b : Bool) → same_key key r.key ≡ b → (b && test r) ≡ (b && other r)
     by true same = h r (sym ((same_key-Decides key r.key).0 same))
     by false same = refl
 
-until-agree : (key : KeyShape) (test other : Reading → Bool) (rs : List Reading) → ((r : Reading) → r.key ≡ key → test r ≡ other r) → until_among key test rs ≡ until_among key other rs
-until-agree key test other rs h = ap (λ (l : List Reading). greatest (map until_of l)) (filter_agree (λ r. same_key key r.key && test r) (λ r. same_key key r.key && other r) (of_key key test other h) rs)
+until-agree : (key : KeyShape) (test other : IssuedCopy → Bool) (rs : List IssuedCopy) → ((r : IssuedCopy) → r.key ≡ key → test r ≡ other r) → until_among key test rs ≡ until_among key other rs
+until-agree key test other rs h = ap (λ (l : List IssuedCopy). greatest (map until_of l)) (filter_agree (λ r. same_key key r.key && test r) (λ r. same_key key r.key && other r) (of_key key test other h) rs)
 
 -- a test that passes less has no greater until
-until-less : (p q : Reading → Bool) (rs : List Reading) → ((r : Reading) → p r ≡ true → q r ≡ true) → greatest (map until_of (filter p rs)) ≤ greatest (map until_of (filter q rs))
+until-less : (p q : IssuedCopy → Bool) (rs : List IssuedCopy) → ((r : IssuedCopy) → p r ≡ true → q r ≡ true) → greatest (map until_of (filter p rs)) ≤ greatest (map until_of (filter q rs))
 until-less p q [] h = omega arith
 until-less p q (r ∷ rs) h = by (p r) (q r) refl refl (until-less p q rs h)
   where
@@ -104,7 +104,7 @@ pub outdated_until-unchanged : (s : State) (key : KeyShape) (n : ℕ) → is_cha
 outdated_until-unchanged s key n h = until-agree key (is_outdated_in (record s { front = suc n })) (is_outdated_in (record s { front = n })) (live s)
     (λ r is_key. is_outdated-unchanged r.key r.at s.journal n (subst (λ (k : KeyShape). is_changed k s.journal (suc n) ≡ false) (sym is_key) h))
 
--- what is outdated at a commit stands before the next
+-- what is outdated at a commit is of one before the next
 pub outdated_until-below : (s : State) (key : KeyShape) (n : ℕ) → until_of_outdated (record s { front = n }) key ≤ latest_until s key 0 (suc n)
 outdated_until-below s key n = until-less (λ r. same_key key r.key && is_outdated_in (record s { front = n }) r) (λ r. same_key key r.key && (nat_le 0 r.at && nat_lt r.at (suc n))) (live s)
     (λ r t. (

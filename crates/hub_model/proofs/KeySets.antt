@@ -15,7 +15,7 @@ use Rattle.query_normal.specs.SameKey.{same_key-Decides, same_key_equiv}
 pub same_key-itself : (key : KeyShape) → same_key key key ≡ true
 same_key-itself key = (same_key-Decides key key).1 refl
 
--- two keys are told apart the same way in either order
+-- two keys compare the same way in either order
 pub same_key-flips : (a b : KeyShape) → same_key a b ≡ same_key b a
 same_key-flips a b = same_key_equiv.symm a b
 
@@ -48,7 +48,7 @@ unfolding IsDistinct
 once_by true x xs there d = d
 once_by false x xs there d = (apart_from_absent x (unique_keys same_key xs) (among-unique xs x ∙ there), d)
 
--- and none stands twice
+-- and none is there twice
 pub distinct-unique : (xs : List KeyShape) → IsDistinct same_key (unique_keys same_key xs)
 unfolding IsDistinct
 distinct-unique [] = tt
@@ -69,7 +69,7 @@ unfolding IsDistinct
 distinct_filter_by true test k ks here there = (apart_filter test k ks here, there)
 distinct_filter_by false test k ks here there = there
 
--- a part of keys of which none stands twice is so too
+-- a part of distinct keys is distinct too
 pub distinct-filter : (test : KeyShape → Bool) (ks : List KeyShape) → IsDistinct same_key ks → IsDistinct same_key (filter test ks)
 unfolding IsDistinct
 distinct-filter test [] d = tt

@@ -8,15 +8,15 @@ use Rattle.hub_model.specs.Later.{IsLater}
 use Rattle.hub_model.specs.Legal.{MayFollow, IsLegalFrom, IsLegal}
 use Rattle.hub_model.specs.Lifetime.{ttl_of}
 use Rattle.hub_model.specs.Setting.{Setting}
-use Rattle.hub_model.specs.State.{Reading, State, at_moment}
+use Rattle.hub_model.specs.State.{IssuedCopy, State, at_moment}
 use Rattle.hub_model.specs.Step.{after, after_all, moment_of, state_of}
 use Rattle.hub_model.proofs.Accepted.{wrote-keeps}
 use Rattle.hub_model.proofs.Histories.{state_of-append, legal-parts}
 
 -- ---- the order
 
--- the reading is of no commit below the front of the state
-abbrev IsFrom : State → Reading → Type 0
+-- the copy is of no commit below the front of the state
+abbrev IsFrom : State → IssuedCopy → Type 0
 IsFrom s r = s.front ≤ r.at
 
 -- a state with another clock, which is no earlier
@@ -27,8 +27,8 @@ later_clock s moment late =
       front = omega arith;
       commits = [];
       journal = sym (append-nil s.journal);
-      given = [];
-      readings = sym (append-nil s.readings);
+      issued = [];
+      copies = sym (append-nil s.copies);
       fresh = All-nil (IsFrom s);
     }
 
@@ -46,9 +46,9 @@ later_onward s t u a b =
       front = (let y = b.front in omega (arith, rises, y));
       commits = a.commits ++ b.commits;
       journal = joined s.journal t.journal u.journal a.commits b.commits a.journal b.journal;
-      given = a.given ++ b.given;
-      readings = joined s.readings t.readings u.readings a.given b.given a.readings b.readings;
-      fresh = All-append (IsFrom s) a.given b.given a.fresh (All-weaker (IsFrom t) (IsFrom s) (λ r h. omega (arith, h, rises)) b.given b.fresh);
+      issued = a.issued ++ b.issued;
+      copies = joined s.copies t.copies u.copies a.issued b.issued a.copies b.copies;
+      fresh = All-append (IsFrom s) a.issued b.issued a.fresh (All-weaker (IsFrom t) (IsFrom s) (λ r h. omega (arith, h, rises)) b.issued b.fresh);
     }
 
 -- ---- histories
@@ -57,13 +57,13 @@ later_onward s t u a b =
 later_after : (g : Setting) (s : State) (e : Entry) → MayFollow g s e → IsLater s (after g s e)
 later_after g s (Write moment change condition) may =
     wrote-keeps (λ (t : State). IsLater s t) g change condition (at_moment s moment)
-    (record { clock = omega arith; front = omega arith; commits = change ∷ []; journal = refl; given = []; readings = sym (append-nil s.readings); fresh = All-nil (IsFrom s) })
+    (record { clock = omega arith; front = omega arith; commits = change ∷ []; journal = refl; issued = []; copies = sym (append-nil s.copies); fresh = All-nil (IsFrom s) })
     (later_clock s (at_moment s moment).clock (omega arith))
 later_after g s (Read moment key tags at) may =
-    let r : Reading = record { key = key; at = at; clock = (at_moment s moment).clock; ttl = ttl_of g (at_moment s moment) key at } in
-    record { clock = omega arith; front = omega arith; commits = []; journal = sym (append-nil s.journal); given = r ∷ []; readings = refl; fresh = All-cons (IsFrom s) r [] may.0 (All-nil (IsFrom s)) }
+    let r : IssuedCopy = record { key = key; at = at; clock = (at_moment s moment).clock; ttl = ttl_of g (at_moment s moment) key at } in
+    record { clock = omega arith; front = omega arith; commits = []; journal = sym (append-nil s.journal); issued = r ∷ []; copies = refl; fresh = All-cons (IsFrom s) r [] may.0 (All-nil (IsFrom s)) }
 later_after g s (Match moment to) may =
-    record { clock = omega arith; front = (let up = may.0 in omega (arith, up)); commits = []; journal = sym (append-nil s.journal); given = []; readings = sym (append-nil s.readings); fresh = All-nil (IsFrom s) }
+    record { clock = omega arith; front = (let up = may.0 in omega (arith, up)); commits = []; journal = sym (append-nil s.journal); issued = []; copies = sym (append-nil s.copies); fresh = All-nil (IsFrom s) }
 later_after g s e may = later_clock s (at_moment s (moment_of e)).clock (omega arith)
 
 later_from : (g : Setting) (s : State) (es : List Entry) → IsLegalFrom g s es → IsLater s (after_all g s es)

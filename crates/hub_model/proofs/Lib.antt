@@ -3,12 +3,12 @@ mod Bits
 pub mod Changes
 mod Copies
 pub mod Covered
-pub mod Handed
+pub mod Issues
 mod Histories
 pub mod KeySets
 mod LaterStates
 mod Moves
-mod Readings
+mod CopiesOfReads
 pub mod Recorded
 pub mod Results
 mod Rows

@@ -22,7 +22,7 @@ use Rattle.hub_model.specs.Lifetime.{ttl_of}
 use Rattle.hub_model.specs.Outdated.{IsOutdated, is_outdated}
 use Rattle.hub_model.specs.Record.{count_among, IsRecorded, is_outdated_in, is_recorded, record_of, outdated_copies, bits_of}
 use Rattle.hub_model.specs.Setting.{Setting}
-use Rattle.hub_model.specs.State.{Reading, State, at_moment}
+use Rattle.hub_model.specs.State.{IssuedCopy, State, at_moment}
 use Rattle.hub_model.specs.Step.{after, has_read, state_of}
 use Rattle.hub_model.specs.Until.{until_among, until_of_outdated}
 use Rattle.hub_model.proofs.Accepted.{wrote-keeps}
@@ -114,11 +114,11 @@ not_outdated key c journal (suc n) h =
     let there = not_outdated key c journal n (omega (arith, h)) in
     cc
 
-left_out : (p : Reading → Bool) (r : Reading) → p r ≡ false → filter p (r ∷ []) ≡ []
+left_out : (p : IssuedCopy → Bool) (r : IssuedCopy) → p r ≡ false → filter p (r ∷ []) ≡ []
 left_out p r h = ap (λ (b : Bool). cond b (r ∷ []) []) h
 
 -- what a filter leaves out of the one list it leaves out of both
-filter-none : (p q : Reading → Bool) (r : Reading) → p r ≡ false → filter p (filter q (r ∷ [])) ≡ []
+filter-none : (p q : IssuedCopy → Bool) (r : IssuedCopy) → p r ≡ false → filter p (filter q (r ∷ [])) ≡ []
 filter-none p q r h = by (q r)
   where
     by : (b : Bool) → filter p (cond b (r ∷ []) []) ≡ []
@@ -128,11 +128,11 @@ filter-none p q r h = by (q r)
 -- a read at the front or above it adds no outdated copy
 pub outdated_copies-read : (g : Setting) (s : State) (key : KeyShape) (at : ℕ) → s.front ≤ at → outdated_copies (has_read g key at s) ≡ outdated_copies s
 outdated_copies-read g s key at h =
-    let r : Reading = record { key = key; at = at; clock = s.clock; ttl = ttl_of g s key at } in
-    let q : Reading → Bool = λ r. nat_lt 0 r.ttl in
-    ap (filter (is_outdated_in s)) (filter-append q s.readings (r ∷ []))
+    let r : IssuedCopy = record { key = key; at = at; clock = s.clock; ttl = ttl_of g s key at } in
+    let q : IssuedCopy → Bool = λ r. nat_lt 0 r.ttl in
+    ap (filter (is_outdated_in s)) (filter-append q s.copies (r ∷ []))
     ∙ filter-append (is_outdated_in s) (issues s) (filter q (r ∷ []))
-    ∙ ap (λ (l : List Reading). outdated_copies s ++ l) (filter-none (is_outdated_in s) q r (not_outdated key at s.journal s.front h))
+    ∙ ap (λ (l : List IssuedCopy). outdated_copies s ++ l) (filter-none (is_outdated_in s) q r (not_outdated key at s.journal s.front h))
     ∙ append-nil (outdated_copies s)
 
 pub read-outdates_nothing : (g : Setting) (history : List Entry) (moment : ℕ) (key : KeyShape) (tags : Tags) (at : ℕ) → IsLegal g (history ++ Read moment key tags at ∷ []) → outdated_copies (state_of g (history ++ Read moment key tags at ∷ [])) ≡ outdated_copies (state_of g history)
@@ -161,11 +161,11 @@ is_outdated-append key c journal more (suc n) h =
 
 -- a longer journal leaves the record, as long as the front stays
 pub record-longer : (s : State) (more : List Change) → s.front ≤ length s.journal → record_of (record s { journal = s.journal ++ more }) ≡ record_of s
-record-longer s more h = ap (λ (test : Reading → Bool). filter (λ key. some_copy key test (live s)) (active_keys s)) (λ i r. is_outdated-append r.key r.at s.journal more s.front h i)
+record-longer s more h = ap (λ (test : IssuedCopy → Bool). filter (λ key. some_copy key test (live s)) (active_keys s)) (λ i r. is_outdated-append r.key r.at s.journal more s.front h i)
 
 -- and how long each key stays there
 pub outdated_until-longer : (s : State) (more : List Change) (key : KeyShape) → s.front ≤ length s.journal → until_of_outdated (record s { journal = s.journal ++ more }) key ≡ until_of_outdated s key
-outdated_until-longer s more key h = ap (λ (test : Reading → Bool). until_among key test (live s)) (λ i r. is_outdated-append r.key r.at s.journal more s.front h i)
+outdated_until-longer s more key h = ap (λ (test : IssuedCopy → Bool). until_among key test (live s)) (λ i r. is_outdated-append r.key r.at s.journal more s.front h i)
 
 pub write-records_nothing : (g : Setting) (history : List Entry) (moment : ℕ) (change : Change) (condition : Condition) → IsLegal g history → record_of (state_of g (history ++ Write moment change condition ∷ [])) ≡ record_of (state_of g (history ++ Tick moment ∷ []))
 write-records_nothing g history moment change condition legal =

@@ -9,26 +9,26 @@ use Rattle.q_doc.specs.Order.{tree_cmp}
 use Rattle.q_doc.specs.OrderLaws.{tree_eq-Decides}
 use Rattle.query_normal.specs.declared.key.KeyShape.{KeyShape}
 use Rattle.query_normal.specs.declared.key.KeyShape.TheVariants.{Record}
-use Rattle.query_normal.specs.SameKey.{both, says}
+use Rattle.query_normal.specs.SameKey.{both, decides_whole}
 use Rattle.commit_book.specs.declared.change.Change.{Change}
 use Rattle.commit_book.specs.Journal.{document_at, document_after}
 use Rattle.hub_model.specs.Journal.{Finding, absent, present, document_finding, result_at, same_finding}
 use Rattle.hub_model.specs.Outdated.{IsOutdated, is_outdated}
-use Rattle.hub_model.proofs.Moves.{IsTold}
+use Rattle.hub_model.proofs.Moves.{IsDecided}
 
 -- ---- equality of results
 
--- the test that two results are equal tells it
+-- the test whether two results are equal decides it
 pub same_finding-Decides : (a b : Finding) → Decides (same_finding a b) (a ≡ b)
 same_finding-Decides absent absent = ((λ _. refl), (λ _. refl))
 same_finding-Decides (present v t) (present w u) =
-    says (v == w && eq_by_cmp tree_cmp t u) (both (v == w) (eq_by_cmp tree_cmp t u) (Decides-eqb v w) (tree_eq-Decides t u))
+    decides_whole (v == w && eq_by_cmp tree_cmp t u) (both (v == w) (eq_by_cmp tree_cmp t u) (Decides-eqb v w) (tree_eq-Decides t u))
     (λ e. ap₂ present e.0 e.1) (λ e. (let h : v ≡ w = cc in h, let h : t ≡ u = cc in h))
 same_finding-Decides a b = ((λ h. cc), (λ h. cc))
 
 -- any two results of a key are equal or not
-pub result_at_told : (key : KeyShape) (journal : List Change) → IsTold (result_at key journal)
-result_at_told key journal n m = elim (cases_Bool (same_finding (result_at key journal n) (result_at key journal m))) [
+pub result_at_decided : (key : KeyShape) (journal : List Change) → IsDecided (result_at key journal)
+result_at_decided key journal n m = elim (cases_Bool (same_finding (result_at key journal n) (result_at key journal m))) [
   | inl same ↦ inl ((same_finding-Decides (result_at key journal n) (result_at key journal m)).0 same)
   | inr other ↦ inr (λ e. both_ways (same_finding (result_at key journal n) (result_at key journal m)) other ((same_finding-Decides (result_at key journal n) (result_at key journal m)).1 e))
 ]

@@ -20,7 +20,7 @@ use Rattle.hub_model.specs.declared.entry.Written.TheVariants.{Done, Preconditio
 use Rattle.hub_model.specs.Setting.{Setting, default_setting}
 use Rattle.hub_model.specs.Record.{record_of, outdated_copies, bits_of}
 use Rattle.hub_model.specs.Step.{state_of}
-use Rattle.hub_model.specs.State.{Reading, start, at_moment}
+use Rattle.hub_model.specs.State.{IssuedCopy, start, at_moment}
 use Rattle.hub_model.specs.Copies.{active_keys}
 use Rattle.hub_model.specs.Legal.{IsLegal}
 use Rattle.hub_model.specs.Reply.{reply, wrote, read, matched, fetched}
@@ -140,7 +140,7 @@ back_again =
     ∷ Match 100 3
     ∷ []
 
-abbrev copy_of_p1 : ℕ → Reading
+abbrev copy_of_p1 : ℕ → IssuedCopy
 copy_of_p1 at = record { key = p1; at = at; clock = 100; ttl = 60 }
 
 undone_between : (record_of (state_of sixty back_again) ≡ p1 ∷ [])

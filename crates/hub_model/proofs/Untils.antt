@@ -1,4 +1,4 @@
--- Until when copies may be kept, as time passes, copies are handed out and commits are covered.
+-- Until when copies may be kept, as time passes, copies are issued and commits are covered.
 use Rattle.std.proofs.Common.{◌≡◌, ◌⊎◌, ℕ, ◌<◌, ◌≤◌, max, Bool, true, false, cond, ◌&&◌, ◌||◌, List, [], ◌∷◌, map, filter, refl, sym, ap, ◌∙◌, subst, inl, inr, arith}
 use Rattle.std.specs.Prelude.{nat_lt, if◌then◌else◌}
 use Rattle.std.specs.List.{list_any}
@@ -7,24 +7,24 @@ use Rattle.query_normal.specs.declared.key.KeyShape.{KeyShape}
 use Rattle.query_normal.specs.Keys.{same_key}
 use Rattle.hub_model.specs.Copies.{is_active, issues, is_live, live}
 use Rattle.hub_model.specs.Record.{is_outdated_in, is_recorded}
-use Rattle.hub_model.specs.State.{Reading, State, until_of, at_moment}
+use Rattle.hub_model.specs.State.{IssuedCopy, State, until_of, at_moment}
 use Rattle.hub_model.specs.Until.{greatest, until_among, until_of_outdated}
 
 -- the greatest until of the copies that pass a test
-abbrev until_by : (Reading → Bool) → List Reading → ℕ
+abbrev until_by : (IssuedCopy → Bool) → List IssuedCopy → ℕ
 until_by p copies = greatest (map until_of (filter p copies))
 
 -- a copy in front that passes, and one that does not
-until-taken : (p : Reading → Bool) (r : Reading) (rs : List Reading) → p r ≡ true → until_by p (r ∷ rs) ≡ max (until_of r) (until_by p rs)
+until-taken : (p : IssuedCopy → Bool) (r : IssuedCopy) (rs : List IssuedCopy) → p r ≡ true → until_by p (r ∷ rs) ≡ max (until_of r) (until_by p rs)
 until-taken p r rs h = ap (λ (b : Bool). greatest (map until_of (cond b (r ∷ filter p rs) (filter p rs)))) h
 
-until-passed : (p : Reading → Bool) (r : Reading) (rs : List Reading) → p r ≡ false → until_by p (r ∷ rs) ≡ until_by p rs
+until-passed : (p : IssuedCopy → Bool) (r : IssuedCopy) (rs : List IssuedCopy) → p r ≡ false → until_by p (r ∷ rs) ≡ until_by p rs
 until-passed p r rs h = ap (λ (b : Bool). greatest (map until_of (cond b (r ∷ filter p rs) (filter p rs)))) h
 
 -- ---- unexpired copies
 
 -- among copies whose until is above the moment, one passes exactly where the greatest until of those that pass is above it
-any_until : (moment : ℕ) (p : Reading → Bool) (rs : List Reading) → list_any p (filter (is_live moment) rs) ≡ nat_lt moment (until_by p (filter (is_live moment) rs))
+any_until : (moment : ℕ) (p : IssuedCopy → Bool) (rs : List IssuedCopy) → list_any p (filter (is_live moment) rs) ≡ nat_lt moment (until_by p (filter (is_live moment) rs))
 any_until moment p [] = sym (le-ltb moment 0 (omega arith))
 any_until moment p (r ∷ rs) = by (is_live moment r) (p r) refl refl (any_until moment p rs)
   where
@@ -49,7 +49,7 @@ passes false = refl
 
 -- a key is active as long as the greatest until of its unexpired copies is above the clock
 pub active_until : (s : State) (key : KeyShape) → is_active s key ≡ nat_lt s.clock (until_among key (λ r. true) (live s))
-active_until s key = ap (λ (test : Reading → Bool). list_any test (live s)) (λ i r. sym (passes (same_key key r.key)) i) ∙ any_until s.clock (λ r. same_key key r.key && true) (issues s)
+active_until s key = ap (λ (test : IssuedCopy → Bool). list_any test (live s)) (λ i r. sym (passes (same_key key r.key)) i) ∙ any_until s.clock (λ r. same_key key r.key && true) (issues s)
 
 -- ---- time
 
@@ -71,10 +71,10 @@ leaves_unexpired late u old new above l = (λ h. by (cases_lt late old), λ h. a
     by (inr k) = (let none : new ≡ 0 = l.1 k in omega (arith, none, k, above))
 
 -- an until that is above no early moment is above no later one
-abbrev left : ℕ → (Reading → Bool) → List Reading → ℕ
+abbrev left : ℕ → (IssuedCopy → Bool) → List IssuedCopy → ℕ
 left moment p rs = until_by p (filter (is_live moment) rs)
 
-time_leaves : (early late : ℕ) (p : Reading → Bool) (rs : List Reading) → early ≤ late → Leaves late (left early p rs) (left late p rs)
+time_leaves : (early late : ℕ) (p : IssuedCopy → Bool) (rs : List IssuedCopy) → early ≤ late → Leaves late (left early p rs) (left late p rs)
 time_leaves early late p [] h = (λ k. refl, λ k. refl)
 time_leaves early late p (r ∷ rs) h = by (is_live early r) (is_live late r) (p r) refl refl refl (time_leaves early late p rs h)
   where
@@ -92,7 +92,7 @@ time_leaves early late p (r ∷ rs) h = by (is_live early r) (is_live late r) (p
         (subst (λ n. Leaves late (left early p rs) n) (sym (until-passed p r (filter (is_live late) rs) passes)) i)
 
 -- an until stays while it is above the clock, and then there is none
-pub until-at_moment : (s : State) (moment : ℕ) (key : KeyShape) (test : Reading → Bool) → until_among key test (live (at_moment s moment)) ≡ (if nat_lt (max s.clock moment) (until_among key test (live s)) then until_among key test (live s) else 0)
+pub until-at_moment : (s : State) (moment : ℕ) (key : KeyShape) (test : IssuedCopy → Bool) → until_among key test (live (at_moment s moment)) ≡ (if nat_lt (max s.clock moment) (until_among key test (live s)) then until_among key test (live s) else 0)
 until-at_moment s moment key test = by (cases_lt (max s.clock moment) (until_among key test (live s)))
   where
     leaves : Leaves (max s.clock moment) (until_among key test (live s)) (until_among key test (live (at_moment s moment)))

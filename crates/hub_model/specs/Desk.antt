@@ -1,4 +1,4 @@
--- What a call does to the history that its caller knows.
+-- Believed. What a call does to the history that its caller knows.
 use Rattle.std.specs.Prelude.{◌≡◌, ℕ, List, [], ◌∷◌, ◌++◌, length}
 use Rattle.std.specs.List.{enumerate_from}
 use Rattle.hub_model.specs.declared.entry.Entry.{Entry}
@@ -12,13 +12,13 @@ use Rattle.hub_model.specs.Step.{state_of}
 abbrev pub IsPrefix : {X : Type 0} → List X → List X → Type 0
 IsPrefix {X} xs ys = (rest : List X) × (xs ++ rest ≡ ys)
 
--- these entries stand ahead of this one in the same call, after a history
+-- these entries come before this one in the same call, after a history
 abbrev pub IsHelped : Setting → List Entry → List Entry → Entry → Type 0
 IsHelped g before helps e = helps ≡ helps_of g (state_of g before) e
 
--- The caller has made an entry, after all that it knew, and was told the reply at its place.
+-- The caller has made an entry, after all that it knew, and its answer is the reply to that entry there.
 pub record Makes (g : Setting) (old new : List Entry) (mine_old mine_new : List (ℕ × Entry)) (e : Entry) (told : Replied) : Type 0 where
-  -- what stands before this call's entries; others may have made some of it since
+  -- the entries before those of this call; others may have made some of them since
   pub before : List Entry
   pub helps : List Entry
   pub grew : IsPrefix old before

@@ -1,4 +1,4 @@
--- What a history has come to, said of its entries: the clock, the journal and the front of these alone, the readings with the lifetimes that the states before them give.
+-- Internal. What a history has come to, said of its entries: the clock, the journal and the front of these alone, the copies with the lifetimes that the states before them give.
 use Rattle.std.specs.Prelude.{◌≡◌, ◌⊎◌, ◌≤◌, Contains, ℕ, max, List, [], ◌∷◌, ◌++◌, length, map, fold, Option, Some, None, unwrap_or}
 use Rattle.std.specs.List.{filter_map, last_or}
 use Rattle.q_doc.specs.Tree.{Tree}
@@ -75,6 +75,6 @@ pub record IsRead (g : Setting) (history : List Entry) (key : KeyShape) (at cloc
   pub moment : ℕ
   pub tags : Tags
   pub rest : List Entry
-  pub place : history ≡ before ++ Read moment key tags at ∷ rest
+  pub split : history ≡ before ++ Read moment key tags at ∷ rest
   pub clock_is : clock ≡ clock_of (before ++ Read moment key tags at ∷ [])
   pub ttl_is : ttl ≡ ttl_of g (at_moment (state_of g before) moment) key at

@@ -1,4 +1,4 @@
--- The entries that a call makes ahead of its own.
+-- Believed. The entries that a call makes ahead of its own.
 use Rattle.std.specs.Prelude.{List, []}
 use Rattle.hub_model.specs.declared.entry.Entry.{Entry}
 use Rattle.hub_model.specs.Setting.{Setting}

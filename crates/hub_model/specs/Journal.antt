@@ -1,4 +1,4 @@
--- What a key finds in a journal: the list of the accepted changes, the newest last. The change at place n, counted from 1, is commit n.
+-- Believed. What a key finds in a journal: the list of the accepted changes, the newest last. The n-th change, counted from 1, is commit n.
 use Rattle.std.specs.Prelude.{ℕ, ◌==◌, Bool, false, ◌&&◌, true, List, Option, Some, None}
 use Rattle.std.specs.Ordering.{eq_by_cmp}
 use Rattle.q_doc.specs.Order.{tree_cmp}

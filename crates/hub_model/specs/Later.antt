@@ -1,7 +1,7 @@
--- The order of states in time.
+-- Internal. The order of states in time.
 use Rattle.std.specs.Prelude.{◌≡◌, ◌≤◌, List, ◌++◌, All}
 use Rattle.commit_book.specs.declared.change.Change.{Change}
-use Rattle.hub_model.specs.State.{Reading, State}
+use Rattle.hub_model.specs.State.{IssuedCopy, State}
 
 -- The second state is later: nothing of the first is gone, and what came to it came behind that.
 pub record IsLater (s t : State) : Type 0 where
@@ -10,7 +10,7 @@ pub record IsLater (s t : State) : Type 0 where
   -- the changes that were accepted meanwhile
   pub commits : List Change
   pub journal : t.journal ≡ s.journal ++ commits
-  -- the readings that were given meanwhile, none of a commit below the front that was known before
-  pub given : List Reading
-  pub readings : t.readings ≡ s.readings ++ given
-  pub fresh : All (λ r. s.front ≤ r.at) given
+  -- the copies that were issued meanwhile, none of a commit below the front that was known before
+  pub issued : List IssuedCopy
+  pub copies : t.copies ≡ s.copies ++ issued
+  pub fresh : All (λ r. s.front ≤ r.at) issued

@@ -1,4 +1,4 @@
--- How long a reply may be kept.
+-- Believed. How long a reply may be kept: its freshness lifetime (RFC 9111, section 4.2.1).
 use Rattle.std.specs.Prelude.{ℕ, not, ◌&&◌, if◌then◌else◌, nat_le, length}
 use Rattle.query_normal.specs.declared.key.KeyShape.{KeyShape}
 use Rattle.hub_model.specs.Copies.{active_keys, is_active}

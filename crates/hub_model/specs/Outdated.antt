@@ -1,10 +1,10 @@
--- When a copy of a result is outdated.
+-- Believed. When a copy of a result is outdated.
 use Rattle.std.specs.Prelude.{◌≢◌, ℕ, zero, suc, ◌-◌, ◌<◌, ◌≤◌, Bool, false, not, ◌&&◌, ◌||◌, nat_lt, List}
 use Rattle.query_normal.specs.declared.key.KeyShape.{KeyShape}
 use Rattle.commit_book.specs.declared.change.Change.{Change}
 use Rattle.hub_model.specs.Journal.{result_at, same_finding}
 
--- some commit after the copy's, up to the front, finds another result than the copy's does; a change that was undone later still counts
+-- some commit after that of the copy, up to the front, has another result than its own; a change that was undone later still counts. Quaestor (Gessert et al., VLDB 2017) invalidates such a copy
 abbrev pub IsOutdated : KeyShape → ℕ → List Change → ℕ → Type 0
 IsOutdated key commit journal front = (n : ℕ) × (commit < n) × (n ≤ front) × (result_at key journal n ≢ result_at key journal commit)
 

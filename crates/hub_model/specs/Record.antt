@@ -1,4 +1,4 @@
--- The record: the keys of which an outdated copy may still be kept. And its page.
+-- Believed. The record: the keys of which an outdated copy may still be kept. And its page.
 use Rattle.std.specs.Prelude.{◌≡◌, ◌<◌, Contains, ℕ, ◌^◌, ◌==◌, Bool, nat_lt, List, filter, map, length, sum_by, count_by}
 use Rattle.std.specs.List.{range_with_len}
 use Rattle.query_normal.specs.Pages.{Page, positions}
@@ -6,16 +6,16 @@ use Rattle.query_normal.specs.declared.key.KeyShape.{KeyShape}
 use Rattle.hub_model.specs.Copies.{issues, live, some_copy, active_keys}
 use Rattle.hub_model.specs.Outdated.{IsOutdated, is_outdated}
 use Rattle.hub_model.specs.Setting.{Setting}
-use Rattle.hub_model.specs.State.{Reading, State, until_of}
+use Rattle.hub_model.specs.State.{IssuedCopy, State, until_of}
 
 -- a commit after the copy's, up to the front, changed the result
-abbrev pub is_outdated_in : State → Reading → Bool
+abbrev pub is_outdated_in : State → IssuedCopy → Bool
 is_outdated_in s r = is_outdated r.key r.at s.journal s.front
 
--- a read of the key handed out a copy whose lifetime is not over and that a covered commit changed
+-- a read of the key issued a copy whose lifetime is not over and that a covered commit changed. This is when Quaestor (Gessert et al., VLDB 2017) keeps a key in its filter.
 pub record IsRecorded (s : State) (key : KeyShape) : Type 0 where
-  pub copy : Reading
-  pub among : Contains s.readings copy
+  pub copy : IssuedCopy
+  pub among : Contains s.copies copy
   pub key_is : copy.key ≡ key
   pub issued : 0 < copy.ttl
   pub unexpired : s.clock < until_of copy
@@ -30,14 +30,14 @@ abbrev pub record_of : State → List KeyShape
 record_of s = filter (is_recorded s) (active_keys s)
 
 -- the copies that are outdated, expired or not
-abbrev pub outdated_copies : State → List Reading
+abbrev pub outdated_copies : State → List IssuedCopy
 outdated_copies s = filter (is_outdated_in s) (issues s)
 
--- how often a position stands among those of the keys, with repetitions
+-- how often a position is among those of the keys, with repetitions
 abbrev pub count_among : List KeyShape → ℕ → ℕ → ℕ → ℕ
 count_among keys log2_bits hashes j = sum_by (λ key. count_by (λ p. p == j) (positions key log2_bits hashes)) keys
 
--- a bit for each position, set where it stands among those of the keys
+-- a bit for each position, set where it is among those of the keys: the filter of Bloom 1970
 abbrev pub bits_of : List KeyShape → ℕ → ℕ → List Bool
 bits_of keys log2_bits hashes = map (λ j. nat_lt 0 (count_among keys log2_bits hashes j)) (range_with_len 0 (2 ^ log2_bits))
 

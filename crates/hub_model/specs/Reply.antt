@@ -1,4 +1,4 @@
--- What the hub answers to an entry after a history.
+-- Believed. What the hub answers to an entry after a history.
 use Rattle.std.specs.Prelude.{ℕ, ◌+◌, if◌then◌else◌, nat_le, List, length, Some}
 use Rattle.q_doc.specs.Printed.{printed}
 use Rattle.query_normal.specs.Pages.{Page}
@@ -23,7 +23,7 @@ use Rattle.hub_model.specs.Setting.{Setting}
 use Rattle.hub_model.specs.State.{State, at_moment}
 use Rattle.hub_model.specs.Step.{found_now, is_met, has_matched, state_of}
 
--- What a caller of the hub is told.
+-- What the hub replies to a caller.
 pub data Replied : Type 0 where
   wrote : Written → Replied
   read : Answer → Replied
@@ -38,7 +38,7 @@ written g change condition s =
     then (if nat_le (kept_with s.journal change) g.capacity then Done (length s.journal + 1) (found_now s change) s.clock else Full (kept_with s.journal change) s.clock)
     else Precondition (found_now s change) s.clock
 
--- what a read tells of a finding
+-- the outcome of a read that finds this
 abbrev pub outcome_of : Finding → Outcome
 outcome_of absent = Absent
 outcome_of (present version tree) = Whole (printed tree) (Some version)

@@ -1,16 +1,16 @@
--- The configuration of a hub, and its limits.
+-- Believed. The configuration of a hub, and its limits.
 use Rattle.std.specs.Prelude.{ℕ, ◌≤◌}
 
 -- the numbers of a configuration
 pub record Setting : Type 0 where
   -- the logarithm of the number of the page's bits
   pub log2_bits : ℕ
-  -- so many positions has a key
+  -- the number of positions of a key
   pub hashes : ℕ
   -- the least and the greatest lifetime in seconds
   pub ttl_low : ℕ
   pub ttl_high : ℕ
-  -- so many keys may be active at once
+  -- the number of keys that may be active at once
   pub active : ℕ
   -- the greatest number of kept bytes
   pub capacity : ℕ

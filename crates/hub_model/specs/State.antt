@@ -1,20 +1,20 @@
--- What a history has come to.
+-- Believed. What a history has come to.
 use Rattle.std.specs.Prelude.{ℕ, ◌+◌, max, List, []}
 use Rattle.query_normal.specs.declared.key.KeyShape.{KeyShape}
 use Rattle.commit_book.specs.declared.change.Change.{Change}
 
--- a reply to a read, which handed out a copy of a result
-pub record Reading : Type 0 where
+-- a copy of a result, which the reply to a read issued
+pub record IssuedCopy : Type 0 where
   pub key : KeyShape
-  -- the commit whose result was told
+  -- the commit whose result it is
   pub at : ℕ
   -- the clock after the read
   pub clock : ℕ
-  -- for how many seconds the reply may be kept
+  -- for how many seconds it may be kept
   pub ttl : ℕ
 
--- until when the reply may be kept
-abbrev pub until_of : Reading → ℕ
+-- until when the copy may be kept
+abbrev pub until_of : IssuedCopy → ℕ
 until_of r = r.clock + r.ttl
 
 -- what a history has come to
@@ -25,12 +25,12 @@ pub record State : Type 0 where
   pub journal : List Change
   -- the last commit that was matched
   pub front : ℕ
-  -- the reply of each read, the newest last
-  pub readings : List Reading
+  -- the copy that each read issued, the newest last; one with a lifetime of 0 may not be kept at all
+  pub copies : List IssuedCopy
 
 -- the state of no entry
 abbrev pub start : State
-start = record { clock = 0; journal = []; front = 0; readings = [] }
+start = record { clock = 0; journal = []; front = 0; copies = [] }
 
 -- each entry first moves the clock
 abbrev pub at_moment : State → ℕ → State

@@ -1,4 +1,4 @@
--- A history is a list of entries, the newest last; its state is what the entries leave, one after another.
+-- Believed. A history is a list of entries, the newest last; its state is what the entries leave, one after another.
 use Rattle.std.specs.Prelude.{ℕ, Bool, true, false, ◌&&◌, if◌then◌else◌, nat_le, List, [], ◌∷◌, ◌++◌, length, fold, Option, Some, None}
 use Rattle.std.specs.List.{list_any}
 use Rattle.q_doc.specs.Tree.{Tree}
@@ -25,7 +25,7 @@ found_of (Some found) = At found.0
 abbrev pub found_now : State → Change → Found
 found_now s change = found_of (document_at s.journal (length s.journal) change.collection change.id)
 
--- whether a condition is met by what is found, at a number of commits
+-- whether a condition is met by what is found, at a number of commits (RFC 9110, section 13.1)
 abbrev pub is_met : Condition → Found → ℕ → Bool
 is_met Always found commits = true
 is_met Present Missing commits = false
@@ -36,7 +36,7 @@ is_met (Unchanged tags) Missing commits = false
 is_met (Unchanged Any) (At version) commits = true
 is_met (Unchanged (Listed tags)) (At version) commits = list_any (λ t. nat_le version t && nat_le t commits) tags
 
--- whether a write is accepted: its condition is met, and there is room for it
+-- whether a write is accepted: its condition is met, and it fits into the capacity
 abbrev pub is_accepted : Setting → State → Change → Condition → Bool
 is_accepted g s change condition = is_met condition (found_now s change) (length s.journal) && nat_le (kept_with s.journal change) g.capacity
 
@@ -44,9 +44,9 @@ is_accepted g s change condition = is_met condition (found_now s change) (length
 abbrev pub wrote : Setting → Change → Condition → State → State
 wrote g change condition s = if is_accepted g s change condition then record s { journal = s.journal ++ change ∷ [] } else s
 
--- a read hands out a copy, for a lifetime that may be none
+-- a read issues a copy, for a lifetime that may be 0
 abbrev pub has_read : Setting → KeyShape → ℕ → State → State
-has_read g key at s = record s { readings = s.readings ++ record { key = key; at = at; clock = s.clock; ttl = ttl_of g s key at } ∷ [] }
+has_read g key at s = record s { copies = s.copies ++ record { key = key; at = at; clock = s.clock; ttl = ttl_of g s key at } ∷ [] }
 
 -- a match moves the front
 abbrev pub has_matched : Setting → ℕ → State → State

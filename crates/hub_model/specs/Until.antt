@@ -1,10 +1,10 @@
--- Until when copies of a key may be kept.
+-- Internal. Until when copies of a key may be kept.
 use Rattle.std.specs.Prelude.{ℕ, max, Bool, ◌&&◌, nat_le, nat_lt, List, [], ◌∷◌, filter, map}
 use Rattle.query_normal.specs.Keys.{same_key}
 use Rattle.query_normal.specs.declared.key.KeyShape.{KeyShape}
 use Rattle.hub_model.specs.Copies.{live}
 use Rattle.hub_model.specs.Record.{is_outdated_in}
-use Rattle.hub_model.specs.State.{Reading, State, until_of}
+use Rattle.hub_model.specs.State.{IssuedCopy, State, until_of}
 
 -- the greatest of the numbers, or 0
 abbrev pub greatest : List ℕ → ℕ
@@ -12,7 +12,7 @@ greatest [] = 0
 greatest (n ∷ ns) = max n (greatest ns)
 
 -- until when the last copy of the key that passes the test may be kept, or 0 without one
-abbrev pub until_among : KeyShape → (Reading → Bool) → List Reading → ℕ
+abbrev pub until_among : KeyShape → (IssuedCopy → Bool) → List IssuedCopy → ℕ
 until_among key test copies = greatest (map until_of (filter (λ r. same_key key r.key && test r) copies))
 
 -- among the unexpired copies of the key, of commits from one on and below another

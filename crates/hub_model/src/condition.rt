@@ -25,7 +25,8 @@ impl Condition {
     }
 }
 
-/// Whether one of the tags is a commit from the version on: what is found has stood there since.
+/// Whether one of the tags is a commit from the version on, at which the record had the document
+/// that is found.
 fn is_within(tags: &[Commit], version: Commit, commits: Commit) -> bool
     ensures { result ≡ list_any (λ t. nat_le version t && nat_le t commits) tags.now }
 {

@@ -4,20 +4,22 @@ use commit_book::Change;
 use q_base::{Commit, Moment, SharedText};
 use query_normal::Key;
 
-/// What a write asks of the record that it changes.
+/// What a write asks of the record that it changes (RFC 9110, section 13.1).
 #[derive(Debug, Drop)]
 pub enum Condition {
     /// Nothing.
     Always,
-    /// There is a document.
+    /// There is a document, as `If-Match: *` asks.
     Present,
-    /// There is none.
+    /// There is none, as `If-None-Match: *` asks.
     Absent,
-    /// There is a document, and a tagged commit had it in the same version.
+    /// There is a document, and a tagged commit had it in the same version, as `If-Match` with entity
+    /// tags asks.
     Unchanged(Tags),
 }
 
-/// The results that a caller knows, by the commits that told them.
+/// The results that a caller knows, by their commits, which its entity tags have (RFC 9110,
+/// section 8.8.3).
 #[derive(Debug, Drop)]
 pub enum Tags {
     /// Whichever there is.
@@ -41,12 +43,12 @@ pub enum Entry {
         tags: Tags,
         at: Commit,
     },
-    /// The commits up to one were matched against the results that were handed out.
+    /// The commits up to one were matched against the issued copies.
     Match {
         moment: Moment,
         to: Commit,
     },
-    /// The page of the outdated keys was handed out.
+    /// The page of the outdated keys was fetched.
     Fetch {
         moment: Moment,
     },
@@ -56,7 +58,7 @@ pub enum Entry {
     },
 }
 
-/// What stands under a record's key before a write.
+/// What a record has before a write.
 #[derive(Clone, Copy, Debug, PartialEq, Eq)]
 pub enum Found {
     Missing,
@@ -74,7 +76,7 @@ pub enum Written {
         /// The clock after the write.
         clock: Moment,
     },
-    /// Its condition is not met by what was found.
+    /// Its condition is not met by what was found (RFC 9110, section 15.5.13).
     Precondition {
         found: Found,
         /// The clock after the write.
@@ -89,10 +91,10 @@ pub enum Written {
     },
 }
 
-/// The result that a read tells.
+/// The result that a read returns.
 #[derive(Debug, Drop)]
 pub enum Outcome {
-    /// The result's text, and the version of a record's document.
+    /// The text of the result, and the version of a record's document.
     Whole {
         text: SharedText,
         version: Option<Commit>,
@@ -104,11 +106,11 @@ pub enum Outcome {
 /// The reply to a read.
 #[derive(Debug, Drop)]
 pub struct Answer {
-    /// The commit whose result is told.
+    /// The commit whose result this is.
     pub commit: Commit,
     /// The clock after the read.
     pub clock: Moment,
-    /// For how many seconds the reply may be kept.
+    /// For how many seconds the reply may be kept: its freshness lifetime (RFC 9111, section 4.2.1).
     pub ttl: u32,
     pub result: Outcome,
 }

@@ -25,14 +25,14 @@ ghost use Rattle.hub_model.specs.Lifetime.{ttl_of};
 ghost use Rattle.hub_model.specs.Outdated.{IsOutdated, IsChangedAfter, is_outdated, is_changed};
 ghost use Rattle.hub_model.specs.Record.{IsRecorded, is_recorded, record_of, outdated_copies, bits_of, page_of};
 ghost use Rattle.hub_model.specs.Setting.{Setting};
-ghost use Rattle.hub_model.specs.State.{Reading, State, start, at_moment};
+ghost use Rattle.hub_model.specs.State.{IssuedCopy, State, start, at_moment};
 ghost use Rattle.hub_model.specs.Step.{is_accepted, after, after_all, has_read, state_of};
 ghost use Rattle.hub_model.specs.Until.{until_among, latest_until, until_of_outdated};
 
-// What the tests of the definitions tell.
+// What the tests of the definitions decide.
 
-/// The test that two results are equal tells it.
-pub fn results_are_told()
+/// The test whether two results are equal decides it.
+pub fn equal_results_are_tested()
     ensures { (a b : Finding) → Decides (same_finding a b) (a ≡ b) }
 {}
 
@@ -52,15 +52,15 @@ pub fn listed_results_are_unchanged()
     ensures { (journal : List AChange) (change : AChange) (tags : List ℕ) → IsMet (Unchanged (Listed tags)) (found_behind journal change) (length journal) ↔ IsEqualAtOne journal change tags }
 {}
 
-/// A key is among the active keys, each of which stands there once, exactly where it is active.
-pub fn active_keys_are_told()
+/// A key is among the active keys, each of which is listed once, exactly where it is active.
+pub fn active_keys_are_listed()
     ensures tested { (s : State) (key : KeyShape) → IsTrue (is_active s key) ↔ IsActive s key }
     ensures listed { (s : State) (key : KeyShape) → Contains (active_keys s) key ↔ IsActive s key }
     ensures once { (s : State) → IsDistinct same_key (active_keys s) }
 {}
 
-/// A key is in the record, where each stands once, exactly where an unexpired copy of it is outdated.
-pub fn recorded_keys_are_told()
+/// A key is in the record, where each is listed once, exactly where an unexpired copy of it is outdated.
+pub fn recorded_keys_are_listed()
     ensures tested { (s : State) (key : KeyShape) → IsTrue (is_recorded s key) ↔ IsRecorded s key }
     ensures listed { (s : State) (key : KeyShape) → Contains (record_of s) key ↔ IsRecorded s key }
     ensures once { (s : State) → IsDistinct same_key (record_of s) }
@@ -94,9 +94,9 @@ pub fn front_is_last()
     ensures { (g : Setting) (history : List AnEntry) → (state_of g history).front ≡ front_of history }
 {}
 
-/// The readings are the reads, each with the clock after it and its lifetime.
-pub fn readings_are_reads()
-    ensures { (g : Setting) (history : List AnEntry) (key : KeyShape) (at clock ttl : ℕ) → IsRead g history key at clock ttl ↔ Contains (state_of g history).readings (record { key = key; at = at; clock = clock; ttl = ttl }) }
+/// The copies are the reads, each with the clock after it and its lifetime.
+pub fn copies_are_of_reads()
+    ensures { (g : Setting) (history : List AnEntry) (key : KeyShape) (at clock ttl : ℕ) → IsRead g history key at clock ttl ↔ Contains (state_of g history).copies (record { key = key; at = at; clock = clock; ttl = ttl }) }
 {}
 
 // What outdated means.
@@ -207,17 +207,17 @@ pub fn recorded_until()
 
 /// The greatest until of any copies of a key stays while it is above the clock, and then there is none.
 pub fn untils_pass()
-    ensures { (s : State) (moment : ℕ) (key : KeyShape) (test : Reading → Bool) → until_among key test (live (at_moment s moment)) ≡ (if nat_lt (max s.clock moment) (until_among key test (live s)) then until_among key test (live s) else 0) }
+    ensures { (s : State) (moment : ℕ) (key : KeyShape) (test : IssuedCopy → Bool) → until_among key test (live (at_moment s moment)) ≡ (if nat_lt (max s.clock moment) (until_among key test (live s)) then until_among key test (live s) else 0) }
 {}
 
-/// A read that gives a lifetime hands out one copy, behind those there were.
-pub fn reads_hand_out()
+/// A read with a lifetime above 0 issues one copy, behind those there were.
+pub fn reads_issue()
     ensures { (g : Setting) (s : State) (key : KeyShape) (at : ℕ) → live (has_read g key at s) ≡ live s ++ (if nat_lt 0 (ttl_of g s key at) then record { key = key; at = at; clock = s.clock; ttl = ttl_of g s key at } ∷ [] else []) }
 {}
 
 /// It raises the greatest until of the copies that pass a test exactly where its own copy passes.
 pub fn reads_raise()
-    ensures { (g : Setting) (s : State) (key : KeyShape) (at : ℕ) (other : KeyShape) (test : Reading → Bool) → until_among other test (live (has_read g key at s)) ≡ max (until_among other test (live s)) (if nat_lt 0 (ttl_of g s key at) && (same_key other key && test (record { key = key; at = at; clock = s.clock; ttl = ttl_of g s key at })) then s.clock + ttl_of g s key at else 0) }
+    ensures { (g : Setting) (s : State) (key : KeyShape) (at : ℕ) (other : KeyShape) (test : IssuedCopy → Bool) → until_among other test (live (has_read g key at s)) ≡ max (until_among other test (live s)) (if nat_lt 0 (ttl_of g s key at) && (same_key other key && test (record { key = key; at = at; clock = s.clock; ttl = ttl_of g s key at })) then s.clock + ttl_of g s key at else 0) }
 {}
 
 /// A read at the front or above it leaves how long each key stays in the record.

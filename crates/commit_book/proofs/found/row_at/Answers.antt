@@ -13,7 +13,7 @@ offset_bounds-rows-version c = let at = version_among c.args.rows.now c.args.com
 pub bounds-rows-version : goal.bounds-rows-version
 bounds-rows-version c = let at = version_among c.args.rows.now c.args.commits.now c.args.commit _ c.requires c.in-Some.ensures in omega (arith, at.0, at.1)
 
--- the row stands one place before its number
+-- the index of the row is one less than its number
 pub returns-in-Some : goal.returns-in-Some
 returns-in-Some c =
     let at = version_among c.args.rows.now c.args.commits.now c.args.commit _ c.requires c.in-Some.ensures in

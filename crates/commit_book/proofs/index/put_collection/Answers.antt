@@ -1,4 +1,4 @@
--- the collection stands behind the others, with one id
+-- the collection is added last, with one id
 use Rattle.std.proofs.Common.{◌≡◌, ◌++◌, ◌∷◌, [], ℕ, List, sym, ap, ◌∙◌}
 use Rattle.std.specs.Global.{Vec}
 use Rattle.std.specs.Map.{keys_of, lookup}

@@ -1,4 +1,4 @@
--- the id stands behind the others of its collection
+-- the id is added last in its collection
 use Rattle.std.proofs.Common.{◌≡◌, ◌++◌, ◌∷◌, [], ◌||◌, ℕ, Bool, List, Option, Some, is_some, sym, ap, ◌∙◌, subst}
 use Rattle.std.specs.Global.{Vec}
 use Rattle.std.specs.List.{list_any}

@@ -1,5 +1,5 @@
--- the room was made for the hub
-use Rattle.hub_core.specs.Room.{IsRoomFor}
+-- the buffer was made for the hub
+use Rattle.hub_core.specs.PageRoom.{IsRoomFor}
 use Rattle.hub_core.proofs.tests.follow.Given as goal
 
 abbrev pub invariant-loop-step : goal.invariant-loop-step

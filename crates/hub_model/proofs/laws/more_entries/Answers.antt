@@ -1,7 +1,7 @@
 use Rattle.hub_model.proofs.Histories.{state_of-whole, state_of-append, legal-parts, legal-append}
 use Rattle.hub_model.proofs.laws.more_entries.Goals as goal
 
--- a fold goes on from where it stands
+-- a fold goes on from its state
 pub returns-clause-whole : goal.returns-clause-whole
 returns-clause-whole c = state_of-whole
 

@@ -1,4 +1,4 @@
-use Rattle.hub_model.proofs.Handed.{outdated_until-read}
+use Rattle.hub_model.proofs.Issues.{outdated_until-read}
 use Rattle.hub_model.proofs.laws.reads_record_nothing.Goals as goal
 
 -- the copy is not outdated

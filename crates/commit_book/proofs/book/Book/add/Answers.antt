@@ -32,7 +32,7 @@ whole c =
 pub returns-clause-after : goal.returns-clause-after
 returns-clause-after c = (whole c).0
 
--- it has its place, since the sum is within the capacity
+-- it has its slot, since the sum is within the capacity
 pub returns-clause-told : goal.returns-clause-told
 returns-clause-told c = inr (told_added c.args.self.now c.add_reserved.new.self c.args.change.now c.add_reserved.result (whole c).0 c.add_reserved.ensures.fits (whole c).1)
 

@@ -1,7 +1,7 @@
 use Rattle.std.proofs.Common.{◌≡◌, ◌+◌, ℕ, List, [], ◌∷◌, ◌++◌, Option, Some, IfSome, length, sym, ap, ◌∙◌, subst, arith, rules}
 use Rattle.commit_book.specs.declared.change.Change.{Change}
 use Rattle.commit_book.specs.declared.row.Reserved.{Reserved}
-use Rattle.commit_book.specs.Index.{commits_in, commits_of, names_of, IsReadyFor, IsPlaceIn}
+use Rattle.commit_book.specs.Index.{commits_in, commits_of, names_of, IsReadyFor, IsSlotIn}
 use Rattle.commit_book.specs.Journal.{kept}
 use Rattle.commit_book.specs.Names.{AreNamesOf, AddsName}
 use Rattle.commit_book.proofs.ContentsLemmas.{holds_there, seen_added}
@@ -9,11 +9,11 @@ use Rattle.commit_book.proofs.GrowLemmas.{kept_more, index_more}
 use Rattle.commit_book.proofs.NameLemmas.{names_more}
 use Rattle.commit_book.proofs.book.Book.add_reserved.Goals as goal
 
--- the place was found for the change
+-- the slot is that of the change
 pub push_in-requires : goal.push_in-requires
 push_in-requires c =
     let ready = holds_there (IsReadyFor c.self.inside.capacity c.self.inside.rows c.self.inside.collections) c.self.inside.reserved c.in-Some.field-0 c.in-Some.ensures.value c.self.invariant.ready in
-    subst (λ (change : Change). IsPlaceIn c.self.inside.collections change.collection change.id c.in-Some.field-0.place) (sym c.change-change.ensures) ready.place
+    subst (λ (change : Change). IsSlotIn c.self.inside.collections change.collection change.id c.in-Some.field-0.slot) (sym c.change-change.ensures) ready.slot
 
 -- the row is the last, its cost is in the sum, its commit is the last of its record, and its names are in the index
 pub invariant_of-self : goal.invariant_of-self

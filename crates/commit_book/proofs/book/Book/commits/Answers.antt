@@ -5,10 +5,10 @@ use Rattle.commit_book.proofs.CommitLemmas.{item_at, commit_rows_more}
 use Rattle.commit_book.proofs.book.Book.commits.Goals as goal
 
 -- the next row is that of the next commit
-pub loop-place-preserved : goal.loop-place-preserved
-loop-place-preserved c =
-    let here = item_at c.args.self.now.journal c.loop-place.place (omega arith) in
+pub loop-index-preserved : goal.loop-index-preserved
+loop-index-preserved c =
+    let here = item_at c.args.self.now.journal c.loop-index.index (omega arith) in
     c.in_ok-push.ensures.items
-    ∙ ap (λ (rows : List CommitRow). rows ++ c.in_ok-commit_row.field-0 ∷ []) c.loop-place.invariant
-    ∙ ap (λ (row : CommitRow). commit_rows c.args.self.now.journal c.args.from c.loop-place.place ++ row ∷ []) (c.in_ok-commit_row.ensures here.0 here.1)
-    ∙ sym (commit_rows_more c.args.self.now.journal c.args.from c.loop-place.place here.0 (omega arith) here.1)
+    ∙ ap (λ (rows : List CommitRow). rows ++ c.in_ok-commit_row.field-0 ∷ []) c.loop-index.invariant
+    ∙ ap (λ (row : CommitRow). commit_rows c.args.self.now.journal c.args.from c.loop-index.index ++ row ∷ []) (c.in_ok-commit_row.ensures here.0 here.1)
+    ∙ sym (commit_rows_more c.args.self.now.journal c.args.from c.loop-index.index here.0 (omega arith) here.1)

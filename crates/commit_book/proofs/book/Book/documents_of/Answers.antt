@@ -11,7 +11,7 @@ use Rattle.commit_book.proofs.DocumentLemmas.{has_same}
 use Rattle.commit_book.proofs.IndexLemmas.{are_commits_of, document_found}
 use Rattle.commit_book.proofs.book.Book.documents_of.Goals as goal
 
--- what stands under an id are its commits
+-- the entry of an id has its commits
 pub documents_under-requires : goal.documents_under-requires
 documents_under-requires c = λ id.
     are_commits_of _ c.self.inside.rows.items _ c.args.collection.now id c.deref.ensures.value

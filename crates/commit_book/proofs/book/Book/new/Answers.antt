@@ -1,6 +1,6 @@
--- nothing stands in the index
+-- the index is empty
 use Rattle.std.proofs.Common.{◌≡◌, [], None}
-use Rattle.commit_book.proofs.RoomLemmas.{empty-sound, empty-names}
+use Rattle.commit_book.proofs.SpaceLemmas.{empty-sound, empty-names}
 use Rattle.commit_book.proofs.book.Book.new.Goals as goal
 
 pub invariant_of-result : goal.invariant_of-result

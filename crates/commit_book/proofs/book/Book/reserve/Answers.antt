@@ -1,13 +1,13 @@
--- what was reserved keeps its room, until another change takes its place
+-- what was reserved keeps its memory, until another change replaces it
 use Rattle.std.proofs.Common.{arith}
-use Rattle.commit_book.proofs.RoomLemmas.{sound-kept, sound-reserved}
+use Rattle.commit_book.proofs.SpaceLemmas.{sound-kept, sound-reserved}
 use Rattle.commit_book.proofs.book.Book.reserve.Goals as goal
 
-pub invariant_of-self-in_err-place : goal.invariant_of-self-in_err-place
-invariant_of-self-in_err-place c =
-    sound-kept _ _ c.self.inside.rows c.reserve.new.self c.self.inside.collections c.place_in.new.collections c.self.inside.reserved c.reserve.ensures.items c.reserve.ensures.len (omega (arith, c.reserve.ensures.capacity)) c.place_in.ensures.keeps c.self.invariant
+pub invariant_of-self-in_err-slot : goal.invariant_of-self-in_err-slot
+invariant_of-self-in_err-slot c =
+    sound-kept _ _ c.self.inside.rows c.reserve.new.self c.self.inside.collections c.slot_in.new.collections c.self.inside.reserved c.reserve.ensures.items c.reserve.ensures.len (omega (arith, c.reserve.ensures.capacity)) c.slot_in.ensures.keeps c.self.invariant
 
 pub invariant_of-self-2 : goal.invariant_of-self-2
 invariant_of-self-2 c =
-    sound-reserved _ _ c.self.inside.rows c.reserve.new.self c.self.inside.collections c.place_in.new.collections c.self.inside.reserved c.args.change.now c.in_ok-row.row c.in_ok-place.place c.reserve.ensures.items
-    (omega (arith, c.in_ok-reserve.ensures.ok)) c.place_in.ensures.keeps c.in_ok-row.ensures (omega (arith, c.cost_of.ensures.cost, c.if-bytes-self.false)) c.in_ok-place.ensures.ok c.self.invariant
+    sound-reserved _ _ c.self.inside.rows c.reserve.new.self c.self.inside.collections c.slot_in.new.collections c.self.inside.reserved c.args.change.now c.in_ok-row.row c.in_ok-slot.slot c.reserve.ensures.items
+    (omega (arith, c.in_ok-reserve.ensures.ok)) c.slot_in.ensures.keeps c.in_ok-row.ensures (omega (arith, c.cost_of.ensures.cost, c.if-bytes-self.false)) c.in_ok-slot.ensures.ok c.self.invariant

@@ -6,7 +6,7 @@ use Rattle.commit_book.specs.Journal.{document_at}
 use Rattle.commit_book.proofs.IndexLemmas.{are_commits_of, document_found}
 use Rattle.commit_book.proofs.book.Book.row_at.Goals as goal
 
--- what stands under the record are its commits
+-- the entry of the record has its commits
 pub row_at-requires : goal.row_at-requires
 row_at-requires c =
     are_commits_of _ c.self.inside.rows.items _ c.args.collection.now c.args.id.now c.deref.ensures.value

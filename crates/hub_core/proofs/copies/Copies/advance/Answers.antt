@@ -1,10 +1,10 @@
--- the copies and the marked keys move to the same clock
+-- the copies and the invalidated keys move to the same clock
 use Rattle.std.proofs.Common.{ℕ, ap, sym, ◌∙◌, subst}
 use Rattle.expiring_filter.specs.Filter.{Filter}
 use Rattle.expiring_filter.specs.Held.{Expires}
-use Rattle.hub_core.specs.Handed.{Handed, while_later, until_in}
+use Rattle.hub_core.specs.CopiesView.{CopiesView, while_later, until_in}
 use Rattle.hub_core.proofs.SoundLemmas.{sound-later}
-use Rattle.hub_core.proofs.MarkLemmas.{until-expired}
+use Rattle.hub_core.proofs.InvalidationLemmas.{until-expired}
 use Rattle.hub_core.proofs.copies.Copies.advance.Goals as goal
 
 -- what expires by that clock
@@ -19,4 +19,4 @@ invariant_of-self c =
 pub returns-clause-outdated : goal.returns-clause-outdated
 returns-clause-outdated c = λ key.
     until-expired c.advance.new.self.clock c.self.inside.outdated.held c.advance-2.new.self.held (expired c) key
-    ∙ ap (λ (h : Handed). while_later c.advance.new.self.clock (until_in h.outdated key)) c.self.view_is
+    ∙ ap (λ (h : CopiesView). while_later c.advance.new.self.clock (until_in h.outdated key)) c.self.view_is

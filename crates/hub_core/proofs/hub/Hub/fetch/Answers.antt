@@ -3,8 +3,8 @@ use Rattle.std.proofs.Common.{◌≡◌, Some, option_map, ap, sym, ◌∙◌, s
 use Rattle.query_normal.specs.Pages.{Page}
 use Rattle.hub_model.specs.Reply.{fetched}
 use Rattle.hub_model.specs.State.{at_moment}
-use Rattle.hub_core.specs.Room.{RoomView}
-use Rattle.hub_core.specs.Standing.{HubView, IsAt}
+use Rattle.hub_core.specs.PageRoom.{PageRoomView}
+use Rattle.hub_core.specs.HubState.{HubView, IsAt}
 use Rattle.hub_core.proofs.HubLemmas.{hub-passed, setting-passed, page-at}
 use Rattle.hub_core.proofs.hub.Hub.fetch.Goals as goal
 
@@ -17,7 +17,7 @@ pub returns-clause-page : goal.returns-clause-page
 returns-clause-page c = λ s at.
     let is = returns-clause-after c s at in
     let setting : c.pass.new.copies.setting ≡ c.args.self.now.setting = setting-passed c.self.inside.copies c.pass.new.copies c.args.moment c.pass.ensures ∙ ap (λ (h : HubView). h.setting) c.self.view_is in
-    ap (λ (r : RoomView). r.page) c.write.ensures
+    ap (λ (r : PageRoomView). r.page) c.write.ensures
     ∙ ap Some (page-at c.self.inside.book c.self.inside.front c.pass.new.copies (at_moment s c.args.moment) c.args.self.now.setting _ _ c.count-commits.result c.clock-moment.result c.bits.result.now is c.bits.ensures.keys
     setting c.requires.log2_bits c.requires.hashes c.count-commits.ensures.count c.clock-moment.ensures c.bits.ensures.bits)
 

@@ -1,6 +1,6 @@
 -- the clock moves, and nothing else
 use Rattle.std.proofs.Common.{sym, subst}
-use Rattle.hub_core.specs.Standing.{HubView, IsAt}
+use Rattle.hub_core.specs.HubState.{HubView, IsAt}
 use Rattle.hub_core.proofs.HubLemmas.{hub-passed}
 use Rattle.hub_core.proofs.hub.Hub.tick.Goals as goal
 

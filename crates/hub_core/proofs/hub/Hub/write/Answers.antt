@@ -3,7 +3,7 @@ use Rattle.std.proofs.Common.{◌≡◌, Err, ap, sym, ◌∙◌, subst}
 use Rattle.commit_book.specs.Contents.{Contents}
 use Rattle.hub_model.specs.State.{State, at_moment}
 use Rattle.hub_model.specs.Step.{wrote}
-use Rattle.hub_core.specs.Standing.{HubView, IsAt, hub_of}
+use Rattle.hub_core.specs.HubState.{HubView, IsAt, hub_of}
 use Rattle.hub_core.proofs.HubLemmas.{hub-passed, hub-written}
 use Rattle.hub_core.proofs.WriteLemmas.{added-ok, added-full, leaves-unmet, leaves-full, leaves-done, added-memory, accepted-now}
 use Rattle.hub_core.proofs.hub.Hub.write.Goals as goal
@@ -50,7 +50,7 @@ returns-in-Err-Full-clause-after c = λ s at.
     (sym c.is_met.ensures ∙ c.if-not-is_met.false) limit answer)
     moved)
 
--- memory is wanting only for a write that is accepted
+-- only a write that is accepted answers Memory
 pub returns-in-Err-Memory-clause-accepted : goal.returns-in-Err-Memory-clause-accepted
 returns-in-Err-Memory-clause-accepted c = λ s at.
     let book = c.self.inside.book in

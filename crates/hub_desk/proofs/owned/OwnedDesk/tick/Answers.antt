@@ -1,14 +1,14 @@
 -- the tick is the next entry, and it may always follow
 use Rattle.std.proofs.Common.{ap, sym}
-use Rattle.hub_desk.specs.Desk.{Kept}
-use Rattle.hub_desk.proofs.HistoryLemmas.{stands-more, made}
+use Rattle.hub_desk.specs.Desk.{OwnedView}
+use Rattle.hub_desk.proofs.HistoryLemmas.{represents-more, made}
 use Rattle.hub_desk.proofs.owned.OwnedDesk.tick.Goals as goal
 
 pub invariant_of-self : goal.invariant_of-self
 invariant_of-self c =
-    stands-more _ _ _ _ _ c.self.invariant (tt, tt) c.tick-stats.ensures.setting (c.tick-stats.ensures.after _ c.self.invariant.state) c.note.ensures
+    represents-more _ _ _ _ _ c.self.invariant (tt, tt) c.tick-stats.ensures.setting (c.tick-stats.ensures.after _ c.self.invariant.state) c.note.ensures
 
 pub returns-clause-made : goal.returns-clause-made
 returns-clause-made c =
-    made _ _ _ c.self.inside.hub c.self.inside.entries.items _ _ (sym (ap (λ (k : Kept). k.setting) c.self.view_is)) (sym (ap (λ (k : Kept). k.entries) c.self.view_is)) c.self.invariant tt c.note.ensures
+    made _ _ _ c.self.inside.hub c.self.inside.entries.items _ _ (sym (ap (λ (k : OwnedView). k.setting) c.self.view_is)) (sym (ap (λ (k : OwnedView). k.entries) c.self.view_is)) c.self.invariant tt c.note.ensures
     (c.tick-stats.ensures.told _ c.self.invariant.state)

@@ -1,0 +1,106 @@
+-- Internal. What contracts see of a hub, and the history that it represents.
+use Rattle.std.specs.Prelude.{◌≡◌, ℕ, List, [], Option, None, length, map}
+use Rattle.issued_expiries.specs.Copies.{Copy, SameCopies}
+use Rattle.query_normal.specs.declared.key.KeyShape.{KeyShape}
+use Rattle.hub_model.specs.Copies.{live}
+use Rattle.hub_model.specs.Legal.{IsLegal}
+use Rattle.hub_model.specs.Setting.{Setting}
+use Rattle.hub_model.specs.State.{IssuedCopy, State, until_of}
+use Rattle.hub_model.specs.Step.{state_of}
+use Rattle.hub_model.specs.Until.{until_of_outdated}
+use Rattle.commit_book.specs.declared.change.Change.{Change}
+use Rattle.commit_book.specs.Contents.{Contents}
+use Rattle.commit_book.specs.Names.{Names, AreNamesOf}
+use Rattle.hub_model.specs.declared.entry.Entry.{Entry}
+use Rattle.hub_core.specs.CopiesView.{CopiesView, until_in}
+
+-- what a hub keeps
+pub record HubView : Type 0 where
+  pub setting : Setting
+  pub clock : ℕ
+  -- the number of commits
+  pub commits : ℕ
+  -- the changes that the book keeps
+  pub rows : List Change
+  pub front : ℕ
+  -- copies of keys, each with its commit and until when it may be kept
+  pub copies : List Copy
+  -- the keys of outdated copies, and until when these may be kept
+  pub outdated : List (KeyShape × ℕ)
+  -- the change for which the book has reserved memory
+  pub change : Option Change
+  -- the names in the book's index
+  pub names : Names
+  -- the keys of which the last copy expired, and that were not given since
+  pub idle : List KeyShape
+  -- the keys of which a copy can be issued without memory
+  pub ready : List KeyShape
+  -- the keys that can be invalidated without memory
+  pub invalidatable : List KeyShape
+
+-- the hub of these parts
+abbrev pub hub_of : Contents → ℕ → CopiesView → HubView
+hub_of book front h = record {
+  setting = h.setting;
+  clock = h.clock;
+  commits = length book.journal;
+  rows = book.journal;
+  front = front;
+  copies = h.copies;
+  outdated = h.outdated;
+  change = book.reserved;
+  names = book.names;
+  idle = h.idle;
+  ready = h.ready;
+  invalidatable = h.invalidatable;
+}
+
+-- Nothing is kept but what the history needs: no memory is reserved, no key is idle, and the index has the names of the rows alone.
+pub record IsLean (h : HubView) : Type 0 where
+  pub change : h.change ≡ None
+  pub names : AreNamesOf h.rows h.names
+  pub idle : h.idle ≡ []
+  pub ready : h.ready ≡ []
+  pub invalidatable : h.invalidatable ≡ []
+
+-- an issued copy, with its until
+abbrev pub copy_of : IssuedCopy → Copy
+copy_of r = (r.key, r.at, until_of r)
+
+-- the unexpired copies of a state
+abbrev pub copies_of : State → List Copy
+copies_of s = map copy_of (live s)
+
+-- the clock and the front are the state's
+pub record HasTime (now covered : ℕ) (s : State) : Type 0 where
+  pub clock : now ≡ s.clock
+  pub front : covered ≡ s.front
+
+-- the rows that a book keeps of a journal are all its changes
+abbrev pub KeepsRowsOf : List Change → List Change → Type 0
+KeepsRowsOf rows journal = rows ≡ journal
+
+-- the book keeps the journal of the state, and its number of commits
+pub record HasBook (count : ℕ) (kept : List Change) (s : State) : Type 0 where
+  pub commits : count ≡ length s.journal
+  pub rows : KeepsRowsOf kept s.journal
+
+-- whichever key and commits are asked for, the last copy may be kept as long as the state's
+abbrev pub HasCopies : List Copy → State → Type 0
+HasCopies copies s = SameCopies copies (copies_of s)
+
+-- each key is invalidated as long as its unexpired outdated copies may be kept
+abbrev pub HasInvalidations : List (KeyShape × ℕ) → State → Type 0
+HasInvalidations outdated s = (key : KeyShape) → until_in outdated key ≡ until_of_outdated s key
+
+-- The hub has come to this state.
+pub record IsAt (h : HubView) (s : State) : Type 0 where
+  pub time : HasTime h.clock h.front s
+  pub book : HasBook h.commits h.rows s
+  pub copies : HasCopies h.copies s
+  pub invalidations : HasInvalidations h.outdated s
+
+-- the hub has come to the state of the history, which is legal
+pub record Represents (h : HubView) (history : List Entry) : Type 0 where
+  pub state : IsAt h (state_of h.setting history)
+  pub legal : IsLegal h.setting history

@@ -1,0 +1,42 @@
+-- Internal. The keys that the commits of a match invalidate.
+use Rattle.std.specs.Prelude.{◌≡◌, ℕ, ◌==◌, Bool, false, ◌&&◌, List, map, filter, Option, Some, None, IsTrue, nat_le, nat_lt, option_map}
+use Rattle.std.specs.List.{list_any}
+use Rattle.query_normal.specs.Keys.{same_key}
+use Rattle.query_normal.specs.declared.key.KeyShape.{KeyShape}
+use Rattle.query_normal.specs.declared.key.KeyShape.TheVariants.{Record}
+use Rattle.issued_expiries.specs.Copies.{Copy, is_active}
+use Rattle.hub_model.specs.Outdated.{is_changed}
+use Rattle.hub_model.specs.Until.{greatest}
+use Rattle.commit_book.specs.declared.change.Change.{Change}
+use Rattle.commit_book.specs.Journal.{alteration}
+use Rattle.hub_core.specs.declared.invalidations.Invalidation.{Invalidation}
+use Rattle.hub_core.specs.CopiesView.{until_below}
+
+-- it is the invalidation of this key by this commit
+abbrev pub is_invalidation : KeyShape → ℕ → Invalidation → Bool
+is_invalidation key commit m = same_key key m.key && (m.commit == commit)
+
+-- a commit after one, up to another
+abbrev pub is_after : ℕ → ℕ → ℕ → Bool
+is_after front to commit = nat_lt front commit && nat_le commit to
+
+-- A commit invalidates an active key exactly where it comes after one commit, up to another, and changes the result of the key.
+abbrev pub AreInvalidationsOf : List Change → List Copy → ℕ → ℕ → List Invalidation → Type 0
+AreInvalidationsOf journal copies front to invalidations = (key : KeyShape) (commit : ℕ) → IsTrue (is_active copies key) → list_any (is_invalidation key commit) invalidations ≡ (is_after front to commit && is_changed key journal commit)
+
+-- the key of the record that a change is of
+abbrev pub key_of : Change → KeyShape
+key_of change = Record change.collection change.id
+
+-- the key whose result a commit changed, if it changed one
+abbrev pub altered_key : List Change → ℕ → Option KeyShape
+altered_key journal commit = option_map key_of (alteration journal commit)
+
+-- the key is that one
+abbrev pub is_key : KeyShape → Option KeyShape → Bool
+is_key key None = false
+is_key key (Some own) = same_key key own
+
+-- until when the last copy of a key that these invalidations outdate may be kept, or 0 without one
+abbrev pub invalidated_until : List Copy → List Invalidation → KeyShape → ℕ
+invalidated_until copies invalidations key = greatest (map (λ m. until_below copies m.key m.commit) (filter (λ m. same_key key m.key) invalidations))

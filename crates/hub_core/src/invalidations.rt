@@ -1,0 +1,81 @@
+//! The keys that the commits of a match invalidate.
+ghost use Rattle.std.specs.Prelude.{◌≡◌, ◌≤◌, ◌||◌, ◌&&◌, ◌==◌, ℕ, length, All, max, IfOk, OnOk};
+ghost use Rattle.std.specs.List.{list_any};
+ghost use Rattle.query_normal.specs.declared.key.KeyShape.{KeyShape as AKey};
+ghost use Rattle.hub_core.specs.CopiesView.{until_in, IsInvalidationReserved, CanInvalidate};
+ghost use Rattle.hub_core.specs.Invalidations.{key_of, is_key, altered_key, is_invalidation, AreInvalidationsOf, invalidated_until};
+
+use crate::copies::Copies;
+use commit_book::{Book, Change};
+use q_base::{Commit, Memory};
+use query_normal::Key;
+use std::alloc::Global;
+
+/// A key whose result a commit changed: its copies of earlier commits are outdated. So does Quaestor
+/// (Gessert et al., VLDB 2017) invalidate results.
+#[derive(Drop)]
+pub struct Invalidation {
+    pub key: Key,
+    pub commit: Commit,
+}
+
+/// The invalidations by the commits after one, up to another, with memory reserved for each. It looks at
+/// these commits only.
+pub fn reserve_invalidations(
+    alloc: Global,
+    book: &Book,
+    copies: &mut Copies,
+    front: Commit,
+    to: Commit,
+) -> Result<Vec<Invalidation>, Memory>
+    requires forward { front ≤ to }
+    requires within { to ≤ length book.now.journal }
+    ensures invalidations { IfOk result (λ invalidations. AreInvalidationsOf book.now.journal copies.new.copies front to invalidations.items) }
+    ensures reserved { IfOk result (λ invalidations. All (λ m. IsInvalidationReserved copies.new m.key) invalidations.items) }
+    ensures rest { copies.new ≡ record copies.old { invalidatable = copies.new.invalidatable } }
+{
+    let mut invalidations = Vec::new(alloc);
+    for commit in front..to {
+        push_invalidation(alloc, book, copies, commit + 1, &mut invalidations)?;
+    }
+    Ok(invalidations)
+}
+
+/// Adds the invalidation by a commit, with memory reserved for it.
+fn push_invalidation(
+    alloc: Global,
+    book: &Book,
+    copies: &mut Copies,
+    commit: Commit,
+    invalidations: &mut Vec<Invalidation>,
+) -> Result<(), Memory>
+    ensures invalidations { OnOk result ((key : AKey) (n : ℕ) → list_any (is_invalidation key n) invalidations.new.items ≡ (list_any (is_invalidation key n) invalidations.old.items || (is_key key (altered_key book.now.journal commit) && (commit == n)))) }
+    ensures reserved { OnOk result (All (λ m. IsInvalidationReserved copies.old m.key) invalidations.old.items → All (λ m. IsInvalidationReserved copies.new m.key) invalidations.new.items) }
+    ensures rest { copies.new ≡ record copies.old { invalidatable = copies.new.invalidatable } }
+{
+    if let Some(change) = book.altered(commit) {
+        let key = key_of(alloc, change)?;
+        copies.reserve_invalidation(&key)?;
+        invalidations.push(Invalidation { key, commit })?;
+    }
+    Ok(())
+}
+
+/// The key of the record that a change is of.
+fn key_of(alloc: Global, change: &Change) -> Result<Key, Memory>
+    ensures { IfOk result (λ key. key ≡ key_of change.now) }
+{
+    Key::record(alloc, change.collection.clone()?, change.id.clone()?)
+}
+
+/// Invalidates each key as long as its copies of commits before that of the invalidation may be kept.
+/// It takes no memory.
+pub fn invalidate_all(copies: &mut Copies, invalidations: &[Invalidation])
+    requires { All (λ m. CanInvalidate copies.old m.key) invalidations.now }
+    ensures outdated { (key : AKey) → until_in copies.new.outdated key ≡ max (until_in copies.old.outdated key) (invalidated_until copies.old.copies invalidations.now key) }
+    ensures rest { copies.new ≡ record copies.old { outdated = copies.new.outdated; invalidatable = copies.new.invalidatable } }
+{
+    for invalidation in invalidations {
+        copies.invalidate(&invalidation.key, invalidation.commit);
+    }
+}

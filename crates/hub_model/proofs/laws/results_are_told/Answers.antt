@@ -1,6 +1,0 @@
-use Rattle.hub_model.proofs.Results.{same_finding-Decides}
-use Rattle.hub_model.proofs.laws.results_are_told.Goals as goal
-
--- by the parts of the results
-pub returns : goal.returns
-returns c = same_finding-Decides
