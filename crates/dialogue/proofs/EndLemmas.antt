@@ -1,18 +1,18 @@
--- The bytes of a connection as its items, and the end that these tell.
+-- The bytes of a connection as its items, and the end that these determine.
 use Rattle.std.proofs.Common.{◌≡◌, ◌⊎◌, ℕ, suc, ◌+◌, ◌<◌, ◌≤◌, ◌++◌, Bool, true, false, not, ◌&&◌, List, [], ◌∷◌, length, Option, Some, None, All, refl, sym, ap, ◌∙◌, subst, inl, inr, arith, append-nil, append_assoc, length-append, nat_eq}
 use Rattle.std.proofs.lemmas.List.Elements.{All-nil, All-cons}
 use Rattle.std.proofs.lemmas.Bool.{cases_Bool, eqb-true, eq-eqb}
 use Rattle.http_message.specs.Item.{Item, request, unframed, IsItem, IsOpen, closes}
-use Rattle.http_message.specs.Laws.{OneSplit, OneCall}
+use Rattle.http_message.specs.Laws.{OneSplit, OneExpectation}
 use Rattle.http_message.specs.Split.{Piece, bytes_of, OnlyLastCloses, last_closes, IsSplit}
 use Rattle.http_message.specs.Taken.{continue_where}
 use Rattle.http_message.specs.Text.{is_blank}
-use Rattle.q_outside.specs.Told.{Takes, IsEnded, GaveBytes}
+use Rattle.q_outside.specs.Ends.{Takes, IsEnded, GaveBytes}
 use Rattle.q_outside.specs.declared.served.Served.{Served}
 use Rattle.q_outside.specs.declared.served.Why.{Why}
 use Rattle.q_outside.specs.declared.served.Why.TheVariants.{InputEnd, Truncated, BadFraming, CloseAsked, RequestLimit, ReadFault, WriteFault}
-use Rattle.dialogue.specs.Dialogue.{Sides, Exchange, Progress, Passed, IsStopped, IsClosed, Ends, pieces, texts, none_closes, request_limit, end_by}
-use Rattle.dialogue.specs.EndLaw.{IsWhole, IsTold, IsCallAt, last_end, end_of}
+use Rattle.dialogue.specs.Dialogue.{Sides, Exchange, Progress, Passed, EndsIncomplete, IsClosed, Ends, pieces, texts, none_closes, request_limit, end_by}
+use Rattle.dialogue.specs.EndLaw.{IsWhole, IsDetermined, ExpectsAt, last_end, end_of}
 use Rattle.dialogue.proofs.ItemLemmas.{AreItems, items_head, items_tail, some_by, open_by}
 
 -- the items of exchanges
@@ -52,7 +52,7 @@ none_going [] h = tt
 none_going (x ∷ []) h = tt
 none_going (x ∷ y ∷ ys) h = let p = opened (closes x.item) (none_closes (y ∷ ys)) h in (p.0, none_going (y ∷ ys) p.1)
 
--- where one that closes stands behind those that don't, it is the last
+-- where one that closes follows those that do not, it is the last
 closing_last : (xs : List Exchange) (x : Exchange) → closes x.item ≡ true → last_closes (pieces_of (xs ++ x ∷ [])) ≡ true
 closing_last [] x h = h
 closing_last (y ∷ []) x h = h
@@ -64,21 +64,21 @@ closing_going (y ∷ []) x h = ((opened (closes y.item) true h).0, tt)
 closing_going (y ∷ z ∷ zs) x h = let p = opened (closes y.item) (none_closes (z ∷ zs)) h in (p.0, closing_going (z ∷ zs) x p.1)
 
 -- where none closes, the last does not end the connection
-none_end : (place : ℕ) (xs : List Exchange) → none_closes xs ≡ true → last_end place (pieces_of xs) ≡ None
-none_end place [] h = refl
-none_end place (x ∷ []) h = open_by place x.item (opened (closes x.item) true h).0
-none_end place (x ∷ y ∷ ys) h = none_end (place + length x.piece) (y ∷ ys) (opened (closes x.item) (none_closes (y ∷ ys)) h).1
+none_end : (offset : ℕ) (xs : List Exchange) → none_closes xs ≡ true → last_end offset (pieces_of xs) ≡ None
+none_end offset [] h = refl
+none_end offset (x ∷ []) h = open_by offset x.item (opened (closes x.item) true h).0
+none_end offset (x ∷ y ∷ ys) h = none_end (offset + length x.piece) (y ∷ ys) (opened (closes x.item) (none_closes (y ∷ ys)) h).1
 
--- the last one ends the connection by its place
-closing_end : (place : ℕ) (xs : List Exchange) (x : Exchange) → last_end place (pieces_of (xs ++ x ∷ [])) ≡ end_by (place + length (pieces xs)) x.item
-closing_end place [] x = ap (λ n. end_by n x.item) (let same : place ≡ place + 0 = omega arith in same)
-closing_end place (y ∷ []) x =
+-- the last one ends the connection by its offset
+closing_end : (offset : ℕ) (xs : List Exchange) (x : Exchange) → last_end offset (pieces_of (xs ++ x ∷ [])) ≡ end_by (offset + length (pieces xs)) x.item
+closing_end offset [] x = ap (λ n. end_by n x.item) (let same : offset ≡ offset + 0 = omega arith in same)
+closing_end offset (y ∷ []) x =
     let size : length (y.piece ++ []) ≡ length y.piece = ap (λ (l : List ℕ). length l) (append-nil y.piece) in
-    ap (λ n. end_by n x.item) (let same : place + length y.piece ≡ place + length (y.piece ++ []) = omega (arith, size) in same)
-closing_end place (y ∷ z ∷ zs) x =
-    let rest : last_end (place + length y.piece) (pieces_of ((z ∷ zs) ++ x ∷ [])) ≡ end_by (place + length y.piece + length (pieces (z ∷ zs))) x.item = closing_end (place + length y.piece) (z ∷ zs) x in
+    ap (λ n. end_by n x.item) (let same : offset + length y.piece ≡ offset + length (y.piece ++ []) = omega (arith, size) in same)
+closing_end offset (y ∷ z ∷ zs) x =
+    let rest : last_end (offset + length y.piece) (pieces_of ((z ∷ zs) ++ x ∷ [])) ≡ end_by (offset + length y.piece + length (pieces (z ∷ zs))) x.item = closing_end (offset + length y.piece) (z ∷ zs) x in
     let size : length (y.piece ++ pieces (z ∷ zs)) ≡ length y.piece + length (pieces (z ∷ zs)) = length-append y.piece (pieces (z ∷ zs)) in
-    rest ∙ ap (λ n. end_by n x.item) (let same : place + length y.piece + length (pieces (z ∷ zs)) ≡ place + length (y.piece ++ pieces (z ∷ zs)) = omega (arith, size) in same)
+    rest ∙ ap (λ n. end_by n x.item) (let same : offset + length y.piece + length (pieces (z ∷ zs)) ≡ offset + length (y.piece ++ pieces (z ∷ zs)) = omega (arith, size) in same)
 
 -- an end is the one whose tests say so
 by_closing : (ps : List Piece) (rest : List ℕ) (why : Why) → last_end 0 ps ≡ Some why → end_of ps rest ≡ why
@@ -87,8 +87,8 @@ by_closing ps rest why h = rw h refl
 by_limit : (ps : List Piece) (rest : List ℕ) → last_end 0 ps ≡ None → nat_eq (length ps) request_limit ≡ true → end_of ps rest ≡ RequestLimit
 by_limit ps rest h k = rw (h, k) refl
 
-by_blank : (ps : List Piece) (rest : List ℕ) → last_end 0 ps ≡ None → nat_eq (length ps) request_limit ≡ false → is_blank rest ≡ true → end_of ps rest ≡ InputEnd
-by_blank ps rest h k b = rw (h, k, b) refl
+by_empty_lines : (ps : List Piece) (rest : List ℕ) → last_end 0 ps ≡ None → nat_eq (length ps) request_limit ≡ false → is_blank rest ≡ true → end_of ps rest ≡ InputEnd
+by_empty_lines ps rest h k b = rw (h, k, b) refl
 
 by_rest : (ps : List Piece) (rest : List ℕ) → last_end 0 ps ≡ None → nat_eq (length ps) request_limit ≡ false → is_blank rest ≡ false → end_of ps rest ≡ Truncated
 by_rest ps rest h k b = rw (h, k, b) refl
@@ -97,16 +97,16 @@ by_rest ps rest h k b = rw (h, k, b) refl
 below_limit : (n : ℕ) → n < request_limit → nat_eq n request_limit ≡ false
 below_limit n h = elim (cases_Bool (nat_eq n request_limit)) [ inl same ↦ absurd (let e : n ≡ request_limit = eqb-true n request_limit same in omega (arith, e, h)) | inr other ↦ other ]
 
--- of the bytes that were told, those taken and those left
+-- the bytes of the source are those taken and those left
 record Parted (bytes taken : List ℕ) (left : Option (List ℕ)) : Type 0 where
   unread : List ℕ
   left_is : left ≡ Some unread
   all : bytes ≡ taken ++ unread
 
--- a source that told its bytes tells them still
+-- a source that shows its bytes goes on to show them
 parted : (before after : Option (List ℕ)) (bytes taken : List ℕ) → before ≡ Some bytes → Takes before after taken → Parted bytes taken after
-parted before after bytes taken told t =
-    let u : Takes (Some bytes) after taken = subst (λ (o : Option (List ℕ)). Takes o after taken) told t in
+parted before after bytes taken shown t =
+    let u : Takes (Some bytes) after taken = subst (λ (o : Option (List ℕ)). Takes o after taken) shown t in
     record { unread = u.0; left_is = u.1; all = u.2 }
 
 -- what an ended source left is nothing
@@ -114,13 +114,13 @@ left_nothing : (left : Option (List ℕ)) (unread : List ℕ) → left ≡ Some 
 left_nothing left unread is end = let e : IsEnded (Some unread) = subst (λ (o : Option (List ℕ)). IsEnded o) is end in e
 
 -- A connection at which nothing failed, and its end.
-module _ (bytes : List ℕ) (a b : Sides) (xs : List Exchange) (rest : List ℕ) (told : a.source.bytes ≡ Some bytes) (p : Progress a b xs rest) where
-  -- the bytes as the items and all that is behind them
+module _ (bytes : List ℕ) (a b : Sides) (xs : List Exchange) (rest : List ℕ) (shown : a.source.bytes ≡ Some bytes) (p : Progress a b xs rest) where
+  -- the bytes as the items and all that follows them
   whole : Parted bytes (pieces xs ++ rest) b.source.bytes
-  whole = parted a.source.bytes b.source.bytes bytes (pieces xs ++ rest) told p.taken.taken
+  whole = parted a.source.bytes b.source.bytes bytes (pieces xs ++ rest) shown p.taken.taken
 
   -- a split of the bytes, of the items and of what ends them
-  split_of : length xs ≤ request_limit → OnlyLastCloses (pieces_of xs) → (last_closes (pieces_of xs) ≡ true) ⊎ ((length (pieces_of xs) ≡ request_limit) ⊎ ((called : Bool) × IsOpen (rest ++ whole.unread) called)) → IsSplit request_limit bytes (pieces_of xs) (rest ++ whole.unread)
+  split_of : length xs ≤ request_limit → OnlyLastCloses (pieces_of xs) → (last_closes (pieces_of xs) ≡ true) ⊎ ((length (pieces_of xs) ≡ request_limit) ⊎ ((expected : Bool) × IsOpen (rest ++ whole.unread) expected)) → IsSplit request_limit bytes (pieces_of xs) (rest ++ whole.unread)
   split_of few going ends =
       let all : bytes ≡ (pieces xs ++ rest) ++ whole.unread = whole.all in
       let joined : (pieces xs ++ rest) ++ whole.unread ≡ pieces xs ++ (rest ++ whole.unread) = append_assoc (pieces xs) rest whole.unread in
@@ -139,29 +139,29 @@ module _ (bytes : List ℕ) (a b : Sides) (xs : List Exchange) (rest : List ℕ)
     last : last_end 0 (pieces_of xs) ≡ None
     few : nat_eq (length (pieces_of xs)) request_limit ≡ false
 
-  at_end : IsStopped a b xs rest → IsEnded b.source.bytes → AtEnd
+  at_end : EndsIncomplete a b xs rest → IsEnded b.source.bytes → AtEnd
   at_end s end =
       let nothing : whole.unread ≡ [] = left_nothing b.source.bytes whole.unread whole.left_is end in
       let all : rest ++ whole.unread ≡ rest = ap (λ l. rest ++ l) nothing ∙ append-nil rest in
-      let open_all : IsOpen (rest ++ whole.unread) s.called = subst (λ (l : List ℕ). IsOpen l s.called) (sym all) s.is_open in
-      let split : IsSplit request_limit bytes (pieces_of xs) (rest ++ whole.unread) = split_of (omega (arith, s.on.few)) (none_going xs s.on.none) (inr (inr (s.called, open_all))) in
+      let open_all : IsOpen (rest ++ whole.unread) s.expected = subst (λ (l : List ℕ). IsOpen l s.expected) (sym all) s.is_open in
+      let split : IsSplit request_limit bytes (pieces_of xs) (rest ++ whole.unread) = split_of (omega (arith, s.on.few)) (none_going xs s.on.none) (inr (inr (s.expected, open_all))) in
       record {
         split = subst (λ (l : List ℕ). IsSplit request_limit bytes (pieces_of xs) l) all split;
         last = none_end 0 xs s.on.none;
         few = below_limit _ (omega (arith, s.on.few, length_is xs));
       }
 
-  -- the end that the bytes tell, and what was given behind the texts
-  abbrev Tells : Served → Type 0
-  Tells served = (called : Bool) × IsTold bytes served called × GaveBytes a.sink b.sink (texts xs ++ continue_where called)
+  -- the end that the bytes determine, and what was given after the texts
+  abbrev Determines : Served → Type 0
+  Determines served = (expected : Bool) × IsDetermined bytes served expected × GaveBytes a.sink b.sink (texts xs ++ continue_where expected)
 
-  -- what was given where nothing was called for
-  no_call : GaveBytes a.sink b.sink (texts xs) → GaveBytes a.sink b.sink (texts xs ++ [])
-  no_call given = subst (λ (l : List ℕ). GaveBytes a.sink b.sink l) (sym (append-nil (texts xs))) given
+  -- what was given where `100 Continue` was not expected
+  no_expectation : GaveBytes a.sink b.sink (texts xs) → GaveBytes a.sink b.sink (texts xs ++ [])
+  no_expectation given = subst (λ (l : List ℕ). GaveBytes a.sink b.sink l) (sym (append-nil (texts xs))) given
 
-  -- a connection that an item ended tells that end
-  closed_told : (requests : ℕ) (why : Why) → length xs ≡ requests → IsClosed a b xs why → ((l : List ℕ) → IsCallAt why l false) → Tells (record { requests = requests; why = why })
-  closed_told requests why count c call =
+  -- the end of a connection that an item ended
+  closed_determined : (requests : ℕ) (why : Why) → length xs ≡ requests → IsClosed a b xs why → ((l : List ℕ) → ExpectsAt why l false) → Determines (record { requests = requests; why = why })
+  closed_determined requests why count c call =
       let are : pieces_of xs ≡ pieces_of (c.others ++ c.last ∷ []) = ap pieces_of c.are in
       let closing : closes c.last.item ≡ true = some_by (length (pieces c.others)) c.last.item why c.closing in
       let last : last_closes (pieces_of xs) ≡ true = ap last_closes are ∙ closing_last c.others c.last closing in
@@ -175,42 +175,42 @@ module _ (bytes : List ℕ) (a b : Sides) (xs : List Exchange) (rest : List ℕ)
           split = split_of (omega (arith, size, c.on.few)) (subst (λ (l : List Piece). OnlyLastCloses l) (sym are) (closing_going c.others c.last c.on.none)) (inl last);
           requests_are = omega (arith, count, length_is xs);
           why_is = sym (by_closing (pieces_of xs) (rest ++ whole.unread) why end);
-          called_is = call (rest ++ whole.unread);
+          expected_is = call (rest ++ whole.unread);
         },
-        no_call c.given,
+        no_expectation c.given,
       )
 
-  -- a connection that ended tells its split, by its end
-  told_by : (requests : ℕ) (why : Why) → b.source.faults ≡ a.source.faults → b.sink.faults ≡ a.sink.faults → length xs ≡ requests → Ends why a b xs rest → Tells (record { requests = requests; why = why })
-  told_by requests InputEnd fi fo count ends =
+  -- the split of a connection that ended, by its end
+  determined_by : (requests : ℕ) (why : Why) → b.source.faults ≡ a.source.faults → b.sink.faults ≡ a.sink.faults → length xs ≡ requests → Ends why a b xs rest → Determines (record { requests = requests; why = why })
+  determined_by requests InputEnd fi fo count ends =
       let e : AtEnd = at_end ends.0 ends.1 in (
-        ends.0.called,
+        ends.0.expected,
         record {
           pieces = pieces_of xs;
           rest = rest;
           split = e.split;
           requests_are = omega (arith, count, length_is xs);
-          why_is = sym (by_blank (pieces_of xs) rest e.last e.few ends.2);
-          called_is = ends.0.is_open;
+          why_is = sym (by_empty_lines (pieces_of xs) rest e.last e.few ends.2);
+          expected_is = ends.0.is_open;
         },
         ends.0.given,
       )
-  told_by requests Truncated fi fo count ends =
+  determined_by requests Truncated fi fo count ends =
       let e : AtEnd = at_end ends.0 ends.1 in (
-        ends.0.called,
+        ends.0.expected,
         record {
           pieces = pieces_of xs;
           rest = rest;
           split = e.split;
           requests_are = omega (arith, count, length_is xs);
           why_is = sym (by_rest (pieces_of xs) rest e.last e.few ends.2);
-          called_is = ends.0.is_open;
+          expected_is = ends.0.is_open;
         },
         ends.0.given,
       )
-  told_by requests (BadFraming place) fi fo count ends = closed_told requests (BadFraming place) count ends (λ l. refl)
-  told_by requests CloseAsked fi fo count ends = closed_told requests CloseAsked count ends (λ l. refl)
-  told_by requests RequestLimit fi fo count ends =
+  determined_by requests (BadFraming offset) fi fo count ends = closed_determined requests (BadFraming offset) count ends (λ l. refl)
+  determined_by requests CloseAsked fi fo count ends = closed_determined requests CloseAsked count ends (λ l. refl)
+  determined_by requests RequestLimit fi fo count ends =
       let all : length (pieces_of xs) ≡ request_limit = length_is xs ∙ ends.all in (
         false,
         record {
@@ -219,32 +219,32 @@ module _ (bytes : List ℕ) (a b : Sides) (xs : List Exchange) (rest : List ℕ)
           split = split_of (omega (arith, ends.all)) (none_going xs ends.none) (inr (inl all));
           requests_are = omega (arith, count, length_is xs);
           why_is = sym (by_limit (pieces_of xs) (rest ++ whole.unread) (none_end 0 xs ends.none) (eq-eqb _ _ all));
-          called_is = refl;
+          expected_is = refl;
         },
-        no_call ends.given,
+        no_expectation ends.given,
       )
-  told_by requests ReadFault fi fo count ends = absurd (omega (arith, fi, ends.1))
-  told_by requests WriteFault fi fo count (inl broken) = absurd (omega (arith, fo, broken.breaks.rises))
-  told_by requests WriteFault fi fo count (inr uncalled) = absurd (omega (arith, fo, uncalled.breaks.rises))
+  determined_by requests ReadFault fi fo count ends = absurd (omega (arith, fi, ends.1))
+  determined_by requests WriteFault fi fo count (inl broken) = absurd (omega (arith, fo, broken.fails.rises))
+  determined_by requests WriteFault fi fo count (inr in_continue) = absurd (omega (arith, fo, in_continue.fails.rises))
 
 -- so does a connection at which nothing failed
-pub end_told : (bytes : List ℕ) (a b : Sides) (served : Served) → IsWhole bytes a b → (passed : Passed a b served) → (called : Bool) × IsTold bytes served called × GaveBytes a.sink b.sink (texts passed.exchanges ++ continue_where called)
-end_told bytes a b served w passed =
-    told_by bytes a b passed.exchanges passed.rest w.told passed.progress served.requests served.why w.no_fault_in w.no_fault_out passed.count passed.ends
+pub end_determined : (bytes : List ℕ) (a b : Sides) (served : Served) → IsWhole bytes a b → (passed : Passed a b served) → (expected : Bool) × IsDetermined bytes served expected × GaveBytes a.sink b.sink (texts passed.exchanges ++ continue_where expected)
+end_determined bytes a b served w passed =
+    determined_by bytes a b passed.exchanges passed.rest w.shown passed.progress served.requests served.why w.no_fault_in w.no_fault_out passed.count passed.ends
 
 -- the same bytes call for the same
-one_call_at : OneCall → (why : Why) (rest : List ℕ) (called other : Bool) → IsCallAt why rest called → IsCallAt why rest other → called ≡ other
-one_call_at one InputEnd rest called other c d = (one rest called other c).0 d
-one_call_at one Truncated rest called other c d = (one rest called other c).0 d
-one_call_at one (BadFraming place) rest called other c d = c ∙ sym d
-one_call_at one CloseAsked rest called other c d = c ∙ sym d
-one_call_at one RequestLimit rest called other c d = c ∙ sym d
-one_call_at one ReadFault rest called other c d = absurd c
-one_call_at one WriteFault rest called other c d = absurd c
+one_expectation_at : OneExpectation → (why : Why) (rest : List ℕ) (expected other : Bool) → ExpectsAt why rest expected → ExpectsAt why rest other → expected ≡ other
+one_expectation_at one InputEnd rest expected other c d = (one rest expected other c).0 d
+one_expectation_at one Truncated rest expected other c d = (one rest expected other c).0 d
+one_expectation_at one (BadFraming offset) rest expected other c d = c ∙ sym d
+one_expectation_at one CloseAsked rest expected other c d = c ∙ sym d
+one_expectation_at one RequestLimit rest expected other c d = c ∙ sym d
+one_expectation_at one ReadFault rest expected other c d = absurd c
+one_expectation_at one WriteFault rest expected other c d = absurd c
 
--- two splits are one, so they tell one end
-pub one_end : OneSplit → OneCall → (bytes : List ℕ) (served other : Served) (called again : Bool) → IsTold bytes served called → IsTold bytes other again → (served.requests ≡ other.requests) × (served.why ≡ other.why) × (called ≡ again)
-one_end split call bytes served other called again s t =
+-- two splits are one, so there is one end
+pub one_end : OneSplit → OneExpectation → (bytes : List ℕ) (served other : Served) (expected again : Bool) → IsDetermined bytes served expected → IsDetermined bytes other again → (served.requests ≡ other.requests) × (served.why ≡ other.why) × (expected ≡ again)
+one_end split call bytes served other expected again s t =
     let both = split request_limit bytes s.pieces t.pieces s.rest t.rest s.split t.split in
     let same : s.pieces ≡ t.pieces = both.0 in
     let rest : s.rest ≡ t.rest = both.1 in
@@ -253,5 +253,5 @@ one_end split call bytes served other called again s t =
     let here : served.why ≡ end_of s.pieces s.rest = s.why_is in
     let there : other.why ≡ end_of t.pieces t.rest = t.why_is in
     let reasons : served.why ≡ other.why = cc in
-    let moved : IsCallAt served.why s.rest again = subst (λ (y : Why). IsCallAt y s.rest again) (sym reasons) (subst (λ (l : List ℕ). IsCallAt other.why l again) (sym rest) t.called_is) in
-    (cc, reasons, one_call_at call served.why s.rest called again s.called_is moved)
+    let moved : ExpectsAt served.why s.rest again = subst (λ (y : Why). ExpectsAt y s.rest again) (sym reasons) (subst (λ (l : List ℕ). ExpectsAt other.why l again) (sym rest) t.expected_is) in
+    (cc, reasons, one_expectation_at call served.why s.rest expected again s.expected_is moved)

@@ -15,30 +15,30 @@ use Rattle.q_outside.specs.declared.served.Why.TheVariants.{BadFraming, CloseAsk
 use Rattle.dialogue.specs.Dialogue.{Exchange, pieces, texts, text_of, none_closes, end_by}
 
 -- an item ends the connection where it closes
-pub end-closes : (place : ℕ) (item : Item) → is_some (end_by place item) ≡ closes item
-end-closes place (request m) = elim (cases_Bool (asks_to_close m)) [ inl asks ↦ rw asks refl | inr stays ↦ rw stays refl ]
-end-closes place (unframed refused called head) = refl
+pub end-closes : (offset : ℕ) (item : Item) → is_some (end_by offset item) ≡ closes item
+end-closes offset (request m) = elim (cases_Bool (asks_to_close m)) [ inl asks ↦ rw asks refl | inr stays ↦ rw stays refl ]
+end-closes offset (unframed refused expected head) = refl
 
 -- one that does not end it does not close
-pub none_by : (place : ℕ) (item : Item) → end_by place item ≡ None → closes item ≡ false
-none_by place item h = sym (end-closes place item) ∙ ap is_some h
+pub none_by : (offset : ℕ) (item : Item) → end_by offset item ≡ None → closes item ≡ false
+none_by offset item h = sym (end-closes offset item) ∙ ap is_some h
 
 -- one that ends it closes
-pub some_by : (place : ℕ) (item : Item) (why : Why) → end_by place item ≡ Some why → closes item ≡ true
-some_by place item why h = sym (end-closes place item) ∙ ap is_some h
+pub some_by : (offset : ℕ) (item : Item) (why : Why) → end_by offset item ≡ Some why → closes item ≡ true
+some_by offset item why h = sym (end-closes offset item) ∙ ap is_some h
 
 -- one that does not close does not end it
-pub open_by : (place : ℕ) (item : Item) → closes item ≡ false → end_by place item ≡ None
-open_by place (request m) h = rw h refl
-open_by place (unframed refused called head) h = absurd (cc)
+pub open_by : (offset : ℕ) (item : Item) → closes item ≡ false → end_by offset item ≡ None
+open_by offset (request m) h = rw h refl
+open_by offset (unframed refused expected head) h = absurd (cc)
 
--- it is asked for, or the item's end cannot be told
-pub end_is : (place : ℕ) (item : Item) (why : Why) → end_by place item ≡ Some why → (why ≡ CloseAsked) ⊎ (why ≡ BadFraming place)
-end_is place (request m) why h = elim (cases_Bool (asks_to_close m)) [
-  | inl asks ↦ inl (let same : end_by place (request m) ≡ Some CloseAsked = rw asks refl in let both : Some why ≡ Some CloseAsked = sym h ∙ same in cc)
-  | inr stays ↦ absurd (let same : end_by place (request m) ≡ None = rw stays refl in cc)
+-- it is asked for, or the item's end cannot be determined
+pub end_is : (offset : ℕ) (item : Item) (why : Why) → end_by offset item ≡ Some why → (why ≡ CloseAsked) ⊎ (why ≡ BadFraming offset)
+end_is offset (request m) why h = elim (cases_Bool (asks_to_close m)) [
+  | inl asks ↦ inl (let same : end_by offset (request m) ≡ Some CloseAsked = rw asks refl in let both : Some why ≡ Some CloseAsked = sym h ∙ same in cc)
+  | inr stays ↦ absurd (let same : end_by offset (request m) ≡ None = rw stays refl in cc)
 ]
-end_is place (unframed refused called head) why h = inr (let both : Some why ≡ Some (BadFraming place) = sym h in cc)
+end_is offset (unframed refused expected head) why h = inr (let both : Some why ≡ Some (BadFraming offset) = sym h in cc)
 
 -- what the last exchange has comes last
 pub last_of : {A : Type 0} (f : Exchange → List A) (xs : List Exchange) (x : Exchange) → flat_map f (xs ++ x ∷ []) ≡ flat_map f xs ++ f x

@@ -1,4 +1,4 @@
--- What the bytes tell of a connection: its end, the number of its requests, what begins the text of a further one, and its items.
+-- Internal. What the bytes of a connection determine: its end, the number of its requests, whether a further one gets `100 Continue`, and its items.
 use Rattle.std.specs.Prelude.{◌≡◌, ℕ, ◌+◌, ◌==◌, ◌++◌, Bool, false, if◌then◌else◌, List, [], ◌∷◌, Option, Some, None, length, map, All, unwrap_or}
 use Rattle.http_message.specs.Item.{Item, IsItem, IsOpen}
 use Rattle.http_message.specs.Split.{Piece, IsSplit}
@@ -7,20 +7,20 @@ use Rattle.http_message.specs.Text.{is_blank}
 use Rattle.q_outside.specs.declared.served.Served.{Served}
 use Rattle.q_outside.specs.declared.served.Why.{Why}
 use Rattle.q_outside.specs.declared.served.Why.TheVariants.{InputEnd, Truncated, BadFraming, CloseAsked, RequestLimit, ReadFault, WriteFault}
-use Rattle.q_outside.specs.Told.{GaveBytes}
+use Rattle.q_outside.specs.Ends.{GaveBytes}
 use Rattle.dialogue.specs.Dialogue.{Sides, Exchange, Passed, end_by, pieces, request_limit, texts}
 
--- Source and sink of a connection at its beginning and its end, of which the source told these bytes and neither failed.
+-- Source and sink of a connection at its beginning and its end: the source shows these bytes, and neither failed.
 pub record IsWhole (bytes : List ℕ) (first last : Sides) : Type 0 where
-  pub told : first.source.bytes ≡ Some bytes
+  pub shown : first.source.bytes ≡ Some bytes
   pub no_fault_in : last.source.faults ≡ first.source.faults
   pub no_fault_out : last.sink.faults ≡ first.sink.faults
 
--- how the last of these items ends the connection, where it does; the first begins at this place
+-- how the last of these items ends the connection, where it does; the first begins at this offset
 abbrev pub last_end : ℕ → List Piece → Option Why
-last_end place [] = None
-last_end place (piece ∷ []) = end_by place piece.item
-last_end place (piece ∷ next ∷ pieces) = last_end (place + length piece.bytes) (next ∷ pieces)
+last_end offset [] = None
+last_end offset (piece ∷ []) = end_by offset piece.item
+last_end offset (piece ∷ next ∷ pieces) = last_end (offset + length piece.bytes) (next ∷ pieces)
 
 -- how a connection ends that no item ends
 abbrev pub open_end : ℕ → List ℕ → Why
@@ -30,38 +30,38 @@ open_end requests rest = if requests == request_limit then RequestLimit else (if
 abbrev pub end_of : List Piece → List ℕ → Why
 end_of pieces rest = unwrap_or (last_end 0 pieces) (open_end (length pieces) rest)
 
--- whether `100 Continue` was called for at the end, by the bytes behind the items
-abbrev pub IsCallAt : Why → List ℕ → Bool → Type 0
-IsCallAt InputEnd rest called = IsOpen rest called
-IsCallAt Truncated rest called = IsOpen rest called
-IsCallAt (BadFraming place) rest called = called ≡ false
-IsCallAt CloseAsked rest called = called ≡ false
-IsCallAt RequestLimit rest called = called ≡ false
-IsCallAt ReadFault rest called = ⊥
-IsCallAt WriteFault rest called = ⊥
+-- whether `100 Continue` was expected at the end, by the bytes after the items
+abbrev pub ExpectsAt : Why → List ℕ → Bool → Type 0
+ExpectsAt InputEnd rest expected = IsOpen rest expected
+ExpectsAt Truncated rest expected = IsOpen rest expected
+ExpectsAt (BadFraming offset) rest expected = expected ≡ false
+ExpectsAt CloseAsked rest expected = expected ≡ false
+ExpectsAt RequestLimit rest expected = expected ≡ false
+ExpectsAt ReadFault rest expected = ⊥
+ExpectsAt WriteFault rest expected = ⊥
 
--- The items are those of the bytes, and they tell the number of requests, the end, and whether `100 Continue` is called for there.
-pub record IsTold (bytes : List ℕ) (served : Served) (called : Bool) : Type 0 where
+-- The items are those of the bytes, and they determine the number of requests, the end, and whether `100 Continue` is expected there.
+pub record IsDetermined (bytes : List ℕ) (served : Served) (expected : Bool) : Type 0 where
   pub pieces : List Piece
   pub rest : List ℕ
   pub split : IsSplit request_limit bytes pieces rest
   pub requests_are : served.requests ≡ length pieces
   pub why_is : served.why ≡ end_of pieces rest
-  pub called_is : IsCallAt served.why rest called
+  pub expected_is : ExpectsAt served.why rest expected
 
--- where nothing fails, the bytes tell the number of requests, the end, and what the sink was given behind the texts
-abbrev pub EndIsTold : Type 0
-EndIsTold =
+-- where nothing fails, the bytes determine the number of requests, the end, and what the sink was given after the texts
+abbrev pub EndIsDetermined : Type 0
+EndIsDetermined =
     (bytes : List ℕ) (a b : Sides) (served : Served) → IsWhole bytes a b → (passed : Passed a b served)
-    → (called : Bool) × IsTold bytes served called × GaveBytes a.sink b.sink (texts passed.exchanges ++ continue_where called)
+    → (expected : Bool) × IsDetermined bytes served expected × GaveBytes a.sink b.sink (texts passed.exchanges ++ continue_where expected)
 
--- and they tell it in one way
+-- and they determine it in one way
 abbrev pub OneEnd : Type 0
 OneEnd =
-    (bytes : List ℕ) (served other : Served) (called again : Bool) → IsTold bytes served called → IsTold bytes other again
-    → (served.requests ≡ other.requests) × (served.why ≡ other.why) × (called ≡ again)
+    (bytes : List ℕ) (served other : Served) (expected again : Bool) → IsDetermined bytes served expected → IsDetermined bytes other again
+    → (served.requests ≡ other.requests) × (served.why ≡ other.why) × (expected ≡ again)
 
--- the first items of the bytes, so many, are those and no others
+-- the bytes and the number of items determine the items
 abbrev pub SameItems : Type 0
 SameItems =
     (xs ys : List Exchange) (rest left : List ℕ) → All (λ x. IsItem x.piece x.item) xs → All (λ y. IsItem y.piece y.item) ys

@@ -1,7 +1,7 @@
 //! Who answers the items of a connection.
 ghost use Rattle.std.specs.Prelude.{Bool, true, List, ℕ};
 ghost use Rattle.http_message.specs.Item.{Item as AnItem, request as a_request, unframed};
-ghost use Rattle.q_outside.specs.Told.{Gave};
+ghost use Rattle.q_outside.specs.Ends.{Gave};
 
 use http_message::{FramingRefusal, Request};
 use q_outside::{Failed, Sink};
@@ -12,7 +12,7 @@ pub trait Answers {
     /// The next item can be answered.
     ghost can: { Self → Type 0 };
 
-    /// From the first state the item was answered by this text, which left the second state. The
+    /// In the first state the item was answered by this text, which gave the second state. The
     /// reply is the last of its connection where the truth value says so.
     ghost answers: { Self → AnItem → Bool → List ℕ → Self → Type 0 };
 
@@ -31,7 +31,7 @@ pub trait Answers {
         ensures keeps { keeps self.old self.new }
         ensures reply { (text : List ℕ) × answers self.old (a_request request.now) close text self.new × Gave (K.at sink.old) (K.at sink.new) text result };
 
-    /// Answers a request whose end cannot be told, after which the connection ends. Its method is
+    /// Answers a request whose end cannot be determined, after which the connection ends. Its method is
     /// HEAD where `head` says so.
     fn refuse<K: Sink>(
         &mut self,
@@ -42,7 +42,7 @@ pub trait Answers {
         requires { can self.old }
         ensures can { can self.new }
         ensures keeps { keeps self.old self.new }
-        ensures reply { (called : Bool) → (text : List ℕ) × answers self.old (unframed refused called head) true text self.new × Gave (K.at sink.old) (K.at sink.new) text result };
+        ensures reply { (expected : Bool) → (text : List ℕ) × answers self.old (unframed refused expected head) true text self.new × Gave (K.at sink.old) (K.at sink.new) text result };
 
     ghost kept: { (a : Self) → keeps a a };
 

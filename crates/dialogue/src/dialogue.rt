@@ -1,8 +1,8 @@
 //! One connection: one item after the other is taken and answered.
 //!
-//! A turn takes the next item of the source's bytes, and has it answered before anything more is
-//! taken. What a turn does is one exchange more; the clause of the connection tells the list of
-//! them, the bytes that were taken besides, and what is true at the end that is answered.
+//! A round takes the next item of the source's bytes, and has it answered before anything more is
+//! taken. What a round does is one more exchange. The clause of the connection gives the list of
+//! them, the other bytes that were taken, and what is true at the end that is answered.
 ghost use Rattle.std.specs.Prelude.{◌≡◌, ℕ, ◌+◌, ◌<◌, ◌^◌, ◌||◌};
 ghost use Rattle.std.specs.Option.{is_some};
 ghost use Rattle.http_message.specs.Item.{request as a_request};
@@ -11,16 +11,16 @@ ghost use Rattle.dialogue.specs.Dialogue.{Dialogue, end_by};
 ghost use Rattle.dialogue.specs.Round.{IsRound};
 
 use crate::answers::Answers;
-use crate::step::Step;
+use crate::round_result::RoundResult;
 use http_message::{Request, RequestRoom, Taken, next_request};
 use q_outside::{Served, Sink, Source, Why};
 
-/// So many requests are answered on one connection.
+/// The greatest number of requests that are answered on one connection.
 pub const REQUEST_LIMIT: u64 = 10_000;
 
-/// How the connection ends after a request, where the request asks for it.
+/// How the connection ends after a request, where the request asks for it (RFC 9112, section 9.6).
 fn end_of(request: &Request<'_>) -> Option<Why>
-    ensures { (place : ℕ) → result ≡ end_by place (a_request request.now) }
+    ensures { (offset : ℕ) → result ≡ end_by offset (a_request request.now) }
 {
     if request.closes() {
         Some(Why::CloseAsked)
@@ -41,21 +41,21 @@ fn round<A: Answers, S: Source, K: Sink>(
     answerer: &mut A,
     source: &mut S,
     sink: &mut K,
-    room: &mut RequestRoom,
+    buffer: &mut RequestRoom,
     last: bool,
-) -> Step
+) -> RoundResult
     requires can { A.can answerer.old }
-    requires place { room.old.place + item_limit < 2 ^ 64 }
+    requires offset { buffer.old.offset + item_limit < 2 ^ 64 }
     ensures can { A.can answerer.new }
     ensures keeps { A.keeps answerer.old answerer.new }
-    ensures round { IsRound A.answers answerer.old answerer.new (record { source = S.at source.old; sink = K.at sink.old }) (record { source = S.at source.new; sink = K.at sink.new }) room.old room.new last result }
+    ensures round { IsRound A.answers answerer.old answerer.new (record { source = S.at source.old; sink = K.at sink.old }) (record { source = S.at source.new; sink = K.at sink.new }) buffer.old buffer.new last result }
 {
-    match next_request(source, sink, room) {
+    match next_request(source, sink, buffer) {
         Taken::Request { .. } => {
-            let request = room.request();
+            let request = buffer.request();
             let end = end_of(&request);
             let given = answerer.answer(sink, &request, is_last(end, last));
-            Step::of(given, end)
+            RoundResult::of(given, end)
         }
         Taken::Framing {
             refused,
@@ -63,12 +63,12 @@ fn round<A: Answers, S: Source, K: Sink>(
             head,
         } => {
             let given = answerer.refuse(sink, refused, head);
-            Step::of(given, Some(Why::BadFraming { place }))
+            RoundResult::of(given, Some(Why::BadFraming { place }))
         }
-        Taken::InputEnd => Step::Stopped(Why::InputEnd),
-        Taken::Truncated => Step::Stopped(Why::Truncated),
-        Taken::ReadFault => Step::Stopped(Why::ReadFault),
-        Taken::WriteFault => Step::Stopped(Why::WriteFault),
+        Taken::InputEnd => RoundResult::Incomplete(Why::InputEnd),
+        Taken::Truncated => RoundResult::Incomplete(Why::Truncated),
+        Taken::ReadFault => RoundResult::Incomplete(Why::ReadFault),
+        Taken::WriteFault => RoundResult::Incomplete(Why::WriteFault),
     }
 }
 
@@ -78,30 +78,36 @@ pub fn hold_dialogue<A: Answers, S: Source, K: Sink>(
     answerer: &mut A,
     source: &mut S,
     sink: &mut K,
-    room: &mut RequestRoom,
+    buffer: &mut RequestRoom,
 ) -> Served
     requires can { A.can answerer.old }
     ensures can { A.can answerer.new }
     ensures keeps { A.keeps answerer.old answerer.new }
     ensures dialogue { Dialogue A.answers answerer.old answerer.new (record { source = S.at source.old; sink = K.at sink.old }) (record { source = S.at source.new; sink = K.at sink.new }) result }
 {
-    room.clear();
+    buffer.clear();
     for requests in 0..REQUEST_LIMIT {
-        match round(answerer, source, sink, room, requests + 1 == REQUEST_LIMIT) {
-            Step::Went => {}
-            Step::Closed(why) => {
+        match round(
+            answerer,
+            source,
+            sink,
+            buffer,
+            requests + 1 == REQUEST_LIMIT,
+        ) {
+            RoundResult::KeptOpen => {}
+            RoundResult::Closed(why) => {
                 return Served {
                     requests: requests + 1,
                     why,
                 };
             }
-            Step::Broke => {
+            RoundResult::SinkFailed => {
                 return Served {
                     requests: requests + 1,
                     why: Why::WriteFault,
                 };
             }
-            Step::Stopped(why) => return Served { requests, why },
+            RoundResult::Incomplete(why) => return Served { requests, why },
         }
     }
     Served {

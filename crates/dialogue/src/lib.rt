@@ -4,10 +4,10 @@
 mod answers;
 mod dialogue;
 mod laws;
-mod step;
+mod round_result;
 #[cfg(test)]
 mod tests;
 
 pub use answers::Answers;
 pub use dialogue::{REQUEST_LIMIT, hold_dialogue};
-pub use laws::{bytes_tell_the_items, end_is_told_by_the_bytes, one_end_is_told};
+pub use laws::{bytes_determine_the_items, end_is_determined_by_the_bytes, one_end_is_determined};

@@ -1,6 +1,6 @@
-//! Each end of a connection, and that nothing is waited for before what is due was given.
+//! Each end of a connection, and that the source waits for nothing before what is due was given.
 ghost use Rattle.std.specs.Prelude.{◌≡◌, ◌<◌, None, codes, if◌then◌else◌};
-ghost use Rattle.q_outside.specs.Told.{Gave};
+ghost use Rattle.q_outside.specs.Ends.{Gave};
 
 use crate::{Answers, hold_dialogue};
 use http_message::{FramingRefusal, Request, RequestRoom};
@@ -39,7 +39,7 @@ const LAST: &[u8] = b"last;";
 /// Who answers each item by one of these replies, and counts the calls.
 #[derive(Drop)]
 struct Counter {
-    calls: u64,
+    answered: u64,
 }
 
 impl Answers for Counter {
@@ -55,7 +55,7 @@ impl Answers for Counter {
         _request: &Request<'_>,
         close: bool,
     ) -> Result<(), Failed> {
-        self.calls = self.calls.saturating_add(1);
+        self.answered = self.answered.saturating_add(1);
         reply(sink, close)
     }
 
@@ -65,7 +65,7 @@ impl Answers for Counter {
         _refused: FramingRefusal,
         _head: bool,
     ) -> Result<(), Failed> {
-        self.calls = self.calls.saturating_add(1);
+        self.answered = self.answered.saturating_add(1);
         reply(sink, true)
     }
 
@@ -104,17 +104,17 @@ fn hold_counted<L: Ledger>(
     requires some { 0 < L.parts }
 {
     let mut sink = ListSink::<L>::new(alloc, 100_000, script, blank)?;
-    let mut room = RequestRoom::new(alloc)?;
-    let mut counter = Counter { calls: 0 };
-    let served = hold_dialogue(&mut counter, source, &mut sink, &mut room);
+    let mut buffer = RequestRoom::new(alloc)?;
+    let mut counter = Counter { answered: 0 };
+    let served = hold_dialogue(&mut counter, source, &mut sink, &mut buffer);
     Ok(Outcome {
         served,
         written: sink.bytes,
-        answered: counter.calls,
+        answered: counter.answered,
     })
 }
 
-/// A script of which this call fails, and whose others move so many bytes at most.
+/// A script of which this call fails, and whose others move at most `size` bytes.
 fn script_of(alloc: Global, failing: Option<u64>, size: usize) -> Result<Script, Memory> {
     let mut calls = Vec::new(alloc);
     if let Some(call) = failing {
@@ -124,7 +124,7 @@ fn script_of(alloc: Global, failing: Option<u64>, size: usize) -> Result<Script,
     Ok(Script::of(calls, sizes))
 }
 
-/// Holds a dialogue over these texts, one behind another.
+/// Holds a dialogue over these texts, one after another.
 fn hold(
     alloc: Global,
     texts: &[&[u8]],
@@ -138,7 +138,7 @@ fn hold(
     hold_counted::<Brand>(alloc, &mut source, script, Blank::new(1))
 }
 
-/// Texts one behind another.
+/// Texts, one after another.
 fn all_of(alloc: Global, texts: &[&[u8]]) -> Result<Vec<u8>, Memory> {
     let mut all = Vec::new(alloc);
     for text in texts {
@@ -147,7 +147,7 @@ fn all_of(alloc: Global, texts: &[&[u8]]) -> Result<Vec<u8>, Memory> {
     Ok(all)
 }
 
-/// It went so.
+/// The outcome is this one.
 fn assert_outcome(
     rt: &impl Abort,
     outcome: &Outcome,
@@ -258,7 +258,7 @@ impl Sink for Shown<'_> {
     fn end(&mut self) {}
 }
 
-/// A source of pieces that fails where it is asked for one before so many bytes were given.
+/// A source of pieces that fails where it is asked for one before the due number of bytes was given.
 #[derive(Drop)]
 struct Patient<'a> {
     pieces: &'a [(&'a [u8], usize)],
@@ -303,9 +303,9 @@ fn nothing_is_taken_before_what_is_due_was_given(rt: HostRuntime) -> Result<(), 
         faults: 0,
     };
     let mut sink = Shown { count: &given };
-    let mut room = RequestRoom::new(rt.alloc())?;
-    let mut counter = Counter { calls: 0 };
-    let served = hold_dialogue(&mut counter, &mut source, &mut sink, &mut room);
+    let mut buffer = RequestRoom::new(rt.alloc())?;
+    let mut counter = Counter { answered: 0 };
+    let served = hold_dialogue(&mut counter, &mut source, &mut sink, &mut buffer);
     assert_eq!(rt;
         served,
         Served {

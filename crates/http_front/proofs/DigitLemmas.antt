@@ -1,4 +1,4 @@
--- Numbers of so many digits, and numbers that were written.
+-- The number of digits of a number, and numbers that were written.
 use Rattle.std.proofs.Common.{◌≡◌, ℕ, ◌+◌, ◌/◌, ◌%◌, ◌^◌, ◌<◌, ◌≤◌, List, [], ◌∷◌, ◌++◌, length, take, drop, decimal, arith, ap, sym, ◌∙◌}
 use Rattle.std.proofs.lemmas.Fmt.{decimal_digit, decimal_step, length-decimal-le}
 use Rattle.std.proofs.lemmas.List.{length-append}
@@ -51,7 +51,7 @@ four_more n many fits =
 pub few_digits : (n : ℕ) → n < 2 ^ 64 → length (decimal n) ≤ 20
 few_digits n fits = length-decimal-le 20 n (omega arith) (omega arith) fits
 
--- digits that were written from a place on stand behind what was there
+-- digits that were written from an offset on follow what was there
 pub number_put : (at start end : ℕ) (old new digits : List ℕ) → start + length digits ≡ end → end ≡ at + length digits → drop start new ≡ digits ++ drop end old → take start new ≡ take start old → take end new ≡ take at old ++ digits
 number_put at start end old new digits starts ends written before =
     let same : start ≡ at = omega arith in

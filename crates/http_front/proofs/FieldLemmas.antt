@@ -75,13 +75,13 @@ values_parts name fields i =
     ap (values name) (sym (take-append-drop i fields)) ∙ values-append name (take i fields) (drop i fields)
 
 -- a test that one value among the first does not pass
-pub all_fails : (test : List ℕ → Bool) (name : List ℕ) (fields : List Pair) (i : ℕ) (front : List (List ℕ)) (value : List ℕ)
-    → values name (take (i + 1) fields) ≡ front ++ value ∷ [] → test value ≡ false → list_all test (values name fields) ≡ false
-all_fails test name fields i front value more fails =
+pub all_fails : (test : List ℕ → Bool) (name : List ℕ) (fields : List Pair) (i : ℕ) (prefix : List (List ℕ)) (value : List ℕ)
+    → values name (take (i + 1) fields) ≡ prefix ++ value ∷ [] → test value ≡ false → list_all test (values name fields) ≡ false
+all_fails test name fields i prefix value more fails =
     rw (values_parts name fields (i + 1), more, list_all-append, list_all-append, fails)
-    (and_left (list_all test front && false) _ (and_right (list_all test front) false refl))
+    (and_left (list_all test prefix && false) _ (and_right (list_all test prefix) false refl))
 
 -- one that all pass
-pub all_passes : (test : List ℕ → Bool) (front : List (List ℕ)) (value : List ℕ)
-    → list_all test front ≡ true → test value ≡ true → list_all test (front ++ value ∷ []) ≡ true
-all_passes test front value so_far passes = rw (list_all-append, so_far, passes) refl
+pub all_passes : (test : List ℕ → Bool) (prefix : List (List ℕ)) (value : List ℕ)
+    → list_all test prefix ≡ true → test value ≡ true → list_all test (prefix ++ value ∷ []) ≡ true
+all_passes test prefix value so_far passes = rw (list_all-append, so_far, passes) refl

@@ -147,7 +147,7 @@ is_length n low =
     let number : is_number (decimal n) ≡ true = and_from _ _ some (and_from _ _ (decimal_digits n) fits) in
     rw (number, value) refl
 
--- a head that tells a length
+-- a head with a length
 pub frames : (h : Head) → ((n : ℕ) → h.length ≡ Some n → n < 2 ^ 64) → FramesItsBody h
 unfolding known_fields
 frames h small date n told bodied =

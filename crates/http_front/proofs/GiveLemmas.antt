@@ -1,6 +1,6 @@
 -- The text of a reply that was given.
 use Rattle.std.proofs.Common.{◌≡◌, ℕ, Bool, List, ◌++◌, Result, length, ap, ap₂, subst, ◌∙◌}
-use Rattle.q_outside.specs.Told.{End, Gave}
+use Rattle.q_outside.specs.Ends.{End, Gave}
 use Rattle.http_front.specs.Date.{IsDateOf}
 use Rattle.http_front.specs.Reply.{head_text, head_fields}
 use Rattle.http_front.specs.ReplyText.{IsHeadText, IsReplyText, body_of, clock_of, given_body, head_of}

@@ -40,12 +40,12 @@ lines-append : (xs ys : List Header) → print_headers (xs ++ ys) ≡ print_head
 lines-append xs ys = flat_map-append print_header xs ys
 
 -- one more piece in front
-one_more : (front : List ℕ) (xs ys : List Header) (end text : List ℕ) → print_headers xs ≡ text
-    → front ++ (print_headers (xs ++ ys) ++ end) ≡ (front ++ text) ++ (print_headers ys ++ end)
-one_more front xs ys end text same =
-    ap (λ t. front ++ (t ++ end)) (lines-append xs ys ∙ ap (λ t. t ++ print_headers ys) same)
-    ∙ ap (λ t. front ++ t) (append_assoc text (print_headers ys) end)
-    ∙ sym (append_assoc front text (print_headers ys ++ end))
+one_more : (prefix : List ℕ) (xs ys : List Header) (end text : List ℕ) → print_headers xs ≡ text
+    → prefix ++ (print_headers (xs ++ ys) ++ end) ≡ (prefix ++ text) ++ (print_headers ys ++ end)
+one_more prefix xs ys end text same =
+    ap (λ t. prefix ++ (t ++ end)) (lines-append xs ys ∙ ap (λ t. t ++ print_headers ys) same)
+    ∙ ap (λ t. prefix ++ t) (append_assoc text (print_headers ys) end)
+    ∙ sym (append_assoc prefix text (print_headers ys ++ end))
 
 -- the pieces of a head
 pub head_pieces : (h : Head) (date : List ℕ) → head_text h.status (head_fields h date)

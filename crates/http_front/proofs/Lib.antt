@@ -2,6 +2,7 @@ mod AskLemmas
 mod CutLemmas
 mod DateLemmas
 mod DigitLemmas
+mod EarlyLemmas
 mod FieldLemmas
 mod NumberLemmas
 mod FramingLemmas
@@ -10,7 +11,7 @@ mod HeadLines
 mod StatusLemmas
 mod PathLemmas
 mod PieceLemmas
-mod PlainLemmas
+mod UnescapedLemmas
 mod QueryLemmas
 mod ReadLemmas
 mod RecordLemmas

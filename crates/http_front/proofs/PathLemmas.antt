@@ -11,14 +11,14 @@ use Rattle.matchit.specs.Rows.{RowsOf, param_token, catch_all_token}
 use Rattle.matchit.specs.Seek.{own, step, or_else, seek, first, param_step, has_slash, segment, longest_suffix, with_suffix, same_text}
 use Rattle.http_front.specs.declared.routes.Route.{Route}
 use Rattle.http_front.specs.declared.routes.Route.TheVariants.{Record}
-use Rattle.http_front.proofs.RecordLemmas.{first_value, route_of_record, value_of, no_param, no_token, param_slash, plain, rest, seek_none, seek_skip, under, less_one}
+use Rattle.http_front.proofs.RecordLemmas.{first_value, route_of_record, value_of, no_param, no_token, param_slash, value_rows, rest, seek_none, seek_skip, under, less_one}
 
 module _ {K : Type 0} where
   or_none : (o : Option K) → or_else o None ≡ o
   or_none None = refl
   or_none (Some key) = refl
 
-  -- no parameter stands next: the walk goes on by the byte alone
+  -- the next segment is no parameter: the walk goes on by the byte alone
   pub by_byte : (b : ℕ) (p : List ℕ) (r : RowsOf K) → step param_token r ≡ [] → step catch_all_token r ≡ []
       → seek 0 r (b ∷ p) ≡ seek 0 (step b r) p
   unfolding seek
@@ -143,10 +143,10 @@ lacks_seek zero r (b ∷ p) h =
 
 -- a text with a slash up to its first one, or without
 record Cut (path : List ℕ) : Type 0 where
-  front : List ℕ
+  prefix : List ℕ
   left : List ℕ
-  is : path ≡ front ++ 47 ∷ left
-  whole : has_slash front ≡ false
+  is : path ≡ prefix ++ 47 ∷ left
+  whole : has_slash prefix ≡ false
 
 cut_at_slash : (path : List ℕ) → (has_slash path ≡ false) ⊎ Cut path
 cut_at_slash [] = inl refl
@@ -155,10 +155,10 @@ cut_at_slash (x ∷ p) = by (x == 47) refl (cut_at_slash p)
     by : (v : Bool) → (x == 47) ≡ v → (has_slash p ≡ false) ⊎ Cut p → (has_slash (x ∷ p) ≡ false) ⊎ Cut (x ∷ p)
     by true q h =
         let same : x ≡ 47 = grind (arith, nat_tests) in
-        inr (record { front = []; left = p; is = ap (λ b. b ∷ p) same; whole = refl })
+        inr (record { prefix = []; left = p; is = ap (λ b. b ∷ p) same; whole = refl })
     by false q (inl none) = inl (rw q none)
     by false q (inr cut) =
-        inr (record { front = x ∷ cut.front; left = cut.left; is = ap (λ t. x ∷ t) cut.is; whole = rw q cut.whole })
+        inr (record { prefix = x ∷ cut.prefix; left = cut.left; is = ap (λ t. x ∷ t) cut.is; whole = rw q cut.whole })
 
 slash_in : (w left : List ℕ) → has_slash (w ++ 47 ∷ left) ≡ true
 slash_in [] left = refl
@@ -270,21 +270,21 @@ slash_stops : (left : List ℕ) → param_step behind_name (47 ∷ left) ≡ (0,
 unfolding param_step
 slash_stops left = refl
 
-names_cut : (front left : List ℕ) → has_slash front ≡ false → AreBytes (front ++ 47 ∷ left)
-    → first names_row (front ++ 47 ∷ left) ≡ Some Record → Names (front ++ 47 ∷ left)
+names_cut : (prefix left : List ℕ) → has_slash prefix ≡ false → AreBytes (prefix ++ 47 ∷ left)
+    → first names_row (prefix ++ 47 ∷ left) ≡ Some Record → Names (prefix ++ 47 ∷ left)
 names_cut [] left e low found =
     absurd (let stops : param_step behind_name (47 ∷ left) ≡ (0, []) = slash_stops left in
     let none = sym (walk_on 47 left (omega arith) found) ∙ ap (λ taken. seek (taken.0 - 1) taken.1 left) stops ∙ seek_none (0 - 1) left in cc)
-names_cut (x ∷ front) left e low found =
-    let taken = param_slash (x ∷ front) left (256 ∷ []) Record (omega arith) e in
+names_cut (x ∷ prefix) left e low found =
+    let taken = param_slash (x ∷ prefix) left (256 ∷ []) Record (omega arith) e in
     let behind : seek 0 behind_name (47 ∷ left) ≡ Some Record =
-    sym (ap (λ t. seek (t.0 - 1) t.1 (front ++ 47 ∷ left)) taken
-    ∙ ap (λ k. seek k behind_name (front ++ 47 ∷ left)) (less_one (length front))
-    ∙ seek_skip front (47 ∷ left) behind_name)
-    ∙ walk_on x (front ++ 47 ∷ left) low.0 found in
-    let last = id_back left ((later_bytes front (47 ∷ left) low.1).1) (sym (by_byte 47 left behind_name refl refl) ∙ behind) in
+    sym (ap (λ t. seek (t.0 - 1) t.1 (prefix ++ 47 ∷ left)) taken
+    ∙ ap (λ k. seek k behind_name (prefix ++ 47 ∷ left)) (less_one (length prefix))
+    ∙ seek_skip prefix (47 ∷ left) behind_name)
+    ∙ walk_on x (prefix ++ 47 ∷ left) low.0 found in
+    let last = id_back left ((later_bytes prefix (47 ∷ left) low.1).1) (sym (by_byte 47 left behind_name refl refl) ∙ behind) in
     record {
-      collection = x ∷ front;
+      collection = x ∷ prefix;
       id = left;
       is = refl;
       collection_some = omega arith;
@@ -303,7 +303,7 @@ names_back (x ∷ p) low e = by (cut_at_slash (x ∷ p))
         absurd (stuck_by (param_step behind_name (x ∷ p)) p (no_later_slash x p none) (param_rows (x ∷ p)) (walk_on x p low.0 e))
     by (inr cut) =
         subst Names (sym cut.is)
-        (names_cut cut.front cut.left cut.whole (subst AreBytes cut.is low) (ap (λ q. first names_row q) (sym cut.is) ∙ e))
+        (names_cut cut.prefix cut.left cut.whole (subst AreBytes cut.is low) (ap (λ q. first names_row q) (sym cut.is) ∙ e))
 
 -- behind `/v1/` only `d/` leads to a record
 abbrev kinds : RowsOf Route
@@ -330,7 +330,7 @@ kind_back (x ∷ p) e = by (100 == x) refl
         (sym (ap (λ v. seek 0 (cond v ((47 ∷ 256 ∷ 47 ∷ 256 ∷ [], Record) ∷ step x rest) (step x rest)) p) q) ∙ further))
 
 -- a record's route among all
-record_back : (path : List ℕ) → AreBytes path → first plain path ≡ Some Record → Names (drop 6 path) × (path ≡ codes "/v1/d/" ++ drop 6 path)
+record_back : (path : List ℕ) → AreBytes path → first value_rows path ≡ Some Record → Names (drop 6 path) × (path ≡ codes "/v1/d/" ++ drop 6 path)
 record_back path low e =
     let version = under_found (codes "/v1/") kinds path Record (omega arith, (omega arith, (omega arith, (omega arith, tt)))) e in
     let kind = kind_back version.left version.found in

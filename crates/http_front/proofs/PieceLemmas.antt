@@ -3,7 +3,7 @@ use Rattle.std.proofs.Common.{◌≡◌, ℕ, ◌+◌, ◌<◌, ◌≤◌, List,
 use Rattle.std.specs.List.{flat_map}
 use Rattle.std.proofs.lemmas.Grind.{flat_map-append}
 use Rattle.std.proofs.lemmas.List.{append-nil, take_more, take-append-drop, take-append-le, take_all}
-use Rattle.q_outside.specs.Told.{End, Gives, GaveBytes, GavePart, Gave}
+use Rattle.q_outside.specs.Ends.{End, Gives, GaveBytes, GavePart, Gave}
 use Rattle.http_front.specs.Pieces.{parts_text}
 use Rattle.q_outside.proofs.Chain.{gave_both, part_behind}
 
@@ -29,11 +29,11 @@ given_more before mid after parts i part inside is p q =
     (gave_both before mid after (parts_text (take i parts)) part p q)
 
 -- the beginning of a beginning
-part_of : (before after : End) (front more : List ℕ) → GavePart before after front → GavePart before after (front ++ more)
-part_of before after front more p = record {
+part_of : (before after : End) (prefix more : List ℕ) → GavePart before after prefix → GavePart before after (prefix ++ more)
+part_of before after prefix more p = record {
   size = p.size;
-  part = omega (arith, p.part, length-append front more);
-  given = subst (λ t. Gives before.bytes after.bytes t) (sym (take-append-le p.size front more p.part)) p.given;
+  part = omega (arith, p.part, length-append prefix more);
+  given = subst (λ t. Gives before.bytes after.bytes t) (sym (take-append-le p.size prefix more p.part)) p.given;
   rises = p.rises;
 }
 

@@ -1,13 +1,14 @@
 -- The fields of a query one by one.
 use Rattle.std.proofs.Common.{◌≡◌, ℕ, true, false, List, [], ◌∷◌, ◌++◌, map, refl, sym, ap, inl, inr, append_assoc}
-use Rattle.std.proofs.lemmas.Bool.{cases_Bool, or_left, false_from_ne_true}
+use Rattle.std.proofs.lemmas.Bool.{cases_Bool, or_left, false_from_ne_true, true≢false}
 use Rattle.std.proofs.lemmas.Str.{IsUtf8-from_is_utf8, is_utf8-from_IsUtf8}
 use Rattle.std.specs.Prelude.{bytes_eq, Option, Some, None}
 use Rattle.std.specs.Str.{IsUtf8, is_utf8}
 use Rattle.percent_encoding.specs.Percent.{percent_decode}
-use Rattle.http_front.specs.Query.{NamedValue, decoded, field_of, fields_of, is_among, name_of, pieces_of, spaced, with_field}
+use Rattle.http_front.specs.Query.{NamedValue, decoded, field_of, fields_in, fields_of, is_among, name_of, pieces_of, spaced, takes_fields, with_field}
 use Rattle.http_front.specs.Target.{ahead_of, behind}
 use Rattle.http_front.specs.declared.routes.Route.{Route}
+use Rattle.http_front.specs.declared.routes.Route.TheVariants.{Record, Query, Filter, Purges, Match, Stats}
 use Rattle.http_front.proofs.CutLemmas.{parted, whole}
 
 among_by : (name rest : List ℕ) (o : Option (List ℕ)) → behind 38 rest ≡ o
@@ -33,8 +34,8 @@ among_next name rest others e other = rw ((parted 38 rest others e).split, other
 
 -- fields behind others
 abbrev pub behind_fields : List NamedValue → Option (List NamedValue) → Option (List NamedValue)
-behind_fields front None = None
-behind_fields front (Some values) = Some (front ++ values)
+behind_fields prefix None = None
+behind_fields prefix (Some values) = Some (prefix ++ values)
 
 no_fields : (route : Route) (piece : List ℕ) (pieces : List (List ℕ)) → field_of route piece ≡ None
     → fields_of route (piece ∷ pieces) ≡ None
@@ -51,35 +52,35 @@ fields_by route rest (Some others) e bad =
     rw ((parted 38 rest others e).split) (no_fields route (ahead_of 38 rest) (pieces_of others) bad)
 
 -- the first piece is no field of the route
-pub fields_bad : (route : Route) (front : List NamedValue) (rest : List ℕ) → field_of route (ahead_of 38 rest) ≡ None
-    → behind_fields front (fields_of route (pieces_of rest)) ≡ None
-fields_bad route front rest bad = ap (behind_fields front) (fields_by route rest (behind 38 rest) refl bad)
+pub fields_bad : (route : Route) (prefix : List NamedValue) (rest : List ℕ) → field_of route (ahead_of 38 rest) ≡ None
+    → behind_fields prefix (fields_of route (pieces_of rest)) ≡ None
+fields_bad route prefix rest bad = ap (behind_fields prefix) (fields_by route rest (behind 38 rest) refl bad)
 
 -- it is one, and it is the last
-pub fields_last : (route : Route) (front : List NamedValue) (rest : List ℕ) (value : NamedValue) → behind 38 rest ≡ None
+pub fields_last : (route : Route) (prefix : List NamedValue) (rest : List ℕ) (value : NamedValue) → behind 38 rest ≡ None
     → field_of route (ahead_of 38 rest) ≡ Some value
-    → behind_fields front (fields_of route (pieces_of rest)) ≡ Some (front ++ value ∷ [])
-fields_last route front rest value e good = rw (whole 38 rest e, good) refl
+    → behind_fields prefix (fields_of route (pieces_of rest)) ≡ Some (prefix ++ value ∷ [])
+fields_last route prefix rest value e good = rw (whole 38 rest e, good) refl
 
 -- it is repeated
-pub fields_repeated : (route : Route) (front : List NamedValue) (rest others : List ℕ) → behind 38 rest ≡ Some others
+pub fields_repeated : (route : Route) (prefix : List NamedValue) (rest others : List ℕ) → behind 38 rest ≡ Some others
     → is_among (name_of (ahead_of 38 rest)) (pieces_of others) ≡ true
-    → behind_fields front (fields_of route (pieces_of rest)) ≡ None
-fields_repeated route front rest others e again = rw ((parted 38 rest others e).split, again) refl
+    → behind_fields prefix (fields_of route (pieces_of rest)) ≡ None
+fields_repeated route prefix rest others e again = rw ((parted 38 rest others e).split, again) refl
 
-joined : (front : List NamedValue) (value : NamedValue) (values : Option (List NamedValue))
-    → behind_fields front (with_field (Some value) values) ≡ behind_fields (front ++ value ∷ []) values
-joined front value None = refl
-joined front value (Some values) = ap (λ l. Some l) (sym (append_assoc front (value ∷ []) values))
+joined : (prefix : List NamedValue) (value : NamedValue) (values : Option (List NamedValue))
+    → behind_fields prefix (with_field (Some value) values) ≡ behind_fields (prefix ++ value ∷ []) values
+joined prefix value None = refl
+joined prefix value (Some values) = ap (λ l. Some l) (sym (append_assoc prefix (value ∷ []) values))
 
 -- it is not
-pub fields_next : (route : Route) (front : List NamedValue) (rest others : List ℕ) (value : NamedValue) → behind 38 rest ≡ Some others
+pub fields_next : (route : Route) (prefix : List NamedValue) (rest others : List ℕ) (value : NamedValue) → behind 38 rest ≡ Some others
     → field_of route (ahead_of 38 rest) ≡ Some value
     → is_among (name_of (ahead_of 38 rest)) (pieces_of others) ≡ false
-    → behind_fields front (fields_of route (pieces_of rest))
-    ≡ behind_fields (front ++ value ∷ []) (fields_of route (pieces_of others))
-fields_next route front rest others value e good once =
-    rw ((parted 38 rest others e).split, once, good) (joined front value (fields_of route (pieces_of others)))
+    → behind_fields prefix (fields_of route (pieces_of rest))
+    ≡ behind_fields (prefix ++ value ∷ []) (fields_of route (pieces_of others))
+fields_next route prefix rest others value e good once =
+    rw ((parted 38 rest others e).split, once, good) (joined prefix value (fields_of route (pieces_of others)))
 
 -- no fields ahead of others
 pub fields_first : (values : Option (List NamedValue)) → behind_fields [] values ≡ values
@@ -97,3 +98,17 @@ utf8_yes bytes text = is_utf8-from_IsUtf8 bytes text
 pub decoded_spaced : (text copy : List ℕ) → copy ≡ map spaced text → percent_decode copy ≡ decoded text
 unfolding decoded
 decoded_spaced text copy e = ap percent_decode e
+
+-- a route that takes no fields has no query
+no_fields_of : (route : Route) (rest : List ℕ) → takes_fields route ≡ false → fields_of route (pieces_of rest) ≡ None
+no_fields_of Query rest takes = absurd (true≢false takes)
+no_fields_of Purges rest takes = absurd (true≢false takes)
+no_fields_of Record rest takes = fields_by Record rest (behind 38 rest) refl refl
+no_fields_of Filter rest takes = fields_by Filter rest (behind 38 rest) refl refl
+no_fields_of Match rest takes = fields_by Match rest (behind 38 rest) refl refl
+no_fields_of Stats rest takes = fields_by Stats rest (behind 38 rest) refl refl
+
+pub no_fields_in : (route : Route) (query : Option (List ℕ)) (text : List ℕ) → query ≡ Some text → takes_fields route ≡ false
+    → fields_in route query ≡ None
+unfolding fields_in
+no_fields_in route query text is takes = rw is (no_fields_of route text takes)

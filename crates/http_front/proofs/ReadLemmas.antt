@@ -59,9 +59,9 @@ tag_good : (o : Option ℕ) → AreGood (tag_field o)
 unfolding is_token_byte
 tag_good None = none_good
 tag_good (Some n) =
-    let mark : AreVisible (codes "\"") = record { all = refl } in
+    let separator : AreVisible (codes "\"") = record { all = refl } in
     one_good (codes "ETag") (codes "\"" ++ (decimal n ++ codes "\"")) refl
-    (visible_value (codes "\"" ++ (decimal n ++ codes "\"")) (visible-append mark (visible-append (decimal_visible n) mark)))
+    (visible_value (codes "\"" ++ (decimal n ++ codes "\"")) (visible-append separator (visible-append (decimal_visible n) separator)))
 
 lifetime_good : (ttl : ℕ) → AreGood (lifetime_field ttl)
 unfolding is_token_byte
@@ -137,7 +137,7 @@ one_reply bytes status other fields others rest more p q =
       same.1,
     )
 
--- what is told has one text
+-- what is answered has one text
 pub one_text : RepliesHaveOneText
 one_text shape told page close text other p q =
     p.text_is ∙ ap (λ d. reply_text (reply_of shape told page d close)) (one_date _ p.date q.date p.dated q.dated) ∙ sym q.text_is

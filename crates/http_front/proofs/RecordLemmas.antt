@@ -134,30 +134,30 @@ abbrev pub under : List ℕ → RowsOf Route → RowsOf Route
 under w [] = []
 under w ((t, key) ∷ rows) = (w ++ t, key) ∷ under w rows
 
-abbrev pub plain : RowsOf Route
-plain = under (codes "/v1/") ((codes "d/" ++ 256 ∷ 47 ∷ 256 ∷ [], Record) ∷ rest)
+abbrev pub value_rows : RowsOf Route
+value_rows = under (codes "/v1/") ((codes "d/" ++ 256 ∷ 47 ∷ 256 ∷ [], Record) ∷ rest)
 
 abbrev pub value_of : RouteOf Route → Route
 value_of row = row.value
 
-is_plain : rename value_of table ≡ plain
+is_value_rows : rename value_of table ≡ value_rows
 unfolding table matchit_on_literals
-is_plain = refl
+is_value_rows = refl
 
 -- a path of this form
 abbrev pub record_path : List ℕ → List ℕ → List ℕ
 record_path c i = codes "/v1/d/" ++ (c ++ 47 ∷ i)
 
 plain_found : (x : ℕ) (c : List ℕ) (y : ℕ) (i : List ℕ) → x ≢ 256 → y ≢ 256
-    → has_slash (x ∷ c) ≡ false → has_slash (y ∷ i) ≡ false → first plain (record_path (x ∷ c) (y ∷ i)) ≡ Some Record
+    → has_slash (x ∷ c) ≡ false → has_slash (y ∷ i) ≡ false → first value_rows (record_path (x ∷ c) (y ∷ i)) ≡ Some Record
 plain_found x c y i x_other y_other e f =
     let rest = x ∷ c ++ 47 ∷ y ∷ i in
-    seek_byte 47 (118 ∷ 49 ∷ 47 ∷ 100 ∷ 47 ∷ rest) plain Record
-    (seek_byte 118 (49 ∷ 47 ∷ 100 ∷ 47 ∷ rest) (step 47 plain) Record
-    (seek_byte 49 (47 ∷ 100 ∷ 47 ∷ rest) (step 118 (step 47 plain)) Record
-    (seek_byte 47 (100 ∷ 47 ∷ rest) (step 49 (step 118 (step 47 plain))) Record
-    (seek_byte 100 (47 ∷ rest) (step 47 (step 49 (step 118 (step 47 plain)))) Record
-    (seek_byte 47 rest (step 100 (step 47 (step 49 (step 118 (step 47 plain))))) Record
+    seek_byte 47 (118 ∷ 49 ∷ 47 ∷ 100 ∷ 47 ∷ rest) value_rows Record
+    (seek_byte 118 (49 ∷ 47 ∷ 100 ∷ 47 ∷ rest) (step 47 value_rows) Record
+    (seek_byte 49 (47 ∷ 100 ∷ 47 ∷ rest) (step 118 (step 47 value_rows)) Record
+    (seek_byte 47 (100 ∷ 47 ∷ rest) (step 49 (step 118 (step 47 value_rows))) Record
+    (seek_byte 100 (47 ∷ rest) (step 47 (step 49 (step 118 (step 47 value_rows)))) Record
+    (seek_byte 47 rest (step 100 (step 47 (step 49 (step 118 (step 47 value_rows))))) Record
     (names_found x c y i Record x_other y_other e f))))))
 
 values_same : (o : Option (RouteOf Route)) → option_map value_of o ≡ map_key value_of o
@@ -165,9 +165,9 @@ values_same None = refl
 values_same (Some row) = refl
 
 -- the value of the first row is the first value
-pub first_value : (path : List ℕ) → option_map value_of (first table path) ≡ first plain path
+pub first_value : (path : List ℕ) → option_map value_of (first table path) ≡ first value_rows path
 first_value path =
-    values_same (first table path) ∙ sym (seek-rename value_of 0 table path) ∙ ap (λ rows. first rows path) is_plain
+    values_same (first table path) ∙ sym (seek-rename value_of 0 table path) ∙ ap (λ rows. first rows path) is_value_rows
 
 -- a path of this form, whose names have no slash, is a record's
 pub route_of_record : (c i : List ℕ) → 0 < length c → 0 < length i → has_slash c ≡ false → has_slash i ≡ false

@@ -105,10 +105,10 @@ too-large : text_at_100 get (Refusal (Framing BodyTooLarge) 100) true ≡ codes 
 unfolding head_text head_fields status_line digits get put head
 too-large = refl
 
--- a write for which there is no room
-no-room : text_at_100 put (Write (Full 65837 100)) false ≡ codes "HTTP/1.1 507 Insufficient Storage\r\nDate: Thu, 01 Jan 1970 00:01:40 GMT\r\nContent-Type: application/json\r\nContent-Length: 36\r\nCache-Control: no-store\r\n\r\n{\"bytes\":65837,\"error\":\"store_full\"}"
+-- a write that the store has no capacity for
+no-buffer : text_at_100 put (Write (Full 65837 100)) false ≡ codes "HTTP/1.1 507 Insufficient Storage\r\nDate: Thu, 01 Jan 1970 00:01:40 GMT\r\nContent-Type: application/json\r\nContent-Length: 36\r\nCache-Control: no-store\r\n\r\n{\"bytes\":65837,\"error\":\"store_full\"}"
 unfolding head_text head_fields status_line digits put
-no-room = refl
+no-buffer = refl
 
 -- want of memory
 no-memory : text_at_100 get Memory false ≡ codes "HTTP/1.1 503 Service Unavailable\r\nContent-Type: application/json\r\nContent-Length: 18\r\nCache-Control: no-store\r\n\r\n{\"error\":\"memory\"}"

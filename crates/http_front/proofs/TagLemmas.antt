@@ -17,14 +17,14 @@ use Rattle.http_front.proofs.FieldLemmas.{values-nil}
 
 -- the pieces with these bytes before them
 abbrev pub prefixed : List ℕ → List (List ℕ) → List (List ℕ)
-prefixed front [] = front ∷ []
-prefixed front (piece ∷ pieces) = (front ++ piece) ∷ pieces
+prefixed prefix [] = prefix ∷ []
+prefixed prefix (piece ∷ pieces) = (prefix ++ piece) ∷ pieces
 
 nil_onto : (byte : ℕ) (pieces : List (List ℕ)) → prefixed [] (onto_first byte pieces) ≡ onto_first byte pieces
 nil_onto byte [] = refl
 nil_onto byte (piece ∷ pieces) = refl
 
-nil_parted : (mark : Bool) (byte : ℕ) (pieces : List (List ℕ)) → prefixed [] (parted_by mark byte pieces) ≡ parted_by mark byte pieces
+nil_parted : (separator : Bool) (byte : ℕ) (pieces : List (List ℕ)) → prefixed [] (parted_by separator byte pieces) ≡ parted_by separator byte pieces
 nil_parted true byte pieces = refl
 nil_parted false byte pieces = nil_onto byte pieces
 
@@ -35,10 +35,10 @@ prefixed-nil quoted (byte ∷ bytes) =
     nil_parted (not quoted && byte == 44) byte (pieces_from (quotes quoted byte) bytes)
 
 -- one byte more before them
-prefixed_onto : (front : List ℕ) (byte : ℕ) (pieces : List (List ℕ))
-    → prefixed front (onto_first byte pieces) ≡ prefixed (front ++ byte ∷ []) pieces
-prefixed_onto front byte [] = refl
-prefixed_onto front byte (piece ∷ pieces) = ap (λ ys. ys ∷ pieces) (sym (append_assoc front (byte ∷ []) piece))
+prefixed_onto : (prefix : List ℕ) (byte : ℕ) (pieces : List (List ℕ))
+    → prefixed prefix (onto_first byte pieces) ≡ prefixed (prefix ++ byte ∷ []) pieces
+prefixed_onto prefix byte [] = refl
+prefixed_onto prefix byte (piece ∷ pieces) = ap (λ ys. ys ∷ pieces) (sym (append_assoc prefix (byte ∷ []) piece))
 
 -- a byte that parts no pieces
 pub passed : (list : List ℕ) (i byte : ℕ) (quoted : Bool) → i < length list → byte ≡ get_or list i 0
@@ -47,10 +47,10 @@ pub passed : (list : List ℕ) (i byte : ℕ) (quoted : Bool) → i < length lis
     → pieces_from false list ≡ prefixed (take (i + 1) list) (pieces_from (quotes quoted byte) (drop (i + 1) list))
 passed list i byte quoted below is inside so_far =
     let here = drop_more list i 0 below in
-    let front : take (i + 1) list ≡ take i list ++ byte ∷ [] = rw is (take_more list i 0 below) in
+    let prefix : take (i + 1) list ≡ take i list ++ byte ∷ [] = rw is (take_more list i 0 below) in
     so_far
     ∙ ap (λ ys. prefixed (take i list) (pieces_from quoted ys)) here
-    ∙ rw (← is, inside, front) (prefixed_onto (take i list) byte (pieces_from (quotes quoted byte) (drop (i + 1) list)))
+    ∙ rw (← is, inside, prefix) (prefixed_onto (take i list) byte (pieces_from (quotes quoted byte) (drop (i + 1) list)))
 
 -- a comma that does
 pub parted_here : (list : List ℕ) (i byte : ℕ) (quoted : Bool) → i < length list → byte ≡ get_or list i 0
@@ -111,147 +111,149 @@ take_of_taken zero xs ys = refl
 take_of_taken (suc n) [] ys = refl
 take_of_taken (suc n) (x ∷ xs) ys = ap (λ zs. x ∷ zs) (take_of_taken n xs ys)
 
-adds_both : (comparison : Comparison) (tags others : Option (List Tag)) (old mid new : List ℕ) (result : Result (Unit {0}) TagRefusal)
-    → Adds comparison tags old mid (Ok tt) → Adds comparison others mid new result → Adds comparison (both tags others) old new result
-adds_both comparison None others old mid new result (inl e) second = absurd (cc)
-adds_both comparison None others old mid new result (inr e) second = absurd (cc)
-adds_both comparison (Some tags) others old mid new result (inl e) second = absurd (cc)
-adds_both comparison (Some tags) None old mid new result (inr first) second = second
-adds_both comparison (Some tags) (Some others) old mid new result (inr first) (inl e) = inl e
-adds_both comparison (Some tags) (Some others) old mid new result (inr first) (inr second) =
-    inr (second.0, second.1 ∙ rw (first.1, filter_map-append (commit_of comparison) tags others, ← append_assoc) (take_of_taken 16 (old ++ filter_map (commit_of comparison) tags) (filter_map (commit_of comparison) others)))
-
--- first the commits of some members, and then those of others
-pub adds_more : (comparison : Comparison) (xs ys : List (List ℕ)) (old mid new : List ℕ) (result : Result (Unit {0}) TagRefusal)
-    → Adds comparison (tags_of xs) old mid (Ok tt) → Adds comparison (tags_of ys) mid new result
-    → Adds comparison (tags_of (xs ++ ys)) old new result
-adds_more comparison xs ys old mid new result first second =
-    rw (tags_of-append xs ys) (adds_both comparison (tags_of xs) (tags_of ys) old mid new result first second)
-
-fails_both : (comparison : Comparison) (tags others : Option (List Tag)) (old mid : List ℕ) (refused : TagRefusal)
-    → Adds comparison tags old mid (Err refused) → Adds comparison (both tags others) old mid (Err refused)
-fails_both comparison None others old mid refused first = first
-fails_both comparison (Some tags) None old mid refused (inl e) = inl e
-fails_both comparison (Some tags) (Some others) old mid refused (inl e) = inl e
-fails_both comparison (Some tags) others old mid refused (inr e) = absurd (cc)
-
--- some members fail, and so do all
-pub fails_more : (comparison : Comparison) (xs ys : List (List ℕ)) (old mid : List ℕ) (refused : TagRefusal)
-    → Adds comparison (tags_of xs) old mid (Err refused) → Adds comparison (tags_of (xs ++ ys)) old mid (Err refused)
-fails_more comparison xs ys old mid refused first =
-    rw (tags_of-append xs ys) (fails_both comparison (tags_of xs) (tags_of ys) old mid refused first)
-
--- no more than 16 are added
-pub adds_few : (comparison : Comparison) (tags : Option (List Tag)) (old new : List ℕ) → Adds comparison tags old new (Ok tt)
-    → length new ≤ 16
-adds_few comparison None old new (inl e) = absurd (cc)
-adds_few comparison None old new (inr e) = absurd (cc)
-adds_few comparison (Some tags) old new (inl e) = absurd (cc)
-adds_few comparison (Some tags) old new (inr done) =
-    rw done.1 (omega (arith, length-take 16 (old ++ filter_map (commit_of comparison) tags)))
-
-full_by : (comparison : Comparison) (tag : Option Tag) (commits : List ℕ) (commit : ℕ) → length commits ≡ 16
-    → Ok (Some commit) ≡ commit_by comparison tag → Adds comparison (with_tag tag (Some [])) commits commits (Ok tt)
-full_by comparison None commits commit full is = absurd (cc)
-full_by comparison (Some tag) commits commit full is =
-    inr (
-      refl,
-      sym (take-append-le 16 commits (filter_map (commit_of comparison) (tag ∷ [])) (omega arith)
-          ∙ take_all 16 commits (omega arith)),
-    )
-
--- a commit for which there is no room
-pub adds_full : (comparison : Comparison) (member commits : List ℕ) (commit : ℕ) → (length member == 0) ≡ false
-    → nat_le 16 (length commits) ≡ true → length commits ≤ 16 → Ok (Some commit) ≡ commit_by comparison (tag_of member)
-    → Adds comparison (tags_of (filter (λ m. nat_lt 0 (length m)) (member ∷ []))) commits commits (Ok tt)
-adds_full comparison member commits commit some full few is =
-    let long : nat_lt 0 (length member) ≡ true = lt-ltb 0 (length member) (omega (arith, eqb-false (length member) 0 some)) in
-    let room : length commits ≡ 16 = omega (arith, leb-true 16 (length commits) full) in
-    rw long (full_by comparison (tag_of member) commits commit room is)
-
--- the first member fails
-pub fails_list : (comparison : Comparison) (list member trimmed : List ℕ) (rest : Option (List ℕ)) (old new : List ℕ) (refused : TagRefusal)
-    → pieces_from false list ≡ member ∷ pieces_behind rest → trimmed ≡ trim_ows member
-    → Adds comparison (tags_of (filter (λ m. nat_lt 0 (length m)) (trimmed ∷ []))) old new (Err refused)
-    → Adds comparison (tags_of (members_of list)) old new (Err refused)
-fails_list comparison list member trimmed None old new refused pieces is fails =
-    rw (members_last list member None pieces refl, ← is) fails
-fails_list comparison list member trimmed (Some others) old new refused pieces is fails =
-    rw (members_more list member (Some others) others pieces refl, ← is)
-    (fails_more comparison (filter (λ m. nat_lt 0 (length m)) (trimmed ∷ [])) (members_of others) old new refused fails)
-
--- the last one is added
-pub adds_last : (comparison : Comparison) (list member trimmed : List ℕ) (rest : Option (List ℕ)) (old new : List ℕ)
-    → pieces_from false list ≡ member ∷ pieces_behind rest → rest ≡ None → trimmed ≡ trim_ows member
-    → Adds comparison (tags_of (filter (λ m. nat_lt 0 (length m)) (trimmed ∷ []))) old new (Ok tt)
-    → Adds comparison (tags_of (members_of list)) old new (Ok tt)
-adds_last comparison list member trimmed rest old new pieces none is adds =
-    rw (members_last list member rest pieces none, ← is) adds
-
--- one is added, and then the others
-pub adds_next : (comparison : Comparison) (list member trimmed others : List ℕ) (rest : Option (List ℕ)) (old mid new : List ℕ) (result : Result (Unit {0}) TagRefusal)
-    → pieces_from false list ≡ member ∷ pieces_behind rest → rest ≡ Some others → trimmed ≡ trim_ows member
-    → Adds comparison (tags_of (filter (λ m. nat_lt 0 (length m)) (trimmed ∷ []))) old mid (Ok tt)
-    → Adds comparison (tags_of (members_of others)) mid new result
-    → Adds comparison (tags_of (members_of list)) old new result
-adds_next comparison list member trimmed others rest old mid new result pieces some is first second =
-    rw (members_more list member rest others pieces some, ← is)
-    (adds_more comparison (filter (λ m. nat_lt 0 (length m)) (trimmed ∷ [])) (members_of others) old mid new result first second)
-
--- no value
-pub adds_none : (comparison : Comparison) (name commits : List ℕ) → commits ≡ []
-    → Adds comparison (tags_of (flat_map members_of (values name []))) [] commits (Ok tt)
-adds_none comparison name commits is = rw (values-nil name) (inr (refl, is))
-
 one_value : (value : List ℕ) → flat_map members_of (value ∷ []) ≡ members_of value
 one_value value = append-nil (members_of value)
 
--- one value more
-pub adds_value : (comparison : Comparison) (front more : List (List ℕ)) (value mid new : List ℕ) (result : Result (Unit {0}) TagRefusal)
-    → more ≡ front ++ value ∷ []
-    → Adds comparison (tags_of (flat_map members_of front)) [] mid (Ok tt)
-    → Adds comparison (tags_of (members_of value)) mid new result
-    → Adds comparison (tags_of (flat_map members_of more)) [] new result
-adds_value comparison front more value mid new result is first second =
-    rw (is, flat_map-append members_of front (value ∷ []), one_value value)
-    (adds_more comparison (flat_map members_of front) (members_of value) [] mid new result first second)
+-- Tags that are compared in one way.
+module _ (comparison : Comparison) where
+  adds_both : (tags others : Option (List Tag)) (old mid new : List ℕ) (result : Result (Unit {0}) TagRefusal)
+      → Adds comparison tags old mid (Ok tt) → Adds comparison others mid new result → Adds comparison (both tags others) old new result
+  adds_both None others old mid new result (inl e) second = absurd (cc)
+  adds_both None others old mid new result (inr e) second = absurd (cc)
+  adds_both (Some tags) others old mid new result (inl e) second = absurd (cc)
+  adds_both (Some tags) None old mid new result (inr first) second = second
+  adds_both (Some tags) (Some others) old mid new result (inr first) (inl e) = inl e
+  adds_both (Some tags) (Some others) old mid new result (inr first) (inr second) =
+      inr (second.0, second.1 ∙ rw (first.1, filter_map-append (commit_of comparison) tags others, ← append_assoc) (take_of_taken 16 (old ++ filter_map (commit_of comparison) tags) (filter_map (commit_of comparison) others)))
 
--- no value more
-pub adds_same : (comparison : Comparison) (front more : List (List ℕ)) (commits : List ℕ) → more ≡ front ++ []
-    → Adds comparison (tags_of (flat_map members_of front)) [] commits (Ok tt)
-    → Adds comparison (tags_of (flat_map members_of more)) [] commits (Ok tt)
-adds_same comparison front more commits is adds = rw (is ∙ append-nil front) adds
+  -- first the commits of some members, and then those of others
+  pub adds_more : (xs ys : List (List ℕ)) (old mid new : List ℕ) (result : Result (Unit {0}) TagRefusal)
+      → Adds comparison (tags_of xs) old mid (Ok tt) → Adds comparison (tags_of ys) mid new result
+      → Adds comparison (tags_of (xs ++ ys)) old new result
+  adds_more xs ys old mid new result first second =
+      rw (tags_of-append xs ys) (adds_both (tags_of xs) (tags_of ys) old mid new result first second)
 
-answers_fails : (comparison : Comparison) (tags : Option (List Tag)) (new : List ℕ) (refused : TagRefusal)
-    → Adds comparison tags [] new (Err refused) → Answers (commits_by comparison tags) (Err refused)
-answers_fails comparison None new refused (inl e) = inl (cc)
-answers_fails comparison None new refused (inr e) = inr (cc)
-answers_fails comparison (Some tags) new refused (inl e) = inl (cc)
-answers_fails comparison (Some tags) new refused (inr done) = absurd (cc)
+  fails_both : (tags others : Option (List Tag)) (old mid : List ℕ) (refused : TagRefusal)
+      → Adds comparison tags old mid (Err refused) → Adds comparison (both tags others) old mid (Err refused)
+  fails_both None others old mid refused first = first
+  fails_both (Some tags) None old mid refused (inl e) = inl e
+  fails_both (Some tags) (Some others) old mid refused (inl e) = inl e
+  fails_both (Some tags) others old mid refused (inr e) = absurd (cc)
 
--- the values fail with the first ones
-pub fails_values : (comparison : Comparison) (front more all others : List (List ℕ)) (value mid new : List ℕ) (refused : TagRefusal)
-    → more ≡ front ++ value ∷ [] → all ≡ more ++ others
-    → Adds comparison (tags_of (flat_map members_of front)) [] mid (Ok tt)
-    → Adds comparison (tags_of (members_of value)) mid new (Err refused)
-    → Answers (commits_in comparison all) (Err refused)
-unfolding commits_in
-fails_values comparison front more all others value mid new refused is whole first second =
-    rw (whole, flat_map-append members_of more others)
-    (answers_fails comparison (tags_of (flat_map members_of more ++ flat_map members_of others)) new refused
-    (fails_more comparison (flat_map members_of more) (flat_map members_of others) [] new refused
-    (adds_value comparison front more value mid new (Err refused) is first second)))
+  -- some members fail, and so do all
+  pub fails_more : (xs ys : List (List ℕ)) (old mid : List ℕ) (refused : TagRefusal)
+      → Adds comparison (tags_of xs) old mid (Err refused) → Adds comparison (tags_of (xs ++ ys)) old mid (Err refused)
+  fails_more xs ys old mid refused first =
+      rw (tags_of-append xs ys) (fails_both (tags_of xs) (tags_of ys) old mid refused first)
 
-answers_done : (comparison : Comparison) (tags : Option (List Tag)) (commits : List ℕ)
-    → Adds comparison tags [] commits (Ok tt) → Answers (commits_by comparison tags) (Ok commits)
-answers_done comparison None commits (inl e) = absurd (cc)
-answers_done comparison None commits (inr e) = absurd (cc)
-answers_done comparison (Some tags) commits (inl e) = absurd (cc)
-answers_done comparison (Some tags) commits (inr done) = inr (ap (λ c. Ok c) done.1)
+  -- no more than 16 are added
+  pub adds_few : (tags : Option (List Tag)) (old new : List ℕ) → Adds comparison tags old new (Ok tt)
+      → length new ≤ 16
+  adds_few None old new (inl e) = absurd (cc)
+  adds_few None old new (inr e) = absurd (cc)
+  adds_few (Some tags) old new (inl e) = absurd (cc)
+  adds_few (Some tags) old new (inr done) =
+      rw done.1 (omega (arith, length-take 16 (old ++ filter_map (commit_of comparison) tags)))
 
--- all values are added
-pub adds_all : (comparison : Comparison) (first all : List (List ℕ)) (commits : List ℕ) → first ≡ all
-    → Adds comparison (tags_of (flat_map members_of first)) [] commits (Ok tt) → Answers (commits_in comparison all) (Ok commits)
-unfolding commits_in
-adds_all comparison first all commits is adds =
-    rw (← is) (answers_done comparison (tags_of (flat_map members_of first)) commits adds)
+  full_by : (tag : Option Tag) (commits : List ℕ) (commit : ℕ) → length commits ≡ 16
+      → Ok (Some commit) ≡ commit_by comparison tag → Adds comparison (with_tag tag (Some [])) commits commits (Ok tt)
+  full_by None commits commit full is = absurd (cc)
+  full_by (Some tag) commits commit full is =
+      inr (
+        refl,
+        sym (take-append-le 16 commits (filter_map (commit_of comparison) (tag ∷ [])) (omega arith)
+            ∙ take_all 16 commits (omega arith)),
+      )
+
+  -- a commit beyond the 16th
+  pub adds_full : (member commits : List ℕ) (commit : ℕ) → (length member == 0) ≡ false
+      → nat_le 16 (length commits) ≡ true → length commits ≤ 16 → Ok (Some commit) ≡ commit_by comparison (tag_of member)
+      → Adds comparison (tags_of (filter (λ m. nat_lt 0 (length m)) (member ∷ []))) commits commits (Ok tt)
+  adds_full member commits commit some full few is =
+      let long : nat_lt 0 (length member) ≡ true = lt-ltb 0 (length member) (omega (arith, eqb-false (length member) 0 some)) in
+      let buffer : length commits ≡ 16 = omega (arith, leb-true 16 (length commits) full) in
+      rw long (full_by (tag_of member) commits commit buffer is)
+
+  -- the first member fails
+  pub fails_list : (list member trimmed : List ℕ) (rest : Option (List ℕ)) (old new : List ℕ) (refused : TagRefusal)
+      → pieces_from false list ≡ member ∷ pieces_behind rest → trimmed ≡ trim_ows member
+      → Adds comparison (tags_of (filter (λ m. nat_lt 0 (length m)) (trimmed ∷ []))) old new (Err refused)
+      → Adds comparison (tags_of (members_of list)) old new (Err refused)
+  fails_list list member trimmed None old new refused pieces is fails =
+      rw (members_last list member None pieces refl, ← is) fails
+  fails_list list member trimmed (Some others) old new refused pieces is fails =
+      rw (members_more list member (Some others) others pieces refl, ← is)
+      (fails_more (filter (λ m. nat_lt 0 (length m)) (trimmed ∷ [])) (members_of others) old new refused fails)
+
+  -- the last one is added
+  pub adds_last : (list member trimmed : List ℕ) (rest : Option (List ℕ)) (old new : List ℕ)
+      → pieces_from false list ≡ member ∷ pieces_behind rest → rest ≡ None → trimmed ≡ trim_ows member
+      → Adds comparison (tags_of (filter (λ m. nat_lt 0 (length m)) (trimmed ∷ []))) old new (Ok tt)
+      → Adds comparison (tags_of (members_of list)) old new (Ok tt)
+  adds_last list member trimmed rest old new pieces none is adds =
+      rw (members_last list member rest pieces none, ← is) adds
+
+  -- one is added, and then the others
+  pub adds_next : (list member trimmed others : List ℕ) (rest : Option (List ℕ)) (old mid new : List ℕ) (result : Result (Unit {0}) TagRefusal)
+      → pieces_from false list ≡ member ∷ pieces_behind rest → rest ≡ Some others → trimmed ≡ trim_ows member
+      → Adds comparison (tags_of (filter (λ m. nat_lt 0 (length m)) (trimmed ∷ []))) old mid (Ok tt)
+      → Adds comparison (tags_of (members_of others)) mid new result
+      → Adds comparison (tags_of (members_of list)) old new result
+  adds_next list member trimmed others rest old mid new result pieces some is first second =
+      rw (members_more list member rest others pieces some, ← is)
+      (adds_more (filter (λ m. nat_lt 0 (length m)) (trimmed ∷ [])) (members_of others) old mid new result first second)
+
+  -- no value
+  pub adds_none : (name commits : List ℕ) → commits ≡ []
+      → Adds comparison (tags_of (flat_map members_of (values name []))) [] commits (Ok tt)
+  adds_none name commits is = rw (values-nil name) (inr (refl, is))
+
+  -- one value more
+  pub adds_value : (prefix more : List (List ℕ)) (value mid new : List ℕ) (result : Result (Unit {0}) TagRefusal)
+      → more ≡ prefix ++ value ∷ []
+      → Adds comparison (tags_of (flat_map members_of prefix)) [] mid (Ok tt)
+      → Adds comparison (tags_of (members_of value)) mid new result
+      → Adds comparison (tags_of (flat_map members_of more)) [] new result
+  adds_value prefix more value mid new result is first second =
+      rw (is, flat_map-append members_of prefix (value ∷ []), one_value value)
+      (adds_more (flat_map members_of prefix) (members_of value) [] mid new result first second)
+
+  -- no value more
+  pub adds_same : (prefix more : List (List ℕ)) (commits : List ℕ) → more ≡ prefix ++ []
+      → Adds comparison (tags_of (flat_map members_of prefix)) [] commits (Ok tt)
+      → Adds comparison (tags_of (flat_map members_of more)) [] commits (Ok tt)
+  adds_same prefix more commits is adds = rw (is ∙ append-nil prefix) adds
+
+  answers_fails : (tags : Option (List Tag)) (new : List ℕ) (refused : TagRefusal)
+      → Adds comparison tags [] new (Err refused) → Answers (commits_by comparison tags) (Err refused)
+  answers_fails None new refused (inl e) = inl (cc)
+  answers_fails None new refused (inr e) = inr (cc)
+  answers_fails (Some tags) new refused (inl e) = inl (cc)
+  answers_fails (Some tags) new refused (inr done) = absurd (cc)
+
+  -- the values fail with the first ones
+  pub fails_values : (prefix more all others : List (List ℕ)) (value mid new : List ℕ) (refused : TagRefusal)
+      → more ≡ prefix ++ value ∷ [] → all ≡ more ++ others
+      → Adds comparison (tags_of (flat_map members_of prefix)) [] mid (Ok tt)
+      → Adds comparison (tags_of (members_of value)) mid new (Err refused)
+      → Answers (commits_in comparison all) (Err refused)
+  unfolding commits_in
+  fails_values prefix more all others value mid new refused is whole first second =
+      rw (whole, flat_map-append members_of more others)
+      (answers_fails (tags_of (flat_map members_of more ++ flat_map members_of others)) new refused
+      (fails_more (flat_map members_of more) (flat_map members_of others) [] new refused
+      (adds_value prefix more value mid new (Err refused) is first second)))
+
+  answers_done : (tags : Option (List Tag)) (commits : List ℕ)
+      → Adds comparison tags [] commits (Ok tt) → Answers (commits_by comparison tags) (Ok commits)
+  answers_done None commits (inl e) = absurd (cc)
+  answers_done None commits (inr e) = absurd (cc)
+  answers_done (Some tags) commits (inl e) = absurd (cc)
+  answers_done (Some tags) commits (inr done) = inr (ap (λ c. Ok c) done.1)
+
+  -- all values are added
+  pub adds_all : (first all : List (List ℕ)) (commits : List ℕ) → first ≡ all
+      → Adds comparison (tags_of (flat_map members_of first)) [] commits (Ok tt) → Answers (commits_in comparison all) (Ok commits)
+  unfolding commits_in
+  adds_all first all commits is adds =
+      rw (← is) (answers_done (tags_of (flat_map members_of first)) commits adds)

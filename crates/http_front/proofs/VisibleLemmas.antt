@@ -69,7 +69,7 @@ pub decimal_digits : (n : ℕ) → list_all is_ascii_digit (decimal n) ≡ true
 unfolding digits
 decimal_digits n = digits_pass is_ascii_digit glyph_digit 64 n [] refl
 
--- Each byte may stand in a value.
+-- Each byte may be in a value.
 pub record AreValues (text : List ℕ) : Type 0 where
   pub all : list_all is_value_byte text ≡ true
 
@@ -89,9 +89,9 @@ pub begins-append : {xs : List ℕ} (ys : List ℕ) → Begins xs → Begins (xs
 begins-append {xs} ys p = begins_on xs ys p.some p.visible
 
 -- a text that begins so and ends in a visible text is a value
-pub begun_value : (front end : List ℕ) → Begins (front ++ end) → AreValues (front ++ end) → Begins (reverse end)
-    → is_trimmed_value (front ++ end) ≡ true
-begun_value front end begins values ends =
-    let back : starts_visible (reverse (front ++ end)) ≡ true =
-    ap starts_visible (reverse-append front end) ∙ (begins_on (reverse end) (reverse front) ends.some ends.visible).visible in
+pub begun_value : (prefix end : List ℕ) → Begins (prefix ++ end) → AreValues (prefix ++ end) → Begins (reverse end)
+    → is_trimmed_value (prefix ++ end) ≡ true
+begun_value prefix end begins values ends =
+    let back : starts_visible (reverse (prefix ++ end)) ≡ true =
+    ap starts_visible (reverse-append prefix end) ∙ (begins_on (reverse end) (reverse prefix) ends.some ends.visible).visible in
     and_from _ _ begins.visible (and_from _ _ back values.all)

@@ -14,14 +14,14 @@ use Rattle.http_front.specs.declared.refused.Allow.TheVariants as allow
 use Rattle.http_front.specs.declared.refused.Refused.{Refused}
 use Rattle.http_front.specs.declared.refused.Refused.TheVariants.{BadHost, BadTarget, NoRoute, BadMethod, NoLength, BadEncoding, BadTag, NotBuilt}
 use Rattle.http_front.specs.Answered.{and_then}
-use Rattle.http_front.specs.Asks.{ask_of, document_in, has_host, has_length, is_plain, name_in, write}
+use Rattle.http_front.specs.Asks.{ask_of, document_in, has_host, has_length, has_no_coding, name_in, write}
 use Rattle.http_front.specs.Numbers.{number_of}
 use Rattle.http_front.specs.Query.{decoded, fields_in}
 use Rattle.http_front.specs.Routes.{all_routes, route_of, table}
 use Rattle.http_front.specs.Tags.{commits_in, members_of, tag_of, tags_in}
 use Rattle.http_front.specs.Target.{local_part, path_of}
 use Rattle.http_front.specs.declared.ask.Ask.{Ask}
-use Rattle.http_front.specs.declared.ask.Ask.TheVariants.{Read, MatchAll, Fetch, Stats}
+use Rattle.http_front.specs.declared.ask.Ask.TheVariants.{Read, Query, Purges, MatchAll, Fetch, Stats}
 
 -- what a request of these fields asks
 abbrev asked_of : ℕ → List ℕ → List ℕ → List Pair → Result Ask Refused
@@ -32,7 +32,7 @@ asked_of minor method target fields =
 abbrev asked : List ℕ → List ℕ → List Pair → Result Ask Refused
 asked method target fields = asked_of 1 method target ((codes "hOST", codes "a") ∷ fields)
 
--- a PUT of a record that tells its length, and what it asks where its body is a document
+-- a PUT of a record that gives its length, and what it asks where its body is a document
 abbrev put : List Pair → Result Ask Refused
 put fields = asked (codes "PUT") (codes "/v1/d/shop/p1") ((codes "content-length", codes "2") ∷ fields)
 
@@ -61,9 +61,9 @@ pub names : (asked (codes "GET") (codes "/v1/d/shop/P") [] ≡ Err BadTarget)
     × (asked (codes "GET") (codes "/v1/d/shop/a+b") [] ≡ Err BadTarget)
     × (asked (codes "GET") (codes "/v1/d/shop/p%2fq") [] ≡ Err BadTarget)
     × (asked (codes "DELETE") (codes "/v1/d/shop/p1") [] ≡ Ok (write (codes "shop") (codes "p1") None Always))
-    × (asked (codes "GET") (codes "/v1/q/shop") [] ≡ Err NotBuilt)
+    × (asked (codes "GET") (codes "/v1/q/shop") [] ≡ Ok (Query (codes "shop") [] false))
     × (asked (codes "GET") (codes "/v1/q/Shop") [] ≡ Err BadTarget)
-    × (asked (codes "GET") (codes "/v1/purges") [] ≡ Err NotBuilt)
+    × (asked (codes "GET") (codes "/v1/purges") [] ≡ Ok (Purges [] false))
     × (asked (codes "GET") (codes "/v1/purges?from=0") [] ≡ Err BadTarget)
 unfolding ask_of has_host values local_part path_of route_of table matchit_on_literals is_utf8 chars lib.Utf8.encode fields_in decoded percent_decode name_in tags_in number_of
 names = (refl, refl, refl, refl, refl, refl, refl, refl, refl, refl)
@@ -77,14 +77,14 @@ pub hosts : (asked_of 1 (codes "GET") (codes "*") [] ≡ Err BadHost)
 unfolding ask_of has_host values local_part path_of route_of table matchit_on_literals is_utf8 chars lib.Utf8.encode fields_in
 hosts = (refl, refl, refl, refl, refl)
 
--- what a PUT has to tell, in this order
+-- what a PUT has to give, in this order
 pub tellings : (asked (codes "PUT") (codes "/v1/d/shop/p1") ((codes "If-Match", codes "x") ∷ []) ≡ Err NoLength)
     × (put ((codes "Content-Encoding", codes "gzip") ∷ (codes "If-Match", codes "x") ∷ []) ≡ Err BadEncoding)
     × (put ((codes "Content-Encoding", codes "identity, gzip") ∷ []) ≡ Err BadEncoding)
     × (put ((codes "Content-Encoding", codes "Identity") ∷ []) ≡ puts Always)
     × (asked (codes "PUT") (codes "/v1/d/shop/p1") ((codes "Transfer-Encoding", codes "chunked") ∷ []) ≡ puts Always)
     × (asked (codes "DELETE") (codes "/v1/d/shop/p1") ((codes "Content-Encoding", codes "gzip") ∷ []) ≡ Ok (write (codes "shop") (codes "p1") None Always))
-unfolding ask_of has_host values local_part path_of route_of table matchit_on_literals is_utf8 chars lib.Utf8.encode fields_in name_in percent_decode has_length is_plain tags_in commits_in members_of trim_ows tag_of
+unfolding ask_of has_host values local_part path_of route_of table matchit_on_literals is_utf8 chars lib.Utf8.encode fields_in name_in percent_decode has_length has_no_coding tags_in commits_in members_of trim_ows tag_of
 tellings = (refl, refl, refl, refl, refl, refl)
 
 -- the conditions of a write
@@ -97,7 +97,7 @@ pub conditions : (put ((codes "If-None-Match", codes "*") ∷ []) ≡ puts Absen
     × (put ((codes "If-Match", codes "\"1\"") ∷ (codes "If-None-Match", codes "*") ∷ []) ≡ Err BadTag)
     × (put ((codes "If-None-Match", codes "\"1\"") ∷ []) ≡ Err BadTag)
     × (put ((codes "If-None-Match", []) ∷ []) ≡ Err BadTag)
-unfolding ask_of has_host values local_part path_of route_of table matchit_on_literals is_utf8 chars lib.Utf8.encode fields_in name_in percent_decode has_length is_plain tags_in commits_in members_of trim_ows tag_of number_of
+unfolding ask_of has_host values local_part path_of route_of table matchit_on_literals is_utf8 chars lib.Utf8.encode fields_in name_in percent_decode has_length has_no_coding tags_in commits_in members_of trim_ows tag_of number_of
 conditions = (refl, refl, refl, refl, refl, refl, refl, refl, refl)
 
 -- those of a read

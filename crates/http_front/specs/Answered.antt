@@ -1,4 +1,4 @@
--- Answers one after the other.
+-- Believed. Answers one after the other.
 use Rattle.std.specs.Prelude.{◌≡◌, ◌⊎◌, Bool, true, false, Result, Ok, Err}
 use Rattle.http_front.specs.declared.refused.Refused.{Refused}
 use Rattle.http_front.specs.declared.tags.TagRefusal.{TagRefusal}

@@ -1,4 +1,4 @@
--- What a request asks of the store, or the first reason why it is refused.
+-- Believed. What a request asks of the store, or the first reason why it is refused.
 use Rattle.std.specs.Prelude.{ℕ, Bool, true, false, not, ◌||◌, ◌==◌, nat_le, nat_lt, if◌then◌else◌, bytes_eq, List, [], length, Option, Some, None, Result, Ok, Err, codes}
 use Rattle.std.specs.List.{list_all}
 use Rattle.std.specs.Str.{str_eq_ignore_ascii_case}
@@ -27,7 +27,7 @@ use Rattle.http_front.specs.Routes.{route_of, served_of, collection_in, id_in, q
 use Rattle.http_front.specs.Tags.{tags_in}
 use Rattle.http_front.specs.Target.{local_part, path_of, query_of}
 use Rattle.http_front.specs.declared.ask.Ask.{Ask}
-use Rattle.http_front.specs.declared.ask.Ask.TheVariants.{Write, Read, MatchAll, Fetch, Stats}
+use Rattle.http_front.specs.declared.ask.Ask.TheVariants.{Write, Read, Query, Purges, MatchAll, Fetch, Stats}
 use Rattle.http_front.specs.declared.routes.Served.{Served}
 use Rattle.http_front.specs.declared.routes.Route.{Route}
 use Rattle.http_front.specs.declared.routes.Route.TheVariants as route
@@ -43,7 +43,7 @@ has_host m =
     if m.minor == 0 then nat_le (length (values (codes "host") m.fields)) 1
     else length (values (codes "host") m.fields) == 1
 
--- the length of the body is told
+-- the length of the body is given (RFC 9112, section 6)
 unfoldable pub has_length : Message → Bool
 has_length m =
     nat_lt 0 (length (values (codes "content-length") m.fields))
@@ -56,8 +56,8 @@ has_condition m =
     || nat_lt 0 (length (values (codes "if-none-match") m.fields))
 
 -- the content has no coding but `identity`
-unfoldable pub is_plain : Message → Bool
-is_plain m =
+unfoldable pub has_no_coding : Message → Bool
+has_no_coding m =
     list_all (λ value. str_eq_ignore_ascii_case value (codes "identity")) (values (codes "content-encoding") m.fields)
 
 -- tags, or a list that is none
@@ -104,7 +104,7 @@ if_none (Some tags) = Err NotBuilt
 abbrev pub check_read : Message → Result (Unit {0}) Refused
 check_read m = and_then (matches m) (λ tags. and_then (differs m) (λ others. if_none others))
 
--- how a body that is no document is refused; a definition of documents refuses none for want of memory
+-- how a body that is no document is refused; a definition of documents refuses none for being out of memory
 abbrev pub refused_for : DocRefusal → Refused
 refused_for (doc.TooLong length) = Framing BodyTooLarge
 refused_for doc.NotJson = BadDocument NotJson
@@ -131,7 +131,7 @@ write collection id document condition =
 abbrev pub put_of : Message → List ℕ → List ℕ → Result Ask Refused
 put_of m collection id =
     unless (not (has_length m)) NoLength
-    (unless (not (is_plain m)) BadEncoding
+    (unless (not (has_no_coding m)) BadEncoding
     (and_then (condition_of m) (λ condition.
     and_then (document_in m.body) (λ document.
     Ok (write collection id (Some document) condition)))))
@@ -154,28 +154,28 @@ record_by m collection id Delete = delete_of m collection id
 record_by m collection id Post = Err (BadMethod (methods_of route.Record))
 
 -- a GET or a HEAD of a query
-abbrev pub query_by : Message → List ℕ → Result Ask Refused
-query_by m text =
-    and_then (name_in text) (λ collection. and_then (check_read m) (λ checked. Err NotBuilt))
+abbrev pub query_by : Message → List ℕ → List NamedValue → Bool → Result Ask Refused
+query_by m text fields head =
+    and_then (name_in text) (λ collection. and_then (check_read m) (λ checked. Ok (Query collection fields head)))
 
 -- the method is HEAD
-abbrev pub is_head : Method → Bool
-is_head Head = true
-is_head Get = false
-is_head Post = false
-is_head Put = false
-is_head Delete = false
+abbrev pub is_head_request : Method → Bool
+is_head_request Head = true
+is_head_request Get = false
+is_head_request Post = false
+is_head_request Put = false
+is_head_request Delete = false
 
 -- a request of a route that has its method, with the fields of its query
 abbrev pub ask_by : Message → List ℕ → Method → Route → List NamedValue → Result Ask Refused
 ask_by m path method route.Record values =
     and_then (name_in (collection_in path)) (λ collection.
     and_then (name_in (id_in path)) (λ id. record_by m collection id method))
-ask_by m path method route.Query values = query_by m (queried_in path)
-ask_by m path method route.Filter values = Ok (Fetch (is_head method))
-ask_by m path method route.Purges values = Err NotBuilt
+ask_by m path method route.Query values = query_by m (queried_in path) values (is_head_request method)
+ask_by m path method route.Filter values = Ok (Fetch (is_head_request method))
+ask_by m path method route.Purges values = Ok (Purges values (is_head_request method))
 ask_by m path method route.Match values = Ok MatchAll
-ask_by m path method route.Stats values = Ok (Stats (is_head method))
+ask_by m path method route.Stats values = Ok (Stats (is_head_request method))
 
 -- a method, where it is one of these
 abbrev pub method_by : Allow → Option Method → Result Method Refused

@@ -1,4 +1,4 @@
--- Lines of a head as they are written.
+-- Internal. Lines of a head as they are written.
 use Rattle.std.specs.Prelude.{ℕ, List, [], ◌++◌, Option, Some, None, decimal}
 
 -- a number between two texts, where there is one

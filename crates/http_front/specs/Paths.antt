@@ -1,4 +1,4 @@
--- The paths of records.
+-- Internal. The paths of records.
 use Rattle.std.specs.Prelude.{◌≡◌, ◌≢◌, ◌↔◌, ◌<◌, ℕ, List, ◌∷◌, ◌++◌, length, All, Some, codes}
 use Rattle.std.specs.Str.{IsUtf8}
 use Rattle.http_front.specs.Routes.{route_of}

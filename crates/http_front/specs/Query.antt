@@ -1,5 +1,5 @@
--- The fields of a target's query.
-use Rattle.std.specs.Prelude.{ℕ, Bool, false, ◌&&◌, ◌==◌, nat_le, if◌then◌else◌, bytes_eq, List, [], ◌∷◌, map, Option, Some, None, codes}
+-- Believed. The fields of a target's query.
+use Rattle.std.specs.Prelude.{ℕ, Bool, true, false, ◌&&◌, ◌==◌, nat_le, if◌then◌else◌, bytes_eq, List, [], ◌∷◌, map, Option, Some, None, codes}
 use Rattle.std.specs.List.{list_any, slice_split}
 use Rattle.std.specs.Str.{is_utf8}
 use Rattle.percent_encoding.specs.Percent.{percent_decode}
@@ -10,11 +10,11 @@ use Rattle.http_front.specs.declared.refused.QueryField.TheVariants as field
 use Rattle.http_front.specs.declared.routes.Route.{Route}
 use Rattle.http_front.specs.declared.routes.Route.TheVariants.{Record, Query, Filter, Purges, Match, Stats}
 
--- the fields, parted at `&`; an empty query is one empty field
+-- the fields, split at `&`; an empty query is one empty field
 abbrev pub pieces_of : List ℕ → List (List ℕ)
 pieces_of query = slice_split (λ byte. byte == 38) query
 
--- a field's name stands before its first `=`, and is not decoded
+-- a field's name precedes its first `=`, and is not decoded
 abbrev pub name_of : List ℕ → List ℕ
 name_of piece = ahead_of 61 piece
 
@@ -26,7 +26,7 @@ spaced byte = if byte == 43 then 32 else byte
 unfoldable pub decoded : List ℕ → List ℕ
 decoded text = percent_decode (map spaced text)
 
--- a field's value stands behind the first `=`, and is empty where there is none
+-- a field's value follows the first `=`, and is empty where there is none
 abbrev pub value_of : List ℕ → List ℕ
 value_of piece = decoded (after 61 piece)
 
@@ -43,6 +43,15 @@ field_named Record name = None
 field_named Filter name = None
 field_named Match name = None
 field_named Stats name = None
+
+-- a query of the route has fields
+abbrev pub takes_fields : Route → Bool
+takes_fields Query = true
+takes_fields Purges = true
+takes_fields Record = false
+takes_fields Filter = false
+takes_fields Match = false
+takes_fields Stats = false
 
 -- a purge's number: from 1 to 2^63
 abbrev pub is_start : Option ℕ → Bool

@@ -1,4 +1,4 @@
--- Replies are read back as what they are.
+-- Internal. Replies are read back as what they are.
 use Rattle.std.specs.Prelude.{◌≡◌, ℕ, ◌++◌, Bool, false, List, map, Some, Ok}
 use Rattle.httparse.specs.Grammar.{ResponseHead, ReadsResponse, status_code}
 use Rattle.httparse.specs.Spans.{name_and_value}
@@ -26,7 +26,7 @@ ReadsBack head =
     (seconds : ℕ) (date rest : List ℕ) → IsDateOf seconds date
     → IsRead (head_text head.status (head_fields head date) ++ rest) head.status (head_fields head date) rest
 
--- a head that tells a length frames just so many bytes (RFC 9112, section 6.3), but for a status without a body
+-- a head with a length frames just this number of bytes (RFC 9112, section 6.3), but for a status without a body
 abbrev pub FramesItsBody : Head → Type 0
 FramesItsBody head =
     (date : List ℕ) (size : ℕ) → head.length ≡ Some size → is_bodiless_status head.status ≡ false
@@ -39,7 +39,7 @@ OneReplyIsRead =
     → IsRead bytes status fields rest → IsRead bytes other others more
     → (status ≡ other) × (fields ≡ others) × (rest ≡ more)
 
--- what is told has one text
+-- what is answered has one text
 abbrev pub RepliesHaveOneText : Type 0
 RepliesHaveOneText =
     (shape : Shape) (told : Told) (page : List ℕ) (close : Bool) (text other : List ℕ)

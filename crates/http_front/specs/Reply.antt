@@ -1,4 +1,4 @@
--- A reply as data, and its text (RFC 9112, section 4).
+-- Believed. A reply as data, and its text (RFC 9112, section 4).
 use Rattle.std.specs.Prelude.{ℕ, zero, suc, Bool, true, false, List, [], ◌∷◌, ◌++◌, Option, Some, None, codes, decimal, unwrap_or}
 use Rattle.http.specs.StatusCode.{reason_phrase, status_text}
 use Rattle.http1.specs.Fields.{Header}
@@ -52,12 +52,12 @@ abbrev pub tag_field : Option ℕ → List Header
 tag_field None = []
 tag_field (Some n) = (codes "ETag", codes "\"" ++ (decimal n ++ codes "\"")) ∷ []
 
--- for how many seconds the reply may be kept (RFC 9111, section 5.2.2)
+-- for how many seconds the reply is fresh (RFC 9111, section 5.2.2)
 abbrev pub lifetime_field : ℕ → List Header
 lifetime_field zero = (codes "Cache-Control", codes "no-store") ∷ []
 lifetime_field (suc n) = (codes "Cache-Control", codes "max-age=" ++ decimal (suc n)) ∷ []
 
--- the methods of the route, where they are told (RFC 9110, section 10.2.1)
+-- the methods of the route, where they are listed (RFC 9110, section 10.2.1)
 abbrev pub allow_field : Option Allow → List Header
 allow_field None = []
 allow_field (Some Record) = (codes "Allow", codes "GET, HEAD, PUT, DELETE") ∷ []

@@ -1,4 +1,4 @@
--- The reply to each request: its status, its fields and its body.
+-- Believed. The reply to each request: its status, its fields and its body.
 use Rattle.std.specs.Prelude.{◌≡◌, ℕ, ◌+◌, Bool, true, false, List, [], ◌++◌, length, Option, Some, None, if◌then◌else◌, codes, decimal}
 use Rattle.hub_model.specs.declared.entry.Answer.{Answer}
 use Rattle.hub_model.specs.declared.entry.Found.{Found}
@@ -50,7 +50,7 @@ filter_body r =
     codes "{\"error\":\"bad_filter\",\"field\":\"" ++ field_name r.field ++ codes "\",\"place\":" ++ decimal r.place
     ++ codes ",\"reason\":\"" ++ reason_word r.reason ++ codes "\"}"
 
--- What a refusal is told as.
+-- How a refusal is answered.
 pub record Failure : Type 0 where
   pub status : ℕ
   pub body : List ℕ
@@ -80,7 +80,7 @@ refusal (BadDocument NotObject) = failure 422 (codes "{\"error\":\"bad_document\
 refusal (BadDocument TooDeep) = failure 422 (codes "{\"error\":\"bad_document\",\"reason\":\"too_deep\"}")
 refusal (BadDocument NotWhole) = failure 422 (codes "{\"error\":\"bad_document\",\"reason\":\"not_whole\"}")
 
--- the methods that a refusal tells
+-- the methods that a refusal lists
 abbrev pub allowed : Refused → Option Allow
 allowed (BadMethod allow) = Some allow
 allowed refused = None
@@ -117,9 +117,9 @@ body_of (Count stats) page = stats_body stats
 body_of (Refusal refused clock) page = (refusal refused).body
 body_of Memory page = codes "{\"error\":\"memory\"}"
 
--- a head that has a date, a body of so many bytes of JSON, and no field of the store
-abbrev pub plain_head : ℕ → ℕ → Bool → Head
-plain_head status size close = record {
+-- a head that has a date, a body of JSON of this length, and no field of the store
+abbrev pub json_head : ℕ → ℕ → Bool → Head
+json_head status size close = record {
   status = status;
   dated = true;
   media = Some Json;
@@ -142,14 +142,14 @@ write_status false before = 200
 -- the head of the reply to a write
 abbrev pub written_head : Bool → Written → ℕ → Bool → Head
 written_head put (Done commit before clock) size close =
-    record (plain_head (write_status put before) size close) { commit = Some commit }
-written_head put (Precondition found clock) size close = plain_head 412 size close
-written_head put (Full bytes clock) size close = plain_head 507 size close
+    record (json_head (write_status put before) size close) { commit = Some commit }
+written_head put (Precondition found clock) size close = json_head 412 size close
+written_head put (Full bytes clock) size close = json_head 507 size close
 
--- the head of the reply to a read, which may be kept
+-- the head of the reply to a read, which may be fresh for a time
 abbrev pub answer_head : Answer → ℕ → ℕ → Bool → Head
 answer_head a status size close =
-    record (plain_head status size close) {
+    record (json_head status size close) {
       ttl = a.ttl;
       commit = Some a.commit;
       until = Some (a.clock + a.ttl);
@@ -164,16 +164,16 @@ read_head a (Whole text version) size close =
     }
 read_head a Absent size close = answer_head a 404 size close
 
--- the head of each reply, whose body has so many bytes
+-- the head of each reply, of the length of its body
 abbrev pub head_of : Shape → Told → ℕ → Bool → Head
 head_of shape (Write written) size close = written_head shape.put written size close
 head_of shape (Read answer) size close = read_head answer answer.result size close
-head_of shape (Match matched) size close = plain_head 200 size close
-head_of shape (Page clock) size close = record (plain_head 200 size close) { media = Some OctetStream }
-head_of shape (Count stats) size close = plain_head 200 size close
+head_of shape (Match matched) size close = json_head 200 size close
+head_of shape (Page clock) size close = record (json_head 200 size close) { media = Some OctetStream }
+head_of shape (Count stats) size close = json_head 200 size close
 head_of shape (Refusal refused clock) size close =
-    record (plain_head (refusal refused).status size close) { allow = allowed refused }
-head_of shape Memory size close = record (plain_head 503 size close) { dated = false }
+    record (json_head (refusal refused).status size close) { allow = allowed refused }
+head_of shape Memory size close = record (json_head 503 size close) { dated = false }
 
 -- the moment of a write's date
 abbrev pub written_clock : Written → ℕ

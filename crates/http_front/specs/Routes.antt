@@ -1,4 +1,4 @@
--- The routes: which one a path has, its names, and its methods.
+-- Believed. The routes: which one a path has, its names, and its methods.
 use Rattle.std.specs.Prelude.{◌≡◌, ℕ, Bool, true, false, if◌then◌else◌, bytes_eq, List, [], length, drop, Option, Some, None, option_map, Result, Ok, Err, codes}
 use Rattle.std.specs.Str.{is_utf8}
 use Rattle.matchit.specs.Rows.{RowsOf}
@@ -65,23 +65,23 @@ abbrev pub served_of : Served → Option Route → Option Route
 served_of s None = None
 served_of s (Some route) = if serves s route then Some route else None
 
--- what stands before the names in the path of a record
+-- what precedes the names in the path of a record
 abbrev pub record_prefix : List ℕ
 record_prefix = codes "/v1/d/"
 
--- what stands before the name in the path of a query
+-- what precedes the name in the path of a query
 abbrev pub query_prefix : List ℕ
 query_prefix = codes "/v1/q/"
 
--- the name of a record's collection in its path as it stands
+-- the name of a record's collection in its path, as it was written
 abbrev pub collection_in : List ℕ → List ℕ
 collection_in path = ahead_of 47 (drop (length record_prefix) path)
 
--- the name of a document behind it
+-- the name of a document after it
 abbrev pub id_in : List ℕ → List ℕ
 id_in path = after 47 (drop (length record_prefix) path)
 
--- the name of a query's collection in its path as it stands
+-- the name of a query's collection in its path, as it was written
 abbrev pub queried_in : List ℕ → List ℕ
 queried_in path = ahead_of 47 (drop (length query_prefix) path)
 

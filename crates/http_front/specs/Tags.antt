@@ -1,4 +1,4 @@
--- Lists of entity tags (RFC 9110, section 8.8.3), and the commits that they name.
+-- Believed. Lists of entity tags (RFC 9110, section 8.8.3), and the commits that they name.
 use Rattle.std.specs.Prelude.{ℕ, ◌-◌, Bool, true, false, not, ◌||◌, ◌&&◌, ◌==◌, nat_eq, nat_le, nat_lt, if◌then◌else◌, bytes_eq, List, [], ◌∷◌, length, take, drop, filter, map, Option, Some, None, Result, Ok, Err, codes}
 use Rattle.std.specs.List.{list_all, filter_map, flat_map, onto_first, starts_with, ends_with}
 use Rattle.httparse.specs.Grammar.{trim_ows}
@@ -38,16 +38,16 @@ unfoldable pub tag_of : List ℕ → Option Tag
 tag_of member =
     if starts_with nat_eq member (codes "W/") then opaque_tag true (drop 2 member) else opaque_tag false member
 
--- whether the next byte stands in quotes
+-- whether the next byte is in quotes
 abbrev pub quotes : Bool → ℕ → Bool
 quotes quoted byte = if byte == 34 then not quoted else quoted
 
--- the pieces with a byte before them, which parts them where it is such a mark
+-- the pieces with a byte before them, which separates them where it is a separator
 abbrev pub parted_by : Bool → ℕ → List (List ℕ) → List (List ℕ)
 parted_by true byte pieces = [] ∷ pieces
 parted_by false byte pieces = onto_first byte pieces
 
--- the pieces between the commas that stand outside of quotes
+-- the pieces between the commas outside of quotes
 abbrev pub pieces_from : Bool → List ℕ → List (List ℕ)
 pieces_from quoted [] = [] ∷ []
 pieces_from quoted (byte ∷ bytes) =

@@ -1,18 +1,18 @@
--- The parts of a request's target (RFC 9112, section 3.2).
+-- Believed. The parts of a request's target (RFC 9112, section 3.2).
 use Rattle.std.specs.Prelude.{ℕ, ◌+◌, Bool, ◌||◌, ◌==◌, nat_eq, if◌then◌else◌, List, [], ◌∷◌, drop, Option, Some, None, option_map, codes}
 use Rattle.std.specs.List.{starts_with, position, position_or_len, before_first, after_first}
 
--- what stands before the first byte that is this one, or all where none is
+-- what precedes the first such byte, or all where there is none
 abbrev pub ahead_of : ℕ → List ℕ → List ℕ
-ahead_of mark text = before_first (λ byte. byte == mark) text
+ahead_of separator text = before_first (λ byte. byte == separator) text
 
--- what stands behind it, or nothing where there is none
+-- what follows it, or nothing where there is none
 abbrev pub after : ℕ → List ℕ → List ℕ
-after mark text = after_first (λ byte. byte == mark) text
+after separator text = after_first (λ byte. byte == separator) text
 
--- what stands behind it, where there is one
+-- what follows it, where there is one
 abbrev pub behind : ℕ → List ℕ → Option (List ℕ)
-behind mark text = option_map (λ place. drop (place + 1) text) (position (λ byte. byte == mark) text)
+behind separator text = option_map (λ offset. drop (offset + 1) text) (position (λ byte. byte == separator) text)
 
 -- the bytes that end the name of a server: `/` and `?`
 abbrev pub ends_authority : ℕ → Bool
@@ -35,6 +35,6 @@ or_root (byte ∷ path) = byte ∷ path
 unfoldable pub path_of : List ℕ → List ℕ
 path_of local = or_root (ahead_of 63 local)
 
--- the query behind it
+-- the query after it
 abbrev pub query_of : List ℕ → Option (List ℕ)
 query_of local = behind 63 local

@@ -1,21 +1,22 @@
 //! What requests ask of the store.
 //!
-//! A call answers `Err` for want of memory, and `Ok` with what is asked, or why it is refused.
-ghost use Rattle.std.specs.Prelude.{◌≡◌, ℕ, List, true, drop, length, IfOk, IsOk};
+//! A call answers `Err` where it is out of memory, and `Ok` with what is asked, or why it is refused.
+ghost use Rattle.std.specs.Prelude.{◌≡◌, ℕ, List, true, false, drop, is_ok, length, IfNone, IfOk, IfSome, IsOk, Err};
 ghost use Rattle.std.specs.Option.{option_copied};
 ghost use Rattle.http_message.specs.Fields.{values as values_named};
 ghost use Rattle.http_front.specs.Answered.{and_then};
 ghost use Rattle.http_front.specs.Asks.{ask_at, ask_by, ask_of, check_read, condition_by, condition_of, delete_of, document_in, method_in, name_in, put_of, query_by, read_of, record_by, shape_of, tags_or_not};
-ghost use Rattle.http_front.specs.Early.{is_bare, is_bare_put, is_early, is_early_at, is_early_call};
+ghost use Rattle.http_front.specs.Early.{is_early};
+ghost use Rattle.http_front.specs.Free.{is_bare, is_bare_put, is_free_at, is_free_call, is_free_record};
 ghost use Rattle.http_front.specs.Routes.{collection_in, id_in, route_of, served_of};
 ghost use Rattle.http_front.specs.Tags.{tags_in};
 ghost use Rattle.http_front.specs.Target.{after, ahead_of, path_of, query_of};
 ghost use Rattle.http_front.specs.declared.routes.Route.TheVariants.{Record};
 
 use crate::cut::{cut_at, cut_in_two};
-use crate::fields::{has_condition, has_host, has_length, is_bare, is_plain};
-use crate::names::{are_names, name_in};
-use crate::query::{FieldValue, fields_in};
+use crate::fields::{has_condition, has_host, has_length, has_no_coding};
+use crate::names::{are_names, is_name, name_in};
+use crate::query::{QueryFields, fields_in};
 use crate::refused::{DocumentReason, Refused};
 use crate::routes::{Method, QUERIES, RECORDS, Route, Routes};
 use crate::shape::Shape;
@@ -24,7 +25,7 @@ use crate::target::{local_part, or_root};
 use http_message::{FramingRefusal, Request};
 use hub_model::{Change, Commits, Condition, Tags};
 use q_base::{Memory, Name};
-use q_doc::{Doc, DocRefusal, ReadRoom};
+use q_doc::{Doc, DocRefusal, ReadBuffer};
 use query_normal::Key;
 use std::alloc::Global;
 
@@ -42,26 +43,37 @@ pub enum Ask {
         tags: Tags,
         head: bool,
     },
-    /// To match all commits against the results that were handed out.
+    /// To read the result of a query with these fields.
+    Query {
+        collection: Name,
+        fields: QueryFields,
+        head: bool,
+    },
+    /// To give the purges that these fields ask for.
+    Purges {
+        fields: QueryFields,
+        head: bool,
+    },
+    /// To match all commits against the issued copies.
     MatchAll,
     /// To fetch the page of the outdated keys.
     Fetch {
         head: bool,
     },
-    /// To tell the numbers of the store.
+    /// To give the numbers of the store.
     Stats {
         head: bool,
     },
 }
 
-/// What a request asks, or the first reason why it is refused. A body is read in the room that is
+/// What a request asks, or the first reason why it is refused. A body is read in the buffers that are
 /// lent. A record whose names have no escape takes no look at the table of routes.
 #[tactic(auto, unfolding(crate::specs::Asks::ask_of, crate::specs::Target::path_of))]
 pub fn ask_of(
     alloc: Global,
     request: &Request<'_>,
     routes: &Routes,
-    reading: &mut ReadRoom,
+    reading: &mut ReadBuffer,
 ) -> Result<Result<Ask, Refused>, Memory>
     ensures asked { IfOk result (λ asked. asked ≡ ask_of routes.now request.now) }
     ensures early { is_early routes.now request.now ≡ true → IsOk result }
@@ -91,7 +103,7 @@ fn ask_record(
     request: &Request<'_>,
     collection: Name,
     id: Name,
-    reading: &mut ReadRoom,
+    reading: &mut ReadBuffer,
 ) -> Result<Result<Ask, Refused>, Memory>
     ensures asked { IfOk result (λ asked. asked ≡ and_then (method_in request.now Record) (λ method. record_by request.now collection id method)) }
     ensures early { is_bare_put request.now (method_in request.now Record) ≡ true → IsOk result }
@@ -110,10 +122,10 @@ fn ask_at(
     request: &Request<'_>,
     local: &[u8],
     routes: &Routes,
-    reading: &mut ReadRoom,
+    reading: &mut ReadBuffer,
 ) -> Result<Result<Ask, Refused>, Memory>
     ensures asked { IfOk result (λ asked. asked ≡ ask_at request.now (path_of local.now) (query_of local.now) (served_of routes.now (route_of (path_of local.now)))) }
-    ensures early { is_early_at request.now (path_of local.now) (query_of local.now) (served_of routes.now (route_of (path_of local.now))) ≡ true → IsOk result }
+    ensures early { is_free_at request.now (path_of local.now) (query_of local.now) (served_of routes.now (route_of (path_of local.now))) ≡ true → IsOk result }
 {
     let (path, query) = cut_at(local, b'?');
     let path = or_root(path);
@@ -130,19 +142,19 @@ fn ask_route(
     path: &[u8],
     query: Option<&[u8]>,
     route: Route,
-    reading: &mut ReadRoom,
+    reading: &mut ReadBuffer,
 ) -> Result<Result<Ask, Refused>, Memory>
     ensures asked { IfOk result (λ asked. asked ≡ ask_at request.now path.now (option_copied query.entry) (Some route)) }
-    ensures early { is_early_at request.now path.now (option_copied query.entry) (Some route) ≡ true → IsOk result }
+    ensures early { is_free_at request.now path.now (option_copied query.entry) (Some route) ≡ true → IsOk result }
 {
     let method = match method_in(request, route) {
         Ok(method) => method,
         Err(refused) => return Ok(Err(refused)),
     };
-    let Some(values) = fields_in(alloc, route, query)? else {
+    let Some(fields) = fields_in(alloc, route, query)? else {
         return Ok(Err(Refused::BadTarget));
     };
-    ask_by(alloc, request, path, method, route, values, reading)
+    ask_by(alloc, request, path, method, route, fields, reading)
 }
 
 /// The method of the request, where the route has it.
@@ -164,49 +176,59 @@ fn ask_by(
     path: &[u8],
     method: Method,
     route: Route,
-    _values: Vec<FieldValue>,
-    reading: &mut ReadRoom,
+    fields: QueryFields,
+    reading: &mut ReadBuffer,
 ) -> Result<Result<Ask, Refused>, Memory>
-    ensures asked { IfOk result (λ asked. asked ≡ ask_by request.now path.now method route _values.items) }
-    ensures early { is_early_call request.now path.now route method ≡ true → IsOk result }
+    ensures asked { IfOk result (λ asked. asked ≡ ask_by request.now path.now method route fields) }
+    ensures early { is_free_call request.now path.now route method ≡ true → IsOk result }
 {
     let head = method == Method::Head;
     match route {
         Route::Record => ask_names(alloc, request, path, method, reading),
-        Route::Query => query_by(alloc, request, names_behind(QUERIES, path).0),
+        Route::Query => query_by(alloc, request, names_behind(QUERIES, path).0, fields, head),
         Route::Filter => Ok(Ok(Ask::Fetch { head })),
-        Route::Purges => Ok(Err(Refused::NotBuilt)),
+        Route::Purges => Ok(Ok(Ask::Purges { fields, head })),
         Route::Match => Ok(Ok(Ask::MatchAll)),
         Route::Stats => Ok(Ok(Ask::Stats { head })),
     }
 }
 
-/// What a request of a record asks, of its path. Where the names have no escape, a body that is refused
-/// is refused before they are copied.
+/// What a request of a record asks, of its path. A name that is none, and the length or the coding of a
+/// body, are refused before memory is taken.
 fn ask_names(
     alloc: Global,
     request: &Request<'_>,
     path: &[u8],
     method: Method,
-    reading: &mut ReadRoom,
+    reading: &mut ReadBuffer,
 ) -> Result<Result<Ask, Refused>, Memory>
     ensures asked { IfOk result (λ asked. asked ≡ and_then (name_in (collection_in path.now)) (λ collection. and_then (name_in (id_in path.now)) (λ id. record_by request.now collection id method))) }
-    ensures early { is_early_call request.now path.now Record method ≡ true → IsOk result }
+    ensures early { is_free_call request.now path.now Record method ≡ true → IsOk result }
 {
     let (collection, id) = names_behind(RECORDS, path);
-    if is_early(request, collection, id, method) {
-        return Ok(Err(bare_put(request)));
+    if let Some(refused) = refused_early(request, collection, id, method) {
+        return Ok(Err(refused));
     }
     read_names(alloc, request, collection, id, method, reading)
 }
 
-/// Whether a request of these names is a PUT whose body is refused. It takes no memory.
-fn is_early(request: &Request<'_>, collection: &[u8], id: &[u8], method: Method) -> bool
-    ensures { (path : List ℕ) → collection.now ≡ collection_in path → id.now ≡ id_in path → result ≡ is_early_call request.now path Record method }
+/// Why a request of a record is refused for a name, or for the length or the coding of its body. It takes
+/// no memory.
+fn refused_early(
+    request: &Request<'_>,
+    collection: &[u8],
+    id: &[u8],
+    method: Method,
+) -> Option<Refused>
+    ensures some { IfSome result (λ refused. Err refused ≡ and_then (name_in collection.now) (λ collection. and_then (name_in id.now) (λ id. record_by request.now collection id method))) }
+    ensures none { IfNone result (is_free_record request.now collection.now id.now method ≡ false) }
 {
+    if !are_names(collection, id) {
+        return Some(Refused::BadTarget);
+    }
     match method {
-        Method::Put => is_bare(request) && are_names(collection, id),
-        _ => false,
+        Method::Put => bare_put(request),
+        _ => None,
     }
 }
 
@@ -217,7 +239,7 @@ fn read_names(
     collection: &[u8],
     id: &[u8],
     method: Method,
-    reading: &mut ReadRoom,
+    reading: &mut ReadBuffer,
 ) -> Result<Result<Ask, Refused>, Memory>
     ensures { IfOk result (λ asked. asked ≡ and_then (name_in collection.now) (λ collection. and_then (name_in id.now) (λ id. record_by request.now collection id method))) }
 {
@@ -232,27 +254,38 @@ fn read_names(
     record_by(alloc, request, collection, id, method, reading)
 }
 
-/// The names in a path as they stand, behind what stands before them.
-fn names_behind<'a>(front: &[u8], path: &'a [u8]) -> (&'a [u8], &'a [u8])
-    ensures first { result.0.now ≡ ahead_of 47 (drop (length front.now) path.now) }
-    ensures second { result.1.now ≡ after 47 (drop (length front.now) path.now) }
+/// The names in a path as they were written, after this prefix.
+fn names_behind<'a>(prefix: &[u8], path: &'a [u8]) -> (&'a [u8], &'a [u8])
+    ensures first { result.0.now ≡ ahead_of 47 (drop (length prefix.now) path.now) }
+    ensures second { result.1.now ≡ after 47 (drop (length prefix.now) path.now) }
 {
-    cut_in_two(&path[path.len().min(front.len())..], b'/')
+    cut_in_two(&path[path.len().min(prefix.len())..], b'/')
 }
 
-/// What a request of a query asks, which is not answered yet.
+/// What a request of a query asks. A name that is none is refused before memory is taken.
 fn query_by(
     alloc: Global,
     request: &Request<'_>,
     collection: &[u8],
+    fields: QueryFields,
+    head: bool,
 ) -> Result<Result<Ask, Refused>, Memory>
-    ensures { IfOk result (λ asked. asked ≡ query_by request.now collection.now) }
+    ensures asked { IfOk result (λ asked. asked ≡ query_by request.now collection.now fields head) }
+    ensures early { is_ok (name_in collection.now) ≡ false → IsOk result }
 {
-    if let Err(refused) = name_in(alloc, collection)? {
-        return Ok(Err(refused));
+    if !is_name(collection) {
+        return Ok(Err(Refused::BadTarget));
     }
+    let collection = match name_in(alloc, collection)? {
+        Ok(name) => name,
+        Err(refused) => return Ok(Err(refused)),
+    };
     match check_read(alloc, request)? {
-        Ok(()) => Ok(Err(Refused::NotBuilt)),
+        Ok(()) => Ok(Ok(Ask::Query {
+            collection,
+            fields,
+            head,
+        })),
         Err(refused) => Ok(Err(refused)),
     }
 }
@@ -265,7 +298,7 @@ fn record_by(
     collection: Name,
     id: Name,
     method: Method,
-    reading: &mut ReadRoom,
+    reading: &mut ReadBuffer,
 ) -> Result<Result<Ask, Refused>, Memory>
     ensures asked { IfOk result (λ asked. asked ≡ record_by request.now collection id method) }
     ensures early { is_bare_put request.now (Ok method) ≡ true → IsOk result }
@@ -326,13 +359,13 @@ fn delete_of(
 
 /// What a PUT of a record asks.
 #[inline(never)]
-#[tactic(auto, unfolding(crate::specs::Early::is_bare))]
+#[tactic(auto, unfolding(crate::specs::Free::is_bare))]
 fn put_of(
     alloc: Global,
     request: &Request<'_>,
     collection: Name,
     id: Name,
-    reading: &mut ReadRoom,
+    reading: &mut ReadBuffer,
 ) -> Result<Result<Ask, Refused>, Memory>
     ensures asked { IfOk result (λ asked. asked ≡ put_of request.now collection id) }
     ensures early { is_bare request.now ≡ true → IsOk result }
@@ -340,7 +373,7 @@ fn put_of(
     if !has_length(request) {
         return Ok(Err(Refused::NoLength));
     }
-    if !is_plain(request) {
+    if !has_no_coding(request) {
         return Ok(Err(Refused::BadEncoding));
     }
     let condition = match condition_of(alloc, request)? {
@@ -361,16 +394,19 @@ fn put_of(
     }))
 }
 
-/// How a PUT is refused whose body is.
-#[tactic(auto, unfolding(crate::specs::Early::is_bare))]
-fn bare_put(request: &Request<'_>) -> Refused
-    ensures { is_bare request.now ≡ true → (collection id : List ℕ) → put_of request.now collection id ≡ Err result }
+/// Why a PUT is refused for the length or the coding of its body.
+#[tactic(auto, unfolding(crate::specs::Free::is_bare))]
+fn bare_put(request: &Request<'_>) -> Option<Refused>
+    ensures some { IfSome result (λ refused. (collection id : List ℕ) → put_of request.now collection id ≡ Err refused) }
+    ensures none { IfNone result (is_bare request.now ≡ false) }
 {
-    if has_length(request) {
-        Refused::BadEncoding
-    } else {
-        Refused::NoLength
+    if !has_length(request) {
+        return Some(Refused::NoLength);
     }
+    if !has_no_coding(request) {
+        return Some(Refused::BadEncoding);
+    }
+    None
 }
 
 /// The condition of a write.
@@ -458,7 +494,7 @@ fn check_tags(alloc: Global, request: &Request<'_>) -> Result<Result<(), Refused
 fn document_in(
     alloc: Global,
     body: &[u8],
-    reading: &mut ReadRoom,
+    reading: &mut ReadBuffer,
 ) -> Result<Result<Doc, Refused>, Memory>
     ensures { IfOk result (λ document. document ≡ document_in body.now) }
 {

@@ -7,26 +7,31 @@ use crate::{
 use http_message::{RequestRoom, next_request};
 use hub_model::{Condition, Tags};
 use q_base::Memory;
-use q_doc::ReadRoom;
+use q_doc::ReadBuffer;
 use q_outside::{EndlessSink, PlainSource};
 use std::alloc::Global;
 use std::process::Abort;
 use std::test::Fail;
 
-/// The room with the request of these bytes.
-fn room_of(alloc: Global, bytes: &[u8]) -> Result<RequestRoom, Memory> {
+/// The buffers with the request of these bytes.
+fn buffer_of(alloc: Global, bytes: &[u8]) -> Result<RequestRoom, Memory> {
     let mut source = PlainSource::of(Vec::from_slice(alloc, bytes)?);
     let mut sink = EndlessSink;
-    let mut room = RequestRoom::new(alloc)?;
-    let _taken = next_request(&mut source, &mut sink, &mut room);
-    Ok(room)
+    let mut buffer = RequestRoom::new(alloc)?;
+    let _taken = next_request(&mut source, &mut sink, &mut buffer);
+    Ok(buffer)
 }
 
 /// What the request of these bytes asks.
 fn asked(alloc: Global, bytes: &[u8]) -> Result<Result<Ask, Refused>, Memory> {
     let routes = Routes::new(alloc)?;
-    let room = room_of(alloc, bytes)?;
-    ask_of(alloc, &room.request(), &routes, &mut ReadRoom::new(alloc))
+    let buffer = buffer_of(alloc, bytes)?;
+    ask_of(
+        alloc,
+        &buffer.request(),
+        &routes,
+        &mut ReadBuffer::new(alloc),
+    )
 }
 
 /// Checks that the request of these bytes is refused so.
@@ -40,7 +45,7 @@ fn refuses(rt: &impl Abort, alloc: Global, bytes: &[u8], wanted: Refused) -> Res
 
 #[test]
 fn the_first_cause_is_answered(rt: HostRuntime) -> Result<(), Fail> {
-    let cases: [(&[u8], Refused); 16] = [
+    let cases: [(&[u8], Refused); 15] = [
         (b"GET * HTTP/1.1\r\n\r\n", Refused::BadHost),
         (
             b"GET /v2 HTTP/1.1\r\nHost: a\r\nHost: b\r\n\r\n",
@@ -83,10 +88,6 @@ fn the_first_cause_is_answered(rt: HostRuntime) -> Result<(), Fail> {
         (
             b"PUT /v1/d/shop/p1 HTTP/1.1\r\nHost: a\r\nIf-Match: x\r\nContent-Length: 1\r\n\r\n{",
             Refused::BadTag,
-        ),
-        (
-            b"GET /v1/q/shop?f=a+%3D+1&o= HTTP/1.1\r\nHost: a\r\n\r\n",
-            Refused::NotBuilt,
         ),
         (
             b"GET /v1/d/shop/p1 HTTP/1.1\r\nHost: a\r\nIf-None-Match: \"1\"\r\n\r\n",
@@ -152,15 +153,60 @@ fn each_call_is_asked(rt: HostRuntime) -> Result<(), Fail> {
 #[test]
 fn the_fields_of_a_query_are_decoded(rt: HostRuntime) -> Result<(), Fail> {
     let query = b"f=a+%3D+1&o=%2Dyear".as_slice();
-    let Some(values) = fields_in(rt.alloc(), Route::Query, Some(query))? else {
+    let Some(fields) = fields_in(rt.alloc(), Route::Query, Some(query))? else {
         assert!(rt; false);
         return Ok(());
     };
+    let values = fields.as_slice();
     assert_eq!(rt; values.len(), 2);
     assert_eq!(rt; values[0].field(), QueryField::Filter);
     assert_eq!(rt; values[0].value(), b"a = 1".as_slice());
     assert_eq!(rt; values[1].field(), QueryField::Order);
     assert_eq!(rt; values[1].value(), b"-year".as_slice());
+    Ok(())
+}
+
+#[test]
+fn an_ask_keeps_the_fields_of_its_query(rt: HostRuntime) -> Result<(), Fail> {
+    let query = asked(
+        rt.alloc(),
+        b"HEAD /v1/q/shop?f=a+%3D+1 HTTP/1.1\r\nHost: a\r\n\r\n",
+    )?;
+    let Ok(
+        Ask::Query {
+            collection,
+            fields,
+            head,
+        },
+    ) = &query
+    else {
+        assert!(rt; false);
+        return Ok(());
+    };
+    assert_eq!(rt; collection.as_slice(), b"shop".as_slice());
+    assert!(rt; *head);
+    let values = fields.as_slice();
+    assert_eq!(rt; values.len(), 1);
+    assert_eq!(rt; values[0].field(), QueryField::Filter);
+    assert_eq!(rt; values[0].value(), b"a = 1".as_slice());
+    Ok(())
+}
+
+#[test]
+fn an_ask_for_purges_keeps_its_start(rt: HostRuntime) -> Result<(), Fail> {
+    let purges = asked(
+        rt.alloc(),
+        b"GET /v1/purges?from=7 HTTP/1.1\r\nHost: a\r\n\r\n",
+    )?;
+    let Ok(Ask::Purges { fields, head }) = &purges else {
+        assert!(rt; false);
+        return Ok(());
+    };
+    assert!(rt; !*head);
+    let values = fields.as_slice();
+    assert_eq!(rt; values.len(), 1);
+    assert_eq!(rt; values[0].field(), QueryField::From);
+    assert_eq!(rt; values[0].value(), b"7".as_slice());
     Ok(())
 }
 
@@ -174,8 +220,13 @@ fn a_part_of_the_routes_is_served(rt: HostRuntime) -> Result<(), Fail> {
             ..ALL_ROUTES
         },
     )?;
-    let room = room_of(alloc, b"GET /v1/d/shop/p1 HTTP/1.1\r\nHost: a\r\n\r\n")?;
-    let asked = ask_of(alloc, &room.request(), &routes, &mut ReadRoom::new(alloc))?;
+    let buffer = buffer_of(alloc, b"GET /v1/d/shop/p1 HTTP/1.1\r\nHost: a\r\n\r\n")?;
+    let asked = ask_of(
+        alloc,
+        &buffer.request(),
+        &routes,
+        &mut ReadBuffer::new(alloc),
+    )?;
     assert!(rt; matches!(&asked, Err(Refused::NoRoute)));
     Ok(())
 }

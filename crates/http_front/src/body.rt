@@ -1,6 +1,6 @@
 //! The bodies of replies.
 ghost use Rattle.std.specs.Prelude.{◌≡◌, ◌+◌, ◌≤◌, ◌++◌, length, decimal, codes};
-ghost use Rattle.q_outside.specs.Told.{Gave};
+ghost use Rattle.q_outside.specs.Ends.{Gave};
 ghost use Rattle.http_front.specs.ReplyText.{found_text, written_body, outcome_body, stats_body, filter_body, refusal, body_of, given_body};
 ghost use Rattle.http_front.specs.declared.refused.Refused.TheVariants.{Framing, BadDocument};
 
@@ -13,7 +13,7 @@ use hub_model::{Found, Outcome, Stats, Written};
 use q_outside::{Failed, Sink, give_all};
 
 /// The greatest length of a body with numbers in it.
-pub(crate) const NUMBERS_ROOM: usize = 96;
+pub(crate) const NUMBERS_CAPACITY: usize = 96;
 
 /// The body of a read that finds nothing.
 const ABSENT: &[u8] = b"{\"error\":\"absent\"}";
@@ -31,7 +31,7 @@ pub fn write_body<K: Sink>(
 ) -> Result<(), Failed>
     ensures { Gave (K.at sink.old) (K.at sink.new) (given_body shape (body_of told.now page.now)) result }
 {
-    let mut numbers = [0; NUMBERS_ROOM];
+    let mut numbers = [0; NUMBERS_CAPACITY];
     let body = body_of(told, page, &mut numbers);
     give_all(sink, given(shape, body))
 }
@@ -43,51 +43,56 @@ pub(crate) fn given(shape: Shape, body: &[u8]) -> &[u8]
     if shape.head { &[] } else { body }
 }
 
-/// The body of a reply, which stands in the room where it has numbers. Where the reply is a page,
+/// The body of a reply, which is written into the buffer where it has numbers. Where the reply is a page,
 /// these are its bytes.
-pub(crate) fn body_of<'a>(told: &'a Told, page: &'a [u8], room: &'a mut [u8]) -> &'a [u8]
-    requires { NUMBERS_ROOM ≤ length room.old }
+pub(crate) fn body_of<'a>(told: &'a Told, page: &'a [u8], buffer: &'a mut [u8]) -> &'a [u8]
+    requires { NUMBERS_CAPACITY ≤ length buffer.old }
     ensures { result.now ≡ body_of told.now page.now }
 {
     match told {
-        Told::Write(written) => written_body(written, room),
+        Told::Write(written) => written_body(written, buffer),
         Told::Read(answer) => outcome_body(&answer.result),
-        Told::Match(matched) => number_body(b"{\"front\":", matched.front, b"}", room),
+        Told::Match(matched) => number_body(b"{\"front\":", matched.front, b"}", buffer),
         Told::Page(_) => page,
-        Told::Count(stats) => stats_body(stats, room),
-        Told::Refusal(refused, _) => refusal_body(*refused, room),
+        Told::Count(stats) => stats_body(stats, buffer),
+        Told::Refusal(refused, _) => refusal_body(*refused, buffer),
         Told::Memory => NO_MEMORY,
     }
 }
 
-/// A number between two pieces, written into the room.
-fn number_body<'a>(name: &[u8], number: u64, end: &[u8], room: &'a mut [u8]) -> &'a [u8]
-    requires { length name.now + 20 + length end.now ≤ length room.old }
+/// A number between two pieces, written into the buffer.
+fn number_body<'a>(name: &[u8], number: u64, end: &[u8], buffer: &'a mut [u8]) -> &'a [u8]
+    requires { length name.now + 20 + length end.now ≤ length buffer.old }
     ensures { result.now ≡ (name.now ++ decimal number) ++ end.now }
 {
-    let mut at = put(room, 0, name);
-    at = put_number(room, at, number);
-    at = put(room, at, end);
-    &room[..at]
+    let mut at = put(buffer, 0, name);
+    at = put_number(buffer, at, number);
+    at = put(buffer, at, end);
+    &buffer[..at]
 }
 
 /// The body of a write.
-fn written_body<'a>(written: &Written, room: &'a mut [u8]) -> &'a [u8]
-    requires { NUMBERS_ROOM ≤ length room.old }
+fn written_body<'a>(written: &Written, buffer: &'a mut [u8]) -> &'a [u8]
+    requires { NUMBERS_CAPACITY ≤ length buffer.old }
     ensures { result.now ≡ written_body written.now }
 {
     match written {
-        Written::Done { commit, .. } => number_body(b"{\"commit\":", *commit, b"}", room),
-        Written::Precondition { found, .. } => precondition_body(*found, room),
+        Written::Done { commit, .. } => number_body(b"{\"commit\":", *commit, b"}", buffer),
+        Written::Precondition { found, .. } => precondition_body(*found, buffer),
         Written::Full { bytes, .. } => {
-            number_body(b"{\"bytes\":", *bytes, b",\"error\":\"store_full\"}", room)
+            number_body(
+                b"{\"bytes\":",
+                *bytes,
+                b",\"error\":\"store_full\"}",
+                buffer,
+            )
         }
     }
 }
 
 /// The body of a write whose condition is not met.
-fn precondition_body(found: Found, room: &mut [u8]) -> &[u8]
-    requires { NUMBERS_ROOM ≤ length room.old }
+fn precondition_body(found: Found, buffer: &mut [u8]) -> &[u8]
+    requires { NUMBERS_CAPACITY ≤ length buffer.old }
     ensures { result.now ≡ codes "{\"error\":\"precondition\",\"found\":" ++ found_text found ++ codes "}" }
 {
     match found {
@@ -96,7 +101,7 @@ fn precondition_body(found: Found, room: &mut [u8]) -> &[u8]
             b"{\"error\":\"precondition\",\"found\":",
             version,
             b"}",
-            room,
+            buffer,
         ),
     }
 }
@@ -112,23 +117,23 @@ fn outcome_body(outcome: &Outcome) -> &[u8]
 }
 
 /// The body of the counts.
-fn stats_body<'a>(stats: &Stats, room: &'a mut [u8]) -> &'a [u8]
-    requires { NUMBERS_ROOM ≤ length room.old }
+fn stats_body<'a>(stats: &Stats, buffer: &'a mut [u8]) -> &'a [u8]
+    requires { NUMBERS_CAPACITY ≤ length buffer.old }
     ensures { result.now ≡ stats_body stats.now }
 {
-    let mut at = put(room, 0, b"{\"clock\":");
-    at = put_number(room, at, stats.clock.seconds());
-    at = put(room, at, b",\"commits\":");
-    at = put_number(room, at, stats.commits);
-    at = put(room, at, b",\"front\":");
-    at = put_number(room, at, stats.front);
-    at = put(room, at, b"}");
-    &room[..at]
+    let mut at = put(buffer, 0, b"{\"clock\":");
+    at = put_number(buffer, at, stats.clock.seconds());
+    at = put(buffer, at, b",\"commits\":");
+    at = put_number(buffer, at, stats.commits);
+    at = put(buffer, at, b",\"front\":");
+    at = put_number(buffer, at, stats.front);
+    at = put(buffer, at, b"}");
+    &buffer[..at]
 }
 
 /// The body of a refusal.
-fn refusal_body(refused: Refused, room: &mut [u8]) -> &[u8]
-    requires { NUMBERS_ROOM ≤ length room.old }
+fn refusal_body(refused: Refused, buffer: &mut [u8]) -> &[u8]
+    requires { NUMBERS_CAPACITY ≤ length buffer.old }
     ensures { result.now ≡ (refusal refused).body }
 {
     match refused {
@@ -140,7 +145,7 @@ fn refusal_body(refused: Refused, room: &mut [u8]) -> &[u8]
         Refused::NoLength => b"{\"error\":\"no_length\"}",
         Refused::BadEncoding => b"{\"error\":\"bad_encoding\"}",
         Refused::BadTag => b"{\"error\":\"bad_tag\"}",
-        Refused::BadFilter(refused) => filter_body(refused, room),
+        Refused::BadFilter(refused) => filter_body(refused, buffer),
         Refused::NotBuilt => b"{\"error\":\"not_built\"}",
         Refused::BadDocument(reason) => document_body(reason),
     }
@@ -160,18 +165,18 @@ fn framing_body(refused: FramingRefusal) -> &'static [u8]
 }
 
 /// The body of the refusal of a query's field.
-fn filter_body(refused: FilterRefusal, room: &mut [u8]) -> &[u8]
-    requires { NUMBERS_ROOM ≤ length room.old }
+fn filter_body(refused: FilterRefusal, buffer: &mut [u8]) -> &[u8]
+    requires { NUMBERS_CAPACITY ≤ length buffer.old }
     ensures { result.now ≡ filter_body refused }
 {
-    let mut at = put(room, 0, b"{\"error\":\"bad_filter\",\"field\":\"");
-    at = put(room, at, refused.field.name());
-    at = put(room, at, b"\",\"place\":");
-    at = put_number(room, at, refused.place);
-    at = put(room, at, b",\"reason\":\"");
-    at = put(room, at, refused.reason.word());
-    at = put(room, at, b"\"}");
-    &room[..at]
+    let mut at = put(buffer, 0, b"{\"error\":\"bad_filter\",\"field\":\"");
+    at = put(buffer, at, refused.field.name());
+    at = put(buffer, at, b"\",\"place\":");
+    at = put_number(buffer, at, refused.place);
+    at = put(buffer, at, b",\"reason\":\"");
+    at = put(buffer, at, refused.reason.word());
+    at = put(buffer, at, b"\"}");
+    &buffer[..at]
 }
 
 /// The body of the refusal of a document.

@@ -3,18 +3,17 @@ ghost use Rattle.std.specs.Prelude.{◌≡◌, ◌<◌, ◌+◌, ◌++◌, lengt
 ghost use Rattle.std.specs.Option.{option_copied};
 ghost use Rattle.std.specs.Str.{str_eq_ignore_ascii_case};
 ghost use Rattle.http_message.specs.Fields.{values};
-ghost use Rattle.http_front.specs.Asks.{has_condition, has_host, has_length, is_plain};
-ghost use Rattle.http_front.specs.Early.{is_bare};
+ghost use Rattle.http_front.specs.Asks.{has_condition, has_host, has_length, has_no_coding};
 
 use http_message::{Named, Request};
 
-/// The value of the field at this place, where it has this name.
-pub fn value_at<'a>(request: &Request<'a>, place: usize, name: &[u8]) -> Option<&'a [u8]>
-    requires { place < length request.now.fields }
-    ensures { values name.now (take (place + 1) request.now.fields) ≡ values name.now (take place request.now.fields) ++ option_to_list (option_copied result) }
+/// The value of the field with this index, where it has this name.
+pub fn value_at<'a>(request: &Request<'a>, index: usize, name: &[u8]) -> Option<&'a [u8]>
+    requires { index < length request.now.fields }
+    ensures { values name.now (take (index + 1) request.now.fields) ≡ values name.now (take index request.now.fields) ++ option_to_list (option_copied result) }
 {
-    if is_same_word(request.name(place), name) {
-        return Some(request.value(place));
+    if is_same_word(request.name(index), name) {
+        return Some(request.value(index));
     }
     None
 }
@@ -31,7 +30,7 @@ pub fn has_host(request: &Request<'_>) -> bool
     }
 }
 
-/// Whether the length of the body is told.
+/// Whether the length of the body is given (RFC 9112, section 6).
 #[tactic(auto, unfolding(crate::specs::Asks::has_length))]
 pub fn has_length(request: &Request<'_>) -> bool
     ensures { result ≡ has_length request.now }
@@ -48,25 +47,17 @@ pub fn has_condition(request: &Request<'_>) -> bool
 }
 
 /// Whether the content has no coding but `identity`.
-pub fn is_plain(request: &Request<'_>) -> bool
-    ensures { result ≡ is_plain request.now }
+pub fn has_no_coding(request: &Request<'_>) -> bool
+    ensures { result ≡ has_no_coding request.now }
 {
-    for place in 0..request.field_count() {
-        if let Some(coding) = value_at(request, place, b"content-encoding")
+    for index in 0..request.field_count() {
+        if let Some(coding) = value_at(request, index, b"content-encoding")
             && !is_same_word(coding, b"identity")
         {
             return false;
         }
     }
     true
-}
-
-/// Whether the length of the body is not told, or it has a coding.
-#[tactic(auto, unfolding(crate::specs::Early::is_bare))]
-pub fn is_bare(request: &Request<'_>) -> bool
-    ensures { result ≡ is_bare request.now }
-{
-    !has_length(request) || !is_plain(request)
 }
 
 /// Whether two texts are the same without regard to ASCII case.

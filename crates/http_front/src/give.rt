@@ -1,20 +1,20 @@
 //! Giving the text of a reply to a sink.
 ghost use Rattle.std.specs.Prelude.{ℕ, List};
-ghost use Rattle.q_outside.specs.Told.{Gave};
+ghost use Rattle.q_outside.specs.Ends.{Gave};
 ghost use Rattle.http_front.specs.ReplyText.{IsReplyText};
 
-use crate::body::{NUMBERS_ROOM, body_of, given};
+use crate::body::{NUMBERS_CAPACITY, body_of, given};
 use crate::head::Head;
 use crate::reply::ReplyRoom;
 use crate::shape::Shape;
 use crate::told::Told;
 use q_outside::{Failed, Sink, give_all, give_both};
 
-/// Gives the text of a reply: in one piece where it fits the room, and else its head and then its
+/// Gives the text of a reply: in one piece where it fits the buffer, and else its head and then its
 /// body. Where it is a page, these are its bytes.
 pub fn give_reply<K: Sink>(
     sink: &mut K,
-    room: &mut ReplyRoom,
+    buffer: &mut ReplyRoom,
     shape: Shape,
     told: &Told,
     page: &[u8],
@@ -22,14 +22,14 @@ pub fn give_reply<K: Sink>(
 ) -> Result<(), Failed>
     ensures reply { (text : List ℕ) × IsReplyText shape told.now page.now close text × Gave (K.at sink.old) (K.at sink.new) text result }
 {
-    let mut numbers = [0; NUMBERS_ROOM];
+    let mut numbers = [0; NUMBERS_CAPACITY];
     let body = body_of(told, page, &mut numbers);
     let head = Head::of(shape, told, body.len(), close);
-    room.write_head(&head, told.clock());
+    buffer.write_head(&head, told.clock());
     let behind = given(shape, body);
-    if room.put_where_it_fits(behind) {
-        give_all(sink, room.bytes())
+    if buffer.put_where_it_fits(behind) {
+        give_all(sink, buffer.bytes())
     } else {
-        give_both(sink, room.bytes(), behind)
+        give_both(sink, buffer.bytes(), behind)
     }
 }

@@ -4,7 +4,7 @@ ghost use Rattle.http_front.specs.ReadBack.{FramesItsBody, OneReplyIsRead, Reads
 
 use crate::head::Head;
 
-/// A path has the route of a record exactly where it is UTF-8, and `/v1/d/` with two parts behind it
+/// A path has the route of a record exactly where it is UTF-8, and `/v1/d/` with two parts after it
 /// that a slash parts.
 pub fn paths_of_records_have_two_names()
     ensures { PathsOfRecordsHaveTwoNames }
@@ -17,17 +17,17 @@ pub fn replies_read_back(head: Head)
     let _status = head.status.as_u16();
 }
 
-/// A head that tells a length frames just so many bytes, where its status has a body.
+/// A head with a length frames just this number of bytes, where its status has a body.
 pub fn replies_are_framed(head: Head)
     ensures { FramesItsBody head }
 {}
 
-/// What is read at the front of bytes is one status, one list of fields and one rest.
+/// Bytes are read as one status, one list of fields and one rest at most.
 pub fn one_reply_is_read()
     ensures { OneReplyIsRead }
 {}
 
-/// Equal items, told and pages have equal texts.
+/// Equal items, answers and pages have equal texts.
 pub fn replies_have_one_text()
     ensures { RepliesHaveOneText }
 {}

@@ -36,9 +36,9 @@ pub use laws::{
     replies_read_back,
 };
 pub use pieces::{Body, Bytes, Parts, give_pieces};
-pub use query::{FieldValue, fields_in};
+pub use query::{FieldValue, QueryFields, fields_in};
 pub use refused::{Allow, DocumentReason, FilterReason, FilterRefusal, QueryField, Refused};
-pub use reply::{REPLY_ROOM, ReplyRoom, reply_text};
+pub use reply::{REPLY_CAPACITY, ReplyRoom, reply_text};
 pub use routes::{ALL_ROUTES, Route, Routes, Served};
 pub use shape::Shape;
 pub use told::Told;

@@ -1,8 +1,9 @@
 //! The names in a path.
-ghost use Rattle.std.specs.Prelude.{◌≡◌, ◌&&◌, is_ok, IfOk};
-ghost use Rattle.q_base.specs.Name.{is_name_byte, read_name};
+ghost use Rattle.std.specs.Prelude.{◌≡◌, ◌&&◌, is_ok, length, IfOk};
+ghost use Rattle.q_base.specs.Name.{is_name_byte};
 ghost use Rattle.std.specs.List.{list_all};
 ghost use Rattle.http_front.specs.Asks.{name_in};
+ghost use Rattle.percent_encoding.specs.Percent.{percent_decode};
 
 use crate::refused::Refused;
 use percent_encoding::percent_decode;
@@ -24,29 +25,50 @@ pub(crate) fn name_in(alloc: Global, text: &[u8]) -> Result<Result<Name, Refused
     }
 }
 
-/// Whether two texts are names as they stand. It takes no memory.
+/// Whether two texts are names once their escapes are decoded. It takes no memory.
 pub(crate) fn are_names(first: &[u8], second: &[u8]) -> bool
-    ensures { result ≡ (is_ok (read_name first.now) && is_ok (read_name second.now)) }
+    ensures { result ≡ (is_ok (name_in first.now) && is_ok (name_in second.now)) }
 {
     is_name(first) && is_name(second)
 }
 
-/// Whether a text is a name as it stands.
-fn is_name(text: &[u8]) -> bool
-    ensures { result ≡ is_ok (read_name text.now) }
+/// Whether a text is a name once its escapes are decoded. It takes no memory.
+#[tactic(auto, unfolding(crate::specs::Asks::name_in))]
+pub(crate) fn is_name(text: &[u8]) -> bool
+    ensures { result ≡ is_ok (name_in text.now) }
 {
-    if text.is_empty() {
+    let length = decoded_length(text);
+    if length == 0 {
         return false;
     }
-    if text.len() > 64 {
+    if length > 64 {
         return false;
     }
     has_name_bytes(text)
 }
 
-/// Whether a name may have each of the bytes.
-fn has_name_bytes(text: &[u8]) -> bool
-    ensures { result ≡ list_all is_name_byte text.now }
+/// The length of a text without its escapes.
+fn decoded_length(text: &[u8]) -> usize
+    ensures { result ≡ length (percent_decode text.now) }
 {
-    text.iter().all(|byte| matches!(*byte, b'a'..=b'z' | b'0'..=b'9' | b'_' | b'-'))
+    percent_decode(text).count()
+}
+
+/// Whether a name may have each of the bytes of a text without its escapes.
+fn has_name_bytes(text: &[u8]) -> bool
+    ensures { result ≡ list_all is_name_byte (percent_decode text.now) }
+{
+    for byte in percent_decode(text) {
+        if !is_name_byte(byte) {
+            return false;
+        }
+    }
+    true
+}
+
+/// Whether a name may have the byte.
+fn is_name_byte(byte: u8) -> bool
+    ensures { result ≡ is_name_byte byte }
+{
+    matches!(byte, b'a'..=b'z' | b'0'..=b'9' | b'_' | b'-')
 }

@@ -1,6 +1,6 @@
-//! Bodies that are given piece by piece, behind a head that tells their length.
+//! Bodies that are given piece by piece, after a head with their length.
 ghost use Rattle.std.specs.Prelude.{ℕ, List};
-ghost use Rattle.q_outside.specs.Told.{Gave};
+ghost use Rattle.q_outside.specs.Ends.{Gave};
 ghost use Rattle.http_front.specs.Pieces.{given_text, parts_text};
 ghost use Rattle.http_front.specs.ReplyText.{IsHeadText};
 
@@ -9,7 +9,7 @@ use crate::reply::ReplyRoom;
 use q_base::{Moment, Text};
 use q_outside::{Failed, Sink, give_all};
 
-/// A body that a sink is given piece by piece, so that no room has to hold it.
+/// A body that a sink is given piece by piece, so that no buffer has to hold it.
 pub trait Body {
     /// Its bytes.
     ghost text: { Self → List ℕ };
@@ -19,7 +19,7 @@ pub trait Body {
         ensures { Gave (K.at sink.old) (K.at sink.new) (text self.now) result };
 }
 
-/// A body that stands in one piece.
+/// A body that is in one piece.
 pub struct Bytes<'a> {
     /// The bytes.
     pub bytes: &'a [u8],
@@ -33,7 +33,7 @@ impl<'a> Body for Bytes<'a> {
     }
 }
 
-/// A body of parts, one behind the other.
+/// A body of parts, one after the other.
 #[derive(Drop)]
 pub struct Parts {
     /// The parts.
@@ -46,8 +46,8 @@ impl Body for Parts {
     ghost text = { λ b. parts_text b.parts.items };
 
     fn give<K: Sink>(&self, sink: &mut K) -> Result<(), Failed> {
-        for place in 0..self.parts.len() {
-            if let Err(failed) = give_all(sink, self.parts[place].as_slice()) {
+        for index in 0..self.parts.len() {
+            if let Err(failed) = give_all(sink, self.parts[index].as_slice()) {
                 return Err(failed);
             }
         }
@@ -58,7 +58,7 @@ impl Body for Parts {
 /// Gives a reply of this head, dated by a clock, with a body in pieces; to HEAD the head alone.
 pub fn give_pieces<B: Body, K: Sink>(
     sink: &mut K,
-    room: &mut ReplyRoom,
+    buffer: &mut ReplyRoom,
     head: &Head,
     clock: Moment,
     body: &B,
@@ -66,11 +66,11 @@ pub fn give_pieces<B: Body, K: Sink>(
 ) -> Result<(), Failed>
     ensures { (text : List ℕ) × IsHeadText head.now clock text × Gave (K.at sink.old) (K.at sink.new) (given_text text (B.text body.now) to_head) result }
 {
-    room.write_head(head, clock);
-    give_behind(sink, room.bytes(), body, to_head)
+    buffer.write_head(head, clock);
+    give_behind(sink, buffer.bytes(), body, to_head)
 }
 
-/// Gives the text of a head and the body behind it; to HEAD the head alone.
+/// Gives the text of a head and then the body; to HEAD the head alone.
 fn give_behind<B: Body, K: Sink>(
     sink: &mut K,
     head: &[u8],

@@ -1,4 +1,4 @@
-//! Writing bytes from a place of a room on. Each call answers the place behind what it wrote.
+//! Writing bytes into a buffer from an offset on. Each call answers the offset of the end of what it wrote.
 ghost use Rattle.std.specs.Prelude.{◌≡◌, ◌+◌, ◌<◌, ◌≤◌, ◌++◌, length, take, decimal};
 ghost use Rattle.http_front.specs.Lines.{number_line};
 
@@ -6,25 +6,25 @@ use itoa::write_digits;
 
 /// Writes a piece.
 #[inline(always)]
-pub(crate) fn put(room: &mut [u8], at: usize, piece: &[u8]) -> usize
-    requires { at + length piece.now ≤ length room.old }
+pub(crate) fn put(buffer: &mut [u8], at: usize, piece: &[u8]) -> usize
+    requires { at + length piece.now ≤ length buffer.old }
     ensures end { result ≡ at + length piece.now }
-    ensures text { take result room.new ≡ take at room.old ++ piece.now }
+    ensures text { take result buffer.new ≡ take at buffer.old ++ piece.now }
 {
     let end = at + piece.len();
-    room[at..end].copy_from_slice(piece);
+    buffer[at..end].copy_from_slice(piece);
     end
 }
 
 /// Writes a number.
 #[inline(never)]
-pub(crate) fn put_number(room: &mut [u8], at: usize, number: u64) -> usize
-    requires { at + 20 ≤ length room.old }
+pub(crate) fn put_number(buffer: &mut [u8], at: usize, number: u64) -> usize
+    requires { at + 20 ≤ length buffer.old }
     ensures end { result ≤ at + 20 }
-    ensures text { take result room.new ≡ take at room.old ++ decimal number }
+    ensures text { take result buffer.new ≡ take at buffer.old ++ decimal number }
 {
     let end = at + digit_count(number);
-    write_digits(number, room, end);
+    write_digits(number, buffer, end);
     end
 }
 
@@ -61,20 +61,20 @@ fn short_count(number: u64) -> usize
 /// Writes a number between two pieces, where there is one.
 #[inline(always)]
 pub(crate) fn put_field(
-    room: &mut [u8],
+    buffer: &mut [u8],
     at: usize,
     name: &[u8],
     number: Option<u64>,
     end: &[u8],
 ) -> usize
-    requires { at + length name.now + 20 + length end.now ≤ length room.old }
+    requires { at + length name.now + 20 + length end.now ≤ length buffer.old }
     ensures end { result ≤ at + length name.now + 20 + length end.now }
-    ensures text { take result room.new ≡ take at room.old ++ number_line name.now number end.now }
+    ensures text { take result buffer.new ≡ take at buffer.old ++ number_line name.now number end.now }
 {
     let Some(number) = number else {
         return at;
     };
-    let mut behind = put(room, at, name);
-    behind = put_number(room, behind, number);
-    put(room, behind, end)
+    let mut behind = put(buffer, at, name);
+    behind = put_number(buffer, behind, number);
+    put(buffer, behind, end)
 }

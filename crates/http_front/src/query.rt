@@ -1,8 +1,9 @@
 //! The fields of a target's query.
-ghost use Rattle.std.specs.Prelude.{◌≡◌, true, is_none, IfOk, IsOk, map, option_map};
+ghost use Rattle.std.specs.Prelude.{◌≡◌, true, IfOk, IsOk, map, option_map};
 ghost use Rattle.std.specs.Option.{option_copied};
 ghost use Rattle.std.specs.Str.{is_utf8};
-ghost use Rattle.http_front.specs.Query.{decoded, field_named, fields_in, fields_of, is_among, is_start, is_value, name_of, pieces_of, spaced, valued};
+ghost use Rattle.http_front.specs.Free.{is_free_query};
+ghost use Rattle.http_front.specs.Query.{decoded, field_named, fields_in, fields_of, is_among, is_start, is_value, name_of, pieces_of, spaced, takes_fields, valued};
 ghost use Rattle.http_front.specs.declared.routes.Route.TheVariants.{Query};
 
 use crate::cut::{cut_at, cut_in_two};
@@ -45,20 +46,59 @@ impl FieldValue {
     }
 }
 
+/// The decoded fields of a query, in their order. Contracts see a list.
+#[derive(Drop)]
+pub struct QueryFields {
+    values: Vec<FieldValue>,
+}
+
+impl Model for QueryFields {
+    ghost use Rattle.std.specs.Prelude.{List};
+    ghost use Rattle.http_front.specs.Query.{NamedValue};
+
+    ghost Value = { List NamedValue };
+
+    ghost view = { λ f. f.values.items };
+}
+
+impl QueryFields {
+    /// The fields, in the order of the query.
+    pub fn as_slice(&self) -> &[FieldValue]
+        ensures { result.now ≡ self.now }
+    {
+        self.values.as_slice()
+    }
+}
+
 /// The fields of a query, where each is one of the route and in its form, and none is repeated.
 #[tactic(auto, unfolding(crate::specs::Query::fields_in))]
 pub fn fields_in(
     alloc: Global,
     route: Route,
     query: Option<&[u8]>,
-) -> Result<Option<Vec<FieldValue>>, Memory>
-    ensures fields { IfOk result (λ values. option_map (λ v. v.items) values ≡ fields_in route (option_copied query.entry)) }
-    ensures none { is_none (option_copied query.entry) ≡ true → IsOk result }
+) -> Result<Option<QueryFields>, Memory>
+    ensures fields { IfOk result (λ fields. fields ≡ fields_in route (option_copied query.entry)) }
+    ensures free { is_free_query route (option_copied query.entry) ≡ true → IsOk result }
 {
-    match query {
-        Some(query) => fields_of(alloc, route, query),
-        None => Ok(Some(Vec::new(alloc))),
+    let Some(query) = query else {
+        return Ok(Some(QueryFields {
+            values: Vec::new(alloc),
+        }));
+    };
+    if !takes_fields(route) {
+        return Ok(None);
     }
+    match fields_of(alloc, route, query)? {
+        Some(values) => Ok(Some(QueryFields { values })),
+        None => Ok(None),
+    }
+}
+
+/// Whether a query of the route has fields.
+fn takes_fields(route: Route) -> bool
+    ensures { result ≡ takes_fields route }
+{
+    matches!(route, Route::Query | Route::Purges)
 }
 
 /// The fields that a text is.

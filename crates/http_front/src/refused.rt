@@ -4,7 +4,7 @@ ghost use Rattle.http_front.specs.ReplyText.{allowed, field_name, reason_word};
 
 use http_message::FramingRefusal;
 
-/// The methods of a route, as a reply with the status 405 tells them (RFC 9110, section 10.2.1).
+/// The methods of a route, as a reply with the status 405 lists them (RFC 9110, section 10.2.1).
 #[derive(Clone, Copy, Debug, PartialEq, Eq)]
 pub enum Allow {
     /// GET, HEAD, PUT and DELETE.
@@ -39,7 +39,7 @@ pub enum QueryField {
     Skip,
     /// `n`, how many rows are taken.
     Take,
-    /// `k`, what is told of a row.
+    /// `k`, what is answered of a row.
     Kind,
     /// `from`, the first purge.
     From,
@@ -62,7 +62,7 @@ pub enum FilterReason {
     TooDeep,
 }
 
-/// Where and why a field of a query is refused. The place is a byte of the value, or the number that
+/// Where and why a field of a query is refused. The place is an offset in the value, or the number that
 /// is too great.
 #[derive(Clone, Copy, Debug, PartialEq, Eq)]
 pub struct FilterRefusal {
@@ -84,7 +84,7 @@ pub enum Refused {
     NoRoute,
     /// The route does not have the method, but these.
     BadMethod(Allow),
-    /// A PUT does not tell the length of its body.
+    /// A PUT does not give the length of its body (RFC 9110, section 15.5.12).
     NoLength,
     /// A PUT has a content coding.
     BadEncoding,

@@ -169,11 +169,11 @@ fn replies_have_their_texts(rt: HostRuntime) -> Result<(), Fail> {
             "HTTP/1.1 503 Service Unavailable\r\nContent-Type: application/json\r\nContent-Length: 18\r\nCache-Control: no-store\r\n\r\n{\"error\":\"memory\"}",
         ),
     ];
-    let mut room = ReplyRoom::new(rt.alloc())?;
+    let mut buffer = ReplyRoom::new(rt.alloc())?;
     for (shape, told, close, text) in &table {
         let mut sink = EndlessSink;
-        assert!(rt; give_reply(&mut sink, &mut room, *shape, told, b"", *close).is_ok());
-        assert_eq!(rt; room.bytes(), text.as_bytes());
+        assert!(rt; give_reply(&mut sink, &mut buffer, *shape, told, b"", *close).is_ok());
+        assert_eq!(rt; buffer.bytes(), text.as_bytes());
     }
     Ok(())
 }
@@ -189,14 +189,17 @@ fn head_is_answered_without_the_body(rt: HostRuntime) -> Result<(), Fail> {
             version: Some(1),
         },
     });
-    let mut room = ReplyRoom::new(rt.alloc())?;
+    let mut buffer = ReplyRoom::new(rt.alloc())?;
     let mut sink = EndlessSink;
-    assert!(rt; give_reply(&mut sink, &mut room, HEAD, &told, b"", false).is_ok());
-    assert_eq!(rt; room.bytes(), READ.as_bytes());
-    assert!(rt; give_reply(&mut sink, &mut room, PLAIN, &told, b"", false).is_ok());
-    assert_eq!(rt; room.bytes().len(), READ.len() + 7);
-    assert_eq!(rt; reply_text(PLAIN, &told, b"", false, &mut room), READ.len());
-    assert_eq!(rt; room.bytes(), READ.as_bytes());
+    assert!(rt; give_reply(&mut sink, &mut buffer, HEAD, &told, b"", false).is_ok());
+    assert_eq!(rt; buffer.bytes(), READ.as_bytes());
+    assert!(rt; give_reply(&mut sink, &mut buffer, PLAIN, &told, b"", false).is_ok());
+    assert_eq!(rt; buffer.bytes().len(), READ.len() + 7);
+    assert_eq!(rt;
+        reply_text(PLAIN, &told, b"", false, &mut buffer),
+        READ.len()
+    );
+    assert_eq!(rt; buffer.bytes(), READ.as_bytes());
     assert!(rt; write_body(PLAIN, &told, b"", &mut sink).is_ok());
     Ok(())
 }
@@ -208,23 +211,23 @@ fn a_head_of_any_status_is_printed(rt: HostRuntime) -> Result<(), Fail> {
         length: None,
         tag: Some(1),
         ttl: 60,
-        ..Head::plain(StatusCode::NOT_MODIFIED, 0, false)
+        ..Head::json(StatusCode::NOT_MODIFIED, 0, false)
     };
-    let mut room = ReplyRoom::new(rt.alloc())?;
-    room.write_head(&unchanged, Moment::of(100));
+    let mut buffer = ReplyRoom::new(rt.alloc())?;
+    buffer.write_head(&unchanged, Moment::of(100));
     assert_eq!(rt;
-        room.bytes(),
+        buffer.bytes(),
         b"HTTP/1.1 304 Not Modified\r\nDate: Thu, 01 Jan 1970 00:01:40 GMT\r\nETag: \"1\"\r\nCache-Control: max-age=60\r\n\r\n".as_slice()
     );
     let mut parts = Vec::new(rt.alloc());
     parts.push(Text::of(b"{\"error\":".to_vec(rt.alloc())?))?;
     parts.push(Text::of(b"\"origin\"}".to_vec(rt.alloc())?))?;
     let body = Parts { parts };
-    let head = Head::plain(StatusCode::BAD_GATEWAY, 18, true);
+    let head = Head::json(StatusCode::BAD_GATEWAY, 18, true);
     let mut sink = EndlessSink;
-    assert!(rt; give_pieces(&mut sink, &mut room, &head, Moment::of(100), &body, false).is_ok());
+    assert!(rt; give_pieces(&mut sink, &mut buffer, &head, Moment::of(100), &body, false).is_ok());
     assert_eq!(rt;
-        room.bytes(),
+        buffer.bytes(),
         b"HTTP/1.1 502 Bad Gateway\r\nDate: Thu, 01 Jan 1970 00:01:40 GMT\r\nContent-Type: application/json\r\nContent-Length: 18\r\nCache-Control: no-store\r\nConnection: close\r\n\r\n".as_slice()
     );
     Ok(())

@@ -9,10 +9,10 @@ use q_base::Memory;
 use std::alloc::Global;
 use std::marker::Model;
 
-/// What stands before the names in the path of a record.
+/// What precedes the names in the path of a record.
 pub const RECORDS: &[u8] = b"/v1/d/";
 
-/// What stands before the name in the path of a query.
+/// What precedes the name in the path of a query.
 pub const QUERIES: &[u8] = b"/v1/q/";
 
 /// What a path names.

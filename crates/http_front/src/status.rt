@@ -10,40 +10,40 @@ use http::StatusCode;
 use http_message::FramingRefusal;
 use hub_model::Found;
 
-/// The room that a status line is written into.
+/// The buffer that a status line is written into.
 pub(crate) const STATUS_ROOM: usize = 63;
 
-/// Writes the line of a status at the front of a room.
+/// Writes the line of a status at the start of a buffer.
 #[tactic(auto, using(crate::proofs::StatusLemmas::known_lines))]
 #[inline(always)]
-pub(crate) fn put_status(room: &mut [u8], status: StatusCode) -> usize
-    requires { STATUS_ROOM ≤ length room.old }
+pub(crate) fn put_status(buffer: &mut [u8], status: StatusCode) -> usize
+    requires { STATUS_ROOM ≤ length buffer.old }
     ensures end { result ≤ STATUS_ROOM }
-    ensures text { take result room.new ≡ status_line status }
+    ensures text { take result buffer.new ≡ status_line status }
 {
     match status {
-        StatusCode::OK => put(room, 0, b"HTTP/1.1 200 OK\r\n"),
-        StatusCode::CREATED => put(room, 0, b"HTTP/1.1 201 Created\r\n"),
-        StatusCode::NOT_FOUND => put(room, 0, b"HTTP/1.1 404 Not Found\r\n"),
-        _ => put_line(room, status),
+        StatusCode::OK => put(buffer, 0, b"HTTP/1.1 200 OK\r\n"),
+        StatusCode::CREATED => put(buffer, 0, b"HTTP/1.1 201 Created\r\n"),
+        StatusCode::NOT_FOUND => put(buffer, 0, b"HTTP/1.1 404 Not Found\r\n"),
+        _ => put_line(buffer, status),
     }
 }
 
 /// Writes the line of any status, with the phrase that the crate `http` gives to it.
 #[tactic(auto, using(crate::proofs::StatusLemmas::status_pieces))]
 #[inline(never)]
-fn put_line(room: &mut [u8], status: StatusCode) -> usize
-    requires { STATUS_ROOM ≤ length room.old }
+fn put_line(buffer: &mut [u8], status: StatusCode) -> usize
+    requires { STATUS_ROOM ≤ length buffer.old }
     ensures end { result ≤ STATUS_ROOM }
-    ensures text { take result room.new ≡ status_line status }
+    ensures text { take result buffer.new ≡ status_line status }
 {
     let code = status.as_u16();
     let phrase = phrase_of(status);
-    let mut at = put(room, 0, b"HTTP/1.1 ");
-    at = put_number(room, at, u64::from(code));
-    at = put(room, at, b" ");
-    at = put(room, at, phrase);
-    put(room, at, b"\r\n")
+    let mut at = put(buffer, 0, b"HTTP/1.1 ");
+    at = put_number(buffer, at, u64::from(code));
+    at = put(buffer, at, b" ");
+    at = put(buffer, at, phrase);
+    put(buffer, at, b"\r\n")
 }
 
 /// The status of a write that was accepted, by what it found.

@@ -64,8 +64,8 @@ fn commits_in(
     ensures { Answers (commits_in comparison (values name.now request.now.fields)) result }
 {
     let mut commits = Commits::new(alloc);
-    for place in 0..request.field_count() {
-        if let Some(value) = value_at(request, place, name) {
+    for index in 0..request.field_count() {
+        if let Some(value) = value_at(request, index, name) {
             add_list(&mut commits, value, comparison)?;
         }
     }
@@ -88,7 +88,7 @@ fn add_list(commits: &mut Commits, list: &[u8], comparison: Comparison) -> Resul
     }
 }
 
-/// Adds the commit that a member names, as far as there is room. An empty member is none.
+/// Adds the commit that a member names, where fewer than 16 are there. An empty member is none.
 fn add_member(
     commits: &mut Commits,
     member: &[u8],
@@ -112,17 +112,17 @@ fn add_member(
     }
 }
 
-/// The list up to its first comma outside of quotes, and behind it.
+/// The list before its first comma outside of quotes, and after it.
 fn cut_member(list: &[u8]) -> (&[u8], Option<&[u8]>)
     ensures pieces { pieces_from false list.now ≡ result.0.now ∷ pieces_behind (option_copied result.1) }
     ensures less { IfSome result.1 (λ rest. length rest.now < length list.now) }
 {
     let mut quoted = false;
-    for (place, byte) in list.iter().enumerate() {
+    for (index, byte) in list.iter().enumerate() {
         if *byte == b'"' {
             quoted = !quoted;
         } else if *byte == b',' && !quoted {
-            return (&list[..place], Some(&list[place + 1..]));
+            return (&list[..index], Some(&list[index + 1..]));
         }
     }
     (list, None)
@@ -180,7 +180,7 @@ fn trim(text: &[u8]) -> &[u8]
     trim_end(trim_start(text))
 }
 
-/// Without the white space at the front.
+/// Without the white space at the start.
 fn trim_start(text: &[u8]) -> &[u8]
     ensures { result.now ≡ skip_ows text.now }
 {

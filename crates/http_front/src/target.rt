@@ -17,17 +17,17 @@ pub fn local_part(target: &[u8]) -> Option<&[u8]>
     None
 }
 
-/// What stands from the first `/` or `?` on.
+/// The rest from the first `/` or `?` on.
 fn behind_authority(rest: &[u8]) -> &[u8]
     ensures { result.now ≡ drop (position_or_len ends_authority rest.now) rest.now }
 {
     match authority_end(rest) {
-        Some(place) => &rest[place..],
+        Some(offset) => &rest[offset..],
         None => &[],
     }
 }
 
-/// The place of the first `/` or `?`.
+/// The offset of the first `/` or `?`.
 fn authority_end(rest: &[u8]) -> Option<usize>
     ensures { result ≡ position ends_authority rest.now }
 {

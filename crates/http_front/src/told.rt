@@ -1,4 +1,4 @@
-//! What a request is told.
+//! What is answered to a request.
 ghost use Rattle.std.specs.Prelude.{◌≡◌};
 ghost use Rattle.http_front.specs.ReplyText.{written_clock, clock_of};
 
@@ -6,7 +6,7 @@ use crate::refused::Refused;
 use hub_model::{Answer, Matched, Stats, Written};
 use q_base::Moment;
 
-/// What a request is told.
+/// What is answered to a request.
 #[derive(Debug, Drop)]
 pub enum Told {
     /// The reply to a write.
@@ -15,7 +15,7 @@ pub enum Told {
     Read(Answer),
     /// The front after a match.
     Match(Matched),
-    /// A page, whose bytes stand in the room that it was fetched into. The moment is the clock after
+    /// A page, whose bytes are in the buffer that it was fetched into. The moment is the clock after
     /// its entry.
     Page(Moment),
     /// The counts of the store.

@@ -9,7 +9,7 @@ use Rattle.httparse.specs.Ascii.{crlf_bytes}
 use Rattle.httparse.specs.Grammar.{ChunkLine, print_chunk_line}
 use Rattle.httparse.specs.Spans.{IsChunkLineAt}
 use Rattle.http_message.specs.Coded.{ComesOut, IsChunk, IsPart, IsLineHere, IsLineEnd, IsContent, EndsCoding, ConcludesSo, IsEnding}
-use Rattle.http_message.specs.Coding.{Decodes, chunk, last, bad_line, long_line, large, bad_end, bad_trailers, long_trailers, short_line, short_chunk, short_trailers, Outcome, Decoded, Broken, Unfinished, behind, Whole, Overlong, Short, line_at, trailers_at, room_behind, overlong_at, fits, IsSizeLine, IsNoLine, AreTrailers, AreNoTrailers}
+use Rattle.http_message.specs.Coding.{Decodes, chunk, last, bad_line, long_line, large, bad_end, bad_trailers, long_trailers, short_line, short_chunk, short_trailers, Outcome, Decoded, Broken, Unfinished, behind, Whole, Overlong, Short, line_at, trailers_at, capacity_behind, overlong_at, fits, IsSizeLine, IsNoLine, AreTrailers, AreNoTrailers}
 use Rattle.http_message.specs.Line.{text_at, EndsIn, Overruns, IsOpenIn}
 use Rattle.http_message.specs.declared.chunk.Part.{Part}
 use Rattle.http_message.specs.declared.chunk.Part.TheVariants as part
@@ -35,16 +35,16 @@ no_other_line text len size line at apart = record {
       ));
 }
 
--- what stands at the front, as it is searched for
-pub line_is : (coded : ℕ) (bytes : List ℕ) → line_at coded bytes ≡ text_at Line (room_behind coded) bytes
+-- what the bytes begin with, as it is searched for
+pub line_is : (coded : ℕ) (bytes : List ℕ) → line_at coded bytes ≡ text_at Line (capacity_behind coded) bytes
 unfolding line_at
 line_is coded bytes = refl
 
-pub trailers_is : (coded : ℕ) (bytes : List ℕ) → trailers_at coded bytes ≡ text_at Trailers (room_behind coded) bytes
+pub trailers_is : (coded : ℕ) (bytes : List ℕ) → trailers_at coded bytes ≡ text_at Trailers (capacity_behind coded) bytes
 unfolding trailers_at
 trailers_is coded bytes = refl
 
-pub line_of : (coded : ℕ) (text : List ℕ) → coded ≤ coding_limit → IsHere Line (room_behind coded) text → IsLineHere coded text
+pub line_of : (coded : ℕ) (text : List ℕ) → coded ≤ coding_limit → IsHere Line (capacity_behind coded) text → IsLineHere coded text
 line_of coded text within here = record {
   all = λ more. line_is coded (text ++ more) ∙ here.all more;
   some = here.some;
@@ -52,33 +52,33 @@ line_of coded text within here = record {
 }
 
 -- the line was found
-pub line_found : (coded most : ℕ) (held : List ℕ) (size : ℕ) → coded ≤ coding_limit → most ≡ room_behind coded
+pub line_found : (coded most : ℕ) (held : List ℕ) (size : ℕ) → coded ≤ coding_limit → most ≡ capacity_behind coded
     → EndsIn Line most held size → IsLineHere coded (take size held)
 line_found coded most held size within is ends =
     line_of coded (take size held) within
     (subst (λ (n : ℕ). IsHere Line n (take size held)) is (ends_here Line most held size ends))
 
--- a text that fills its room is refused
-pub line_overlong : (coded got most : ℕ) (held : List ℕ) → most ≡ room_behind coded → Overruns Line most held
+-- a text that does not end within its limit is refused
+pub line_overlong : (coded got most : ℕ) (held : List ℕ) → most ≡ capacity_behind coded → Overruns Line most held
     → ComesOut coded got (coded + most) (Broken (overlong_at coded)) (take most held)
 line_overlong coded got most held is over =
     let text = take most held in
     let size : length text ≡ most = length-take-le most held over.full in
-    let again : Overruns Line (room_behind coded) text =
+    let again : Overruns Line (capacity_behind coded) text =
     subst (λ (n : ℕ). Overruns Line n text) is
     (subst (λ (xs : List ℕ). Overruns Line most xs) (append-nil text) (overruns_here Line most held [] over)) in
     record {
       decodes = long_line coded got text
-          (line_is coded text ∙ text_overlong Line (room_behind coded) text again) (size ∙ is);
+          (line_is coded text ∙ text_overlong Line (capacity_behind coded) text again) (size ∙ is);
       total_is = omega (arith, size);
     }
 
 -- and one that does not end is cut short
-pub line_short : (coded got most : ℕ) → most ≡ room_behind coded → (bytes : List ℕ) → IsOpenIn Line most bytes
+pub line_short : (coded got most : ℕ) → most ≡ capacity_behind coded → (bytes : List ℕ) → IsOpenIn Line most bytes
     → Decodes coded got bytes Unfinished
 line_short coded got most is bytes cut =
     short_line coded got bytes
-    (line_is coded bytes ∙ text_short Line (room_behind coded) bytes (subst (λ (n : ℕ). IsOpenIn Line n bytes) is cut))
+    (line_is coded bytes ∙ text_short Line (capacity_behind coded) bytes (subst (λ (n : ℕ). IsOpenIn Line n bytes) is cut))
 
 -- the text is the line, and decides it
 line_alone : (coded : ℕ) (text : List ℕ) → IsLineHere coded text → line_at coded text ≡ Whole text
@@ -193,16 +193,16 @@ content_short content used bytes same few = omega (arith, few, ap length same, l
 pub record IsTrailersHere (coded : ℕ) (text : List ℕ) : Type 0 where
   pub is : trailers_at coded text ≡ Whole text
 
-pub trailers_found : (coded most : ℕ) (held : List ℕ) (size : ℕ) → most ≡ room_behind coded
+pub trailers_found : (coded most : ℕ) (held : List ℕ) (size : ℕ) → most ≡ capacity_behind coded
     → EndsIn Trailers most held size → IsTrailersHere coded (take size held)
 trailers_found coded most held size is ends =
     let text = take size held in
-    let here : IsHere Trailers (room_behind coded) text =
+    let here : IsHere Trailers (capacity_behind coded) text =
     subst (λ (n : ℕ). IsHere Trailers n text) is (ends_here Trailers most held size ends) in
     record { is = ap (trailers_at coded) (sym (append-nil text)) ∙ trailers_is coded (text ++ []) ∙ here.all [] }
 
 -- they are trailers, or none
-pub trailers_whole : (coded most size : ℕ) (held : List ℕ) → most ≡ room_behind coded → EndsIn Trailers most held size
+pub trailers_whole : (coded most size : ℕ) (held : List ℕ) → most ≡ capacity_behind coded → EndsIn Trailers most held size
     → size ≤ length held → AreTrailers (take size held) → ConcludesSo coded (coded + size) (Decoded []) (take size held)
 trailers_whole coded most size held is ends within are =
     let text = take size held in
@@ -213,7 +213,7 @@ trailers_whole coded most size held is ends within are =
           (subst (λ (n : ℕ). trailers_at n text ≡ Whole text) behind (trailers_found coded most held size is ends).is) are;
     }
 
-pub trailers_bad : (coded most size : ℕ) (held : List ℕ) → most ≡ room_behind coded → EndsIn Trailers most held size
+pub trailers_bad : (coded most size : ℕ) (held : List ℕ) → most ≡ capacity_behind coded → EndsIn Trailers most held size
     → size ≤ length held → AreNoTrailers (take size held)
     → ConcludesSo coded (coded + size) (Broken BadLength) (take size held)
 trailers_bad coded most size held is ends within none =
@@ -225,33 +225,33 @@ trailers_bad coded most size held is ends within none =
           (subst (λ (n : ℕ). trailers_at n text ≡ Whole text) behind (trailers_found coded most held size is ends).is) none;
     }
 
--- they fill their room
-pub trailers_overlong : (coded most : ℕ) (held : List ℕ) → most ≡ room_behind coded → Overruns Trailers most held
+-- they do not end within their limit
+pub trailers_overlong : (coded most : ℕ) (held : List ℕ) → most ≡ capacity_behind coded → Overruns Trailers most held
     → ConcludesSo coded (coded + most) (Broken (overlong_at coded)) (take most held)
 trailers_overlong coded most held is over =
     let text = take most held in
-    let size : length text ≡ room_behind coded = length-take-le most held over.full ∙ is in
-    let again : Overruns Trailers (room_behind coded) text =
+    let size : length text ≡ capacity_behind coded = length-take-le most held over.full ∙ is in
+    let again : Overruns Trailers (capacity_behind coded) text =
     subst (λ (n : ℕ). Overruns Trailers n text) is
     (subst (λ (xs : List ℕ). Overruns Trailers most xs) (append-nil text) (overruns_here Trailers most held [] over)) in
     let at : trailers_at coded text ≡ Overlong =
-    trailers_is coded text ∙ text_overlong Trailers (room_behind coded) text again in
+    trailers_is coded text ∙ text_overlong Trailers (capacity_behind coded) text again in
     record {
       total_is = omega (arith, length-take-le most held over.full);
       ends = λ start got line here zero behind.
           subst (λ (n : ℕ). Decodes start got (line ++ text) (Broken (overlong_at n))) (sym behind)
           (long_trailers start got line text (here.all text) zero
           (subst (λ (n : ℕ). trailers_at n text ≡ Overlong) behind at)
-          (subst (λ (n : ℕ). length text ≡ room_behind n) behind size));
+          (subst (λ (n : ℕ). length text ≡ capacity_behind n) behind size));
     }
 
 -- they are cut short
-pub trailers_short : (coded most : ℕ) → most ≡ room_behind coded → (bytes : List ℕ) → IsOpenIn Trailers most bytes
+pub trailers_short : (coded most : ℕ) → most ≡ capacity_behind coded → (bytes : List ℕ) → IsOpenIn Trailers most bytes
     → EndsCoding coded bytes Unfinished
 trailers_short coded most is bytes cut start got line here zero behind =
     let at : trailers_at coded bytes ≡ Short =
     trailers_is coded bytes
-    ∙ text_short Trailers (room_behind coded) bytes (subst (λ (n : ℕ). IsOpenIn Trailers n bytes) is cut) in
+    ∙ text_short Trailers (capacity_behind coded) bytes (subst (λ (n : ℕ). IsOpenIn Trailers n bytes) is cut) in
     short_trailers start got line bytes (here.all bytes) zero (subst (λ (n : ℕ). trailers_at n bytes ≡ Short) behind at)
 
 -- behind the last line

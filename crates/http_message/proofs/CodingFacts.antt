@@ -1,6 +1,6 @@
 -- Rules of RFC 9112, section 7.1, and of the limits, said of the specs, so that a slip does not check.
 use Rattle.std.proofs.Common.{◌≡◌, [], Some, None, refl, codes, true, false}
-use Rattle.http_message.specs.Coding.{line_length, trailers_length, room_behind, overlong_at, fits, line_at, trailers_at, Whole, Overlong, Short}
+use Rattle.http_message.specs.Coding.{line_length, trailers_length, capacity_behind, overlong_at, fits, line_at, trailers_at, Whole, Overlong, Short}
 use Rattle.http_message.specs.Limits.{body_limit, line_limit, coding_limit}
 use Rattle.http_message.specs.declared.refusal.FramingRefusal.TheVariants.{BadLength, BodyTooLarge}
 
@@ -20,14 +20,14 @@ pub sizes : (fits 0 65526 4 10 ≡ true) × (fits 0 65526 4 11 ≡ false) × (fi
     × (fits 524270 0 4 12 ≡ true) × (fits 524270 0 4 13 ≡ false)
 sizes = (refl, refl, refl, refl, refl)
 
--- a line has at most 4,096 bytes, and less where the coding has room for less
-pub rooms : (room_behind 0 ≡ line_limit) × (room_behind 520192 ≡ line_limit) × (room_behind 520193 ≡ 4095) × (room_behind coding_limit ≡ 0)
+-- a line has at most 4,096 bytes, and less where the coding may have less
+pub rooms : (capacity_behind 0 ≡ line_limit) × (capacity_behind 520192 ≡ line_limit) × (capacity_behind 520193 ≡ 4095) × (capacity_behind coding_limit ≡ 0)
     × (overlong_at 520192 ≡ BadLength) × (overlong_at 520193 ≡ BodyTooLarge)
 rooms = (refl, refl, refl, refl, refl, refl)
 
 -- so a line that would pass the coding's limit is none
-pub fronts : (line_at 524285 (codes "0\r\n\r\n") ≡ Whole (codes "0\r\n")) × (line_at 524286 (codes "0\r\n\r\n") ≡ Overlong)
+pub beginnings : (line_at 524285 (codes "0\r\n\r\n") ≡ Whole (codes "0\r\n")) × (line_at 524286 (codes "0\r\n\r\n") ≡ Overlong)
     × (line_at 524286 (codes "0") ≡ Short) × (trailers_at 524286 (codes "\r\nx") ≡ Whole (codes "\r\n"))
     × (trailers_at 524287 (codes "\r\nx") ≡ Overlong) × (trailers_at coding_limit [] ≡ Overlong)
 unfolding line_at trailers_at
-fronts = (refl, refl, refl, refl, refl, refl)
+beginnings = (refl, refl, refl, refl, refl, refl)

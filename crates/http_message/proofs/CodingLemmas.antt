@@ -5,7 +5,7 @@ use Rattle.std.proofs.lemmas.List.{append_assoc, append-nil, length-append, take
 use Rattle.httparse.proofs.ChunkLemmas.{chunk_line_unique}
 use Rattle.httparse.specs.Ascii.{crlf_bytes}
 use Rattle.httparse.specs.Grammar.{chunk_size}
-use Rattle.http_message.specs.Coding.{Whole, Overlong, Short, Decodes, chunk, last, bad_line, long_line, large, bad_end, bad_trailers, long_trailers, short_line, short_chunk, short_trailers, Outcome, Decoded, Broken, Unfinished, behind, line_at, trailers_at, room_behind, overlong_at, fits, IsSizeLine, IsNoLine, AreTrailers, AreNoTrailers}
+use Rattle.http_message.specs.Coding.{Whole, Overlong, Short, Decodes, chunk, last, bad_line, long_line, large, bad_end, bad_trailers, long_trailers, short_line, short_chunk, short_trailers, Outcome, Decoded, Broken, Unfinished, behind, line_at, trailers_at, capacity_behind, overlong_at, fits, IsSizeLine, IsNoLine, AreTrailers, AreNoTrailers}
 use Rattle.http_message.specs.declared.line.Sought.TheVariants.{Line, Trailers}
 use Rattle.http_message.specs.declared.refusal.FramingRefusal.TheVariants.{BadLength, BodyTooLarge}
 use Rattle.http_message.proofs.ChunkLemmas.{line_is, trailers_is, fits_parts}
@@ -35,39 +35,39 @@ pub line_any : (coded : ℕ) (bytes line more : List ℕ) → line_at coded byte
     → line_at coded (line ++ more) ≡ Whole line
 line_any coded bytes line more at =
     line_is coded (line ++ more)
-    ∙ (whole_here Line (room_behind coded) bytes line (sym (line_is coded bytes) ∙ at)).all more
+    ∙ (whole_here Line (capacity_behind coded) bytes line (sym (line_is coded bytes) ∙ at)).all more
 
 pub line_sized : (coded : ℕ) (bytes line : List ℕ) → line_at coded bytes ≡ Whole line
-    → (0 < length line) × (length line ≤ room_behind coded)
+    → (0 < length line) × (length line ≤ capacity_behind coded)
 line_sized coded bytes line at =
-    let here = whole_here Line (room_behind coded) bytes line (sym (line_is coded bytes) ∙ at) in
+    let here = whole_here Line (capacity_behind coded) bytes line (sym (line_is coded bytes) ∙ at) in
     (here.some, here.limit)
 
 pub trailers_any : (coded : ℕ) (bytes text more : List ℕ) → trailers_at coded bytes ≡ Whole text
     → trailers_at coded (text ++ more) ≡ Whole text
 trailers_any coded bytes text more at =
     trailers_is coded (text ++ more)
-    ∙ (whole_here Trailers (room_behind coded) bytes text (sym (trailers_is coded bytes) ∙ at)).all more
+    ∙ (whole_here Trailers (capacity_behind coded) bytes text (sym (trailers_is coded bytes) ∙ at)).all more
 
 pub trailers_sized : (coded : ℕ) (bytes text : List ℕ) → trailers_at coded bytes ≡ Whole text
-    → length text ≤ room_behind coded
+    → length text ≤ capacity_behind coded
 trailers_sized coded bytes text at =
-    (whole_here Trailers (room_behind coded) bytes text (sym (trailers_is coded bytes) ∙ at)).limit
+    (whole_here Trailers (capacity_behind coded) bytes text (sym (trailers_is coded bytes) ∙ at)).limit
 
--- those of a full room decide that it is overlong
-pub line_over : (coded : ℕ) (bytes more : List ℕ) → line_at coded bytes ≡ Overlong → length bytes ≡ room_behind coded
+-- where they reach the limit, they decide that it is overlong
+pub line_over : (coded : ℕ) (bytes more : List ℕ) → line_at coded bytes ≡ Overlong → length bytes ≡ capacity_behind coded
     → line_at coded (bytes ++ more) ≡ Overlong
 line_over coded bytes more at size =
     line_is coded (bytes ++ more)
-    ∙ overlong_here Line (room_behind coded) bytes more (sym (line_is coded bytes) ∙ at) size
+    ∙ overlong_here Line (capacity_behind coded) bytes more (sym (line_is coded bytes) ∙ at) size
 
 pub trailers_over : (coded : ℕ) (bytes more : List ℕ) → trailers_at coded bytes ≡ Overlong
-    → length bytes ≡ room_behind coded → trailers_at coded (bytes ++ more) ≡ Overlong
+    → length bytes ≡ capacity_behind coded → trailers_at coded (bytes ++ more) ≡ Overlong
 trailers_over coded bytes more at size =
     trailers_is coded (bytes ++ more)
-    ∙ overlong_here Trailers (room_behind coded) bytes more (sym (trailers_is coded bytes) ∙ at) size
+    ∙ overlong_here Trailers (capacity_behind coded) bytes more (sym (trailers_is coded bytes) ∙ at) size
 
--- How the bytes behind a chunk's line come out, in front of a rest.
+-- The outcome of the bytes after a chunk's line, before a rest.
 pub data IsFilled (coded got size : ℕ) (after rest : List ℕ) (outcome : Outcome) : Type 0 where
   cut : length after < size + 2 → rest ≡ [] → outcome ≡ Unfinished → IsFilled coded got size after rest outcome
   filled : (content next : List ℕ) (inner : Outcome) → length content ≡ size → after ≡ content ++ (crlf_bytes ++ next)
@@ -79,7 +79,7 @@ pub data IsFilled (coded got size : ℕ) (after rest : List ℕ) (outcome : Outc
 -- The same behind the last line.
 pub data IsEnded (coded : ℕ) (after rest : List ℕ) (outcome : Outcome) : Type 0 where
   cut : trailers_at coded (after ++ rest) ≡ Short → rest ≡ [] → outcome ≡ Unfinished → IsEnded coded after rest outcome
-  over : trailers_at coded (after ++ rest) ≡ Overlong → length after ≡ room_behind coded
+  over : trailers_at coded (after ++ rest) ≡ Overlong → length after ≡ capacity_behind coded
       → outcome ≡ Broken (overlong_at coded) → IsEnded coded after rest outcome
   ended : trailers_at coded (after ++ rest) ≡ Whole after
       → (AreTrailers after × (outcome ≡ Decoded [])) ⊎ (AreNoTrailers after × (outcome ≡ Broken BadLength))
@@ -99,10 +99,10 @@ pub data IsBehind (coded got : ℕ) (line after rest : List ℕ) (outcome : Outc
   sized : (size : ℕ) → IsSizeLine line size → IsSized coded got line size after rest outcome
       → IsBehind coded got line after rest outcome
 
--- How the bytes of a coding come out, in front of a rest.
+-- The outcome of the bytes of a coding, before a rest.
 pub data IsSeen (coded got : ℕ) (first rest : List ℕ) (outcome : Outcome) : Type 0 where
   cut : line_at coded (first ++ rest) ≡ Short → rest ≡ [] → outcome ≡ Unfinished → IsSeen coded got first rest outcome
-  over : line_at coded (first ++ rest) ≡ Overlong → length first ≡ room_behind coded
+  over : line_at coded (first ++ rest) ≡ Overlong → length first ≡ capacity_behind coded
       → outcome ≡ Broken (overlong_at coded) → IsSeen coded got first rest outcome
   read : (line after : List ℕ) → line_at coded (first ++ rest) ≡ Whole line → first ≡ line ++ after
       → IsBehind coded got line after rest outcome → IsSeen coded got first rest outcome
@@ -156,7 +156,7 @@ seen c g first rest o (short_trailers coded got line bytes at is ends) whole =
     ∙ ap (trailers_at (coded + length line)) (append-nil bytes) ∙ ends)
     (whole refl) refl)))
 
--- what is said of codings whose first one has fewer bytes than so many
+-- the claim for two codings of which the first is shorter than `n` bytes
 abbrev pub OneBelow : ℕ → Type 0
 OneBelow n =
     (coded got : ℕ) (first rest second others : List ℕ) (outcome other : Outcome) → length first < n
@@ -340,7 +340,7 @@ one_in (suc n) coded got first rest second others outcome other below a whole b 
     seen_same n coded got first rest second others outcome other (one_in n) below
     (seen coded got first rest outcome a whole) (seen coded got second others other b also) same
 
--- of two codings at the front of a stream, where one that is cut short is all of it, both are the same
+-- two codings at the start of a stream are the same, where one that is cut short is all of it
 pub one_coding : (coded got : ℕ) (first rest second others : List ℕ) (outcome other : Outcome)
     → Decodes coded got first outcome → (outcome ≡ Unfinished → rest ≡ [])
     → Decodes coded got second other → (other ≡ Unfinished → others ≡ [])
@@ -363,7 +363,7 @@ none_in_unfinished coded got first rest outcome a done short =
     done (one_coding coded got first rest (first ++ rest) [] outcome Unfinished a (λ is. absurd (done is)) short (λ is. refl)
     (sym (append-nil (first ++ rest)))).1
 
--- a whole coding has at most so many bytes
+-- a whole coding is within its limit
 pub coding_within : (coded got : ℕ) (bytes : List ℕ) (outcome : Outcome) → Decodes coded got bytes outcome
     → outcome ≢ Unfinished → coded ≤ coding_limit → coded + length bytes ≤ coding_limit
 coding_within c g bytes o (chunk coded got size line content next inner at is some fit wide further) done within =

@@ -73,10 +73,10 @@ any_more test text name fields i field below is =
     ∙ ap (λ b. list_any test (values name (map (header_bytes text) (take i fields))) || b) (any_one test name (header_bytes text field))
 
 -- a test that some value passes among the first fields passes among all
-pub any_kept : (test : List ℕ → Bool) (text name : List ℕ) (fields : List HeaderSpan) (i : ℕ)
+pub any_last : (test : List ℕ → Bool) (text name : List ℕ) (fields : List HeaderSpan) (i : ℕ)
     → list_any test (values name (map (header_bytes text) (take i fields))) ≡ true
     → list_any test (values name (map (header_bytes text) fields)) ≡ true
-any_kept test text name fields i some =
+any_last test text name fields i some =
     let whole : list_any test (values name (map (header_bytes text) (take i fields ++ drop i fields)))
     ≡ (list_any test (values name (map (header_bytes text) (take i fields)))
     || list_any test (values name (map (header_bytes text) (drop i fields)))) =
@@ -98,10 +98,10 @@ pub named_more : (found : List (List ℕ)) (bytes : List ℕ)
 named_more found bytes (first, second, others, is) =
     (first, second, others ++ bytes ∷ [], ap (λ (vs : List (List ℕ)). vs ++ bytes ∷ []) is)
 
--- a part of the field at a place
-pub part_at : (part : Pair → List ℕ) (fields : List Pair) (place : ℕ) (pair : Pair)
-    → slice_get fields place ≡ Some pair → slice_get (map part fields) place ≡ Some (part pair)
-part_at part fields place pair is = slice_get-map part fields place ∙ ap (option_map part) is
+-- a part of the field with an index
+pub part_at : (part : Pair → List ℕ) (fields : List Pair) (index : ℕ) (pair : Pair)
+    → slice_get fields index ≡ Some pair → slice_get (map part fields) index ≡ Some (part pair)
+part_at part fields index pair is = slice_get-map part fields index ∙ ap (option_map part) is
 
 -- no field passes a test
 pub any_nil : (test : List ℕ → Bool) (name : List ℕ) → list_any test (values name []) ≡ false

@@ -6,13 +6,13 @@ use Rattle.httparse.specs.Grammar.{RequestHead}
 use Rattle.httparse.specs.Spans.{header_bytes, span_bytes}
 use Rattle.httparse.specs.declared.spans.HeaderSpan.{HeaderSpan}
 use Rattle.httparse.specs.declared.spans.RequestSpans.{RequestSpans}
-use Rattle.http_message.specs.Framing.{framing_of, framing_in, calls, has_body}
+use Rattle.http_message.specs.Framing.{framing_of, framing_in, expects_continue, has_body}
 use Rattle.http_message.specs.Head.{IsHeadAt}
-use Rattle.http_message.specs.Item.{is_head}
-use Rattle.http_message.specs.Message.{message_in, message_of, calls_for_continue}
+use Rattle.http_message.specs.Item.{is_head_request}
+use Rattle.http_message.specs.Message.{message_in, message_of, is_continue_expected}
 use Rattle.http_message.specs.declared.framing.Framing.{Framing}
 
--- the request that stands in the text is that of the head
+-- the request at these offsets of the text is that of the head
 pub message_at : (text : List ℕ) (spans : List HeaderSpan) (parts : RequestSpans) (head : RequestHead) (body : List ℕ)
     → IsHeadAt text spans parts head → message_in text spans parts body ≡ message_of head body
 message_at text spans parts head body is = rw (is.at.method, is.at.path, is.at.version, is.at.fields) refl
@@ -24,15 +24,15 @@ pub framing_at : (text : List ℕ) (spans : List HeaderSpan) (parts : RequestSpa
 unfolding framing_of
 framing_at text spans parts head is = rw (is.at.version, is.at.fields) refl
 
--- whether it calls for `100 Continue`
-pub calls_at : (text : List ℕ) (spans : List HeaderSpan) (parts : RequestSpans) (head : RequestHead) (framing : Framing)
+-- whether it expects `100 Continue`
+pub expects_at : (text : List ℕ) (spans : List HeaderSpan) (parts : RequestSpans) (head : RequestHead) (framing : Framing)
     → IsHeadAt text spans parts head
-    → calls head framing
-    ≡ calls_for_continue parts.version (map (header_bytes text) (take parts.headers spans)) (has_body framing)
-unfolding calls
-calls_at text spans parts head framing is = rw (is.at.version, is.at.fields) refl
+    → expects_continue head framing
+    ≡ is_continue_expected parts.version (map (header_bytes text) (take parts.headers spans)) (has_body framing)
+unfolding expects_continue
+expects_at text spans parts head framing is = rw (is.at.version, is.at.fields) refl
 
 -- whether the method is HEAD
 pub head_at : (text : List ℕ) (spans : List HeaderSpan) (parts : RequestSpans) (head : RequestHead)
-    → IsHeadAt text spans parts head → is_head head ≡ bytes_eq (span_bytes text parts.method) (codes "HEAD")
+    → IsHeadAt text spans parts head → is_head_request head ≡ bytes_eq (span_bytes text parts.method) (codes "HEAD")
 head_at text spans parts head is = rw is.at.method refl

@@ -5,11 +5,11 @@ use Rattle.std.proofs.Math.Seq.{take-add}
 use Rattle.std.proofs.lemmas.List.{append_assoc, append-nil, drop-append-le, drop-drop, length-drop, length-take, length-take-le, take-append-drop}
 use Rattle.std.proofs.lemmas.Slice.{between_is}
 use Rattle.std.specs.List.{slice_range}
-use Rattle.q_outside.specs.Told.{End, TookBytes}
+use Rattle.q_outside.specs.Ends.{End, TookBytes}
 use Rattle.q_outside.proofs.Chain.{took_nothing, took_both}
-use Rattle.http_message.specs.Input.{IsStopped, IsIdle, Grows, Adds, AddsNone, Reads}
-use Rattle.http_message.specs.declared.stopped.Stopped.{Stopped}
-use Rattle.http_message.specs.declared.stopped.Stopped.TheVariants.{InputEnd, Truncated, ReadFault, WriteFault}
+use Rattle.http_message.specs.Input.{NoMoreBytes, IsIdle, Grows, Adds, AddsNone, Reads}
+use Rattle.http_message.specs.declared.incomplete.Incomplete.{Incomplete}
+use Rattle.http_message.specs.declared.incomplete.Incomplete.TheVariants.{InputEnd, Truncated, ReadFault, WriteFault}
 
 -- the first bytes of a range are dropped
 pub range_skip : (bytes : List ℕ) (i j k : ℕ) → slice_range bytes (i + k) j ≡ drop k (slice_range bytes i j)
@@ -19,8 +19,8 @@ range_skip bytes i j k =
 -- a range with the bytes behind it
 pub range_more : (before after : List ℕ) (i j n : ℕ) → i ≤ j → j ≤ length after → take j after ≡ take j before
     → slice_range after i (j + n) ≡ slice_range before i j ++ slice_range after j (j + n)
-range_more before after i j n ordered within kept =
-    let first : drop i (take j after) ≡ slice_range before i j = ap (drop i) kept ∙ sym (between_is before i j) in
+range_more before after i j n ordered within same_before =
+    let first : drop i (take j after) ≡ slice_range before i j = ap (drop i) same_before ∙ sym (between_is before i j) in
     let rest : take n (drop j after) ≡ slice_range after j (j + n) =
     let e : n ≡ j + n - j = omega arith in ap (λ m. take m (drop j after)) e in
     between_is after i (j + n) ∙ ap (drop i) (take-add j n after)
@@ -31,7 +31,7 @@ range_more before after i j n ordered within kept =
 -- a range that a write behind it leaves
 pub range_same : (before after : List ℕ) (i j : ℕ) → take j after ≡ take j before
     → slice_range after i j ≡ slice_range before i j
-range_same before after i j kept = between_is after i j ∙ ap (drop i) kept ∙ sym (between_is before i j)
+range_same before after i j same_before = between_is after i j ∙ ap (drop i) same_before ∙ sym (between_is before i j)
 
 -- a range within the bytes has as many as it says
 pub range_size : (bytes : List ℕ) (i n : ℕ) → i + n ≤ length bytes → length (slice_range bytes i (i + n)) ≡ n
@@ -43,13 +43,13 @@ range_size bytes i n within =
       length-take-le (i + n) bytes within,
     )
 
--- why a later call stopped is why both did
-pub stopped_later : (first middle last : End) (stopped : Stopped) → first.faults ≤ middle.faults
-    → IsStopped middle last stopped → IsStopped first last stopped
-stopped_later first middle last InputEnd count is = is
-stopped_later first middle last Truncated count is = is
-stopped_later first middle last ReadFault count is = omega (arith, count, is)
-stopped_later first middle last WriteFault count is = is
+-- why a later call got no more bytes is why both did
+pub incomplete_later : (first middle last : End) (incomplete : Incomplete) → first.faults ≤ middle.faults
+    → NoMoreBytes middle last incomplete → NoMoreBytes first last incomplete
+incomplete_later first middle last InputEnd count is = is
+incomplete_later first middle last Truncated count is = is
+incomplete_later first middle last ReadFault count is = omega (arith, count, is)
+incomplete_later first middle last WriteFault count is = is
 
 -- a source from which nothing was taken, and then nothing again
 pub idle_both : (first middle last : End) (xs ys : List ℕ) → IsIdle first middle xs → IsIdle middle last ys
@@ -87,9 +87,9 @@ module _ (short : List ℕ → Type 0) where
   }
 
   -- and one that brought none
-  pub grows_stop : (first middle last : End) (xs ys zs : List ℕ) (stopped : Stopped) → Grows first middle short xs ys → short ys
-      → AddsNone middle last ys zs stopped → Grows first last short xs zs
-  grows_stop first middle last xs ys zs stopped a cut b = record {
+  pub grows_stop : (first middle last : End) (xs ys zs : List ℕ) (incomplete : Incomplete) → Grows first middle short xs ys → short ys
+      → AddsNone middle last ys zs incomplete → Grows first last short xs zs
+  grows_stop first middle last xs ys zs incomplete a cut b = record {
     got = a.got ++ [];
     took = took_both first middle last a.got [] a.took b.took;
     adds = b.same ∙ a.adds ∙ ap (λ bytes. xs ++ bytes) (sym (append-nil a.got));
@@ -97,10 +97,10 @@ module _ (short : List ℕ → Type 0) where
   }
 
   -- why it brought none
-  pub stop_is : (first middle last : End) (xs ys zs : List ℕ) (stopped : Stopped) → Grows first middle short xs ys
-      → AddsNone middle last ys zs stopped → short ys → short zs × IsStopped first last stopped
-  stop_is first middle last xs ys zs stopped a b cut =
-      (subst short (sym b.same) cut, stopped_later first middle last stopped a.took.count b.is)
+  pub stop_is : (first middle last : End) (xs ys zs : List ℕ) (incomplete : Incomplete) → Grows first middle short xs ys
+      → AddsNone middle last ys zs incomplete → short ys → short zs × NoMoreBytes first last incomplete
+  stop_is first middle last xs ys zs incomplete a b cut =
+      (subst short (sym b.same) cut, incomplete_later first middle last incomplete a.took.count b.is)
 
 -- What a call did may be said otherwise.
 module _ {T U : Type 0} {source last : End} {held rest : List ℕ} {short : List ℕ → Type 0} {is : T → List ℕ → Type 0}
@@ -114,9 +114,9 @@ module _ {T U : Type 0} {source last : End} {held rest : List ℕ} {short : List
     came = record { used = r.came.used; splits = r.came.splits; says = fine r.came.used r.came.says };
   }
 
-  -- and why it stopped
-  pub reads_stop : {stopped : Stopped} (rest' : List ℕ) → Reads source last held rest short is (Err stopped)
-      → Reads source last held rest' others later (Err stopped)
+  -- and why it got no more
+  pub reads_stop : {incomplete : Incomplete} (rest' : List ℕ) → Reads source last held rest short is (Err incomplete)
+      → Reads source last held rest' others later (Err incomplete)
   reads_stop rest' r = record {
     got = r.got;
     took = r.took;
@@ -170,25 +170,25 @@ module _ {source middle last : End} {held rest got used : List ℕ} {short behin
     };
   }
 
-  -- and why it stopped is why both did
-  pub behind_stop : {T U : Type 0} (held' rest' : List ℕ) (after : T → List ℕ → Type 0) (later : U → List ℕ → Type 0) (stopped : Stopped)
-      → Reads middle last rest held' behind after (Err stopped) → Reads source last held rest' others later (Err stopped)
-  behind_stop held' rest' after later stopped second = record {
+  -- and why it got no more is why both did
+  pub behind_stop : {T U : Type 0} (held' rest' : List ℕ) (after : T → List ℕ → Type 0) (later : U → List ℕ → Type 0) (incomplete : Incomplete)
+      → Reads middle last rest held' behind after (Err incomplete) → Reads source last held rest' others later (Err incomplete)
+  behind_stop held' rest' after later incomplete second = record {
     got = got ++ second.got;
     took = took_both source middle last got second.got first.took second.took;
     waits = behind_waits second.got second.waits;
     came = (
       subst others (behind_all second.got) (first.cut_behind (rest ++ second.got) second.came.0),
-      stopped_later source middle last stopped first.took.count second.came.1,
+      incomplete_later source middle last incomplete first.took.count second.came.1,
     );
   }
 
   -- by the answer
-  pub reads_behind : {T : Type 0} (held' : List ℕ) (after later : T → List ℕ → Type 0) (result : Result T Stopped)
+  pub reads_behind : {T : Type 0} (held' : List ℕ) (after later : T → List ℕ → Type 0) (result : Result T Incomplete)
       → ((reply : T) (bytes : List ℕ) → after reply bytes → later reply (used ++ bytes))
       → Reads middle last rest held' behind after result → Reads source last held held' others later result
   reads_behind held' after later (Ok reply) fine second = behind_ok held' after later reply reply (fine reply) second
-  reads_behind held' after later (Err stopped) fine second = behind_stop held' held' after later stopped second
+  reads_behind held' after later (Err incomplete) fine second = behind_stop held' held' after later incomplete second
 
 -- a call that used bytes, as the first of two
 pub behind_read : {T : Type 0} (source middle last : End) (held rest : List ℕ) (short : List ℕ → Type 0) (is : T → List ℕ → Type 0)
@@ -252,10 +252,10 @@ reads_held source held rest size others is answer skipped fine = record {
 
 -- no more bytes came
 pub reads_short : {T : Type 0} (source last : End) (held grown rest : List ℕ) (short others : List ℕ → Type 0)
-    (is : T → List ℕ → Type 0) (stopped : Stopped) → Grows source last short held grown
-    → ((bytes : List ℕ) → short bytes → others bytes) → short grown × IsStopped source last stopped
-    → Reads source last held rest others is (Err stopped)
-reads_short source last held grown rest short others is stopped grows cut why = record {
+    (is : T → List ℕ → Type 0) (incomplete : Incomplete) → Grows source last short held grown
+    → ((bytes : List ℕ) → short bytes → others bytes) → short grown × NoMoreBytes source last incomplete
+    → Reads source last held rest others is (Err incomplete)
+reads_short source last held grown rest short others is incomplete grows cut why = record {
   got = grows.got;
   took = grows.took;
   waits = elim grows.waits [ inl idle ↦ inl idle | inr few ↦ inr (cut held few) ];

@@ -1,4 +1,4 @@
--- From the bytes at the front of a stream to the item that they are.
+-- From the first bytes of a stream to the item that they are.
 use Rattle.std.proofs.Common.{◌≡◌, ◌⊎◌, ℕ, ◌+◌, ◌-◌, ◌<◌, ◌≤◌, List, [], ◌∷◌, ◌++◌, length, map, take, drop, Bool, true, false, nat_lt, nat_le, nat_eq, refl, sym, ◌∙◌, ap, subst, arith, lit≤, inl, inr}
 use Rattle.std.specs.Prelude.{Result, Ok, Err, codes}
 use Rattle.std.specs.Str.Parse.{digits_value}
@@ -9,16 +9,16 @@ use Rattle.httparse.specs.Grammar.{RequestHead}
 use Rattle.httparse.specs.Spans.{name_and_value}
 use Rattle.httparse.specs.declared.spans.HeaderSpan.{HeaderSpan}
 use Rattle.http_message.specs.Fields.{values}
-use Rattle.q_outside.specs.Told.{End}
-use Rattle.http_message.specs.Found.{IsReturnAt, IsTextAt, IsTooLarge, IsUnread}
-use Rattle.http_message.specs.Framing.{framing_of, framing_by, framing_by_length, framing_by_codings, is_length, calls}
+use Rattle.q_outside.specs.Ends.{End}
+use Rattle.http_message.specs.HeadFound.{IsBareCrAt, IsTextAt, IsTooLarge, IsUnread}
+use Rattle.http_message.specs.Framing.{framing_of, framing_by, framing_by_length, framing_by_codings, is_length, expects_continue}
 use Rattle.http_message.specs.Head.{IsNoHead}
-use Rattle.http_message.specs.Headed.{HasRoom, BeginsFramed, BeginsBad, IsHeadOf, IsHalted, Heads}
-use Rattle.http_message.specs.Input.{IsStopped, IsIdle, Grows}
+use Rattle.http_message.specs.Headed.{FitsBuffer, BeginsFramed, BeginsBad, IsHeadOf, HasNoHead, Heads}
+use Rattle.http_message.specs.Input.{NoMoreBytes, IsIdle, Grows}
 use Rattle.http_message.specs.Item.{Item, request, unframed, continues, IsFramed, sized, chunked, broken, IsItemOf, no_head, bad_head, IsItemBy, IsItem}
 use Rattle.http_message.specs.Judged.{IsRefusedHead, IsFramedHead}
-use Rattle.http_message.specs.Stopped.{before_head}
-use Rattle.http_message.specs.Text.{Front, BareReturn, Text, TooLarge, Unfinished, front_of, lead_length, is_blank}
+use Rattle.http_message.specs.Incomplete.{before_head}
+use Rattle.http_message.specs.Text.{Beginning, BareCr, Text, TooLarge, Unfinished, beginning_of, empty_lines_before_head, is_blank}
 use Rattle.http_message.specs.declared.framing.Framing.{Framing}
 use Rattle.http_message.specs.declared.framing.Framing.TheVariants.{Sized, Chunked}
 use Rattle.http_message.specs.declared.headed.Headed.{Headed}
@@ -26,69 +26,69 @@ use Rattle.http_message.specs.declared.headed.Headed.TheVariants.{Bad}
 use Rattle.http_message.specs.declared.refusal.FramingRefusal.{FramingRefusal}
 use Rattle.http_message.specs.declared.refusal.FramingRefusal.TheVariants.{BadHead, HeadTooLarge}
 use Rattle.http_message.specs.declared.judge.Judged.{Judged}
-use Rattle.http_message.specs.declared.stopped.Stopped.{Stopped}
-use Rattle.http_message.specs.declared.stopped.Stopped.TheVariants.{InputEnd, Truncated, ReadFault, WriteFault}
+use Rattle.http_message.specs.declared.incomplete.Incomplete.{Incomplete}
+use Rattle.http_message.specs.declared.incomplete.Incomplete.TheVariants.{InputEnd, Truncated, ReadFault, WriteFault}
 use Rattle.http_message.specs.Limits.{head_limit, most_fields, body_limit}
-use Rattle.http_message.proofs.FrontLemmas.{settled_text, settled_return, settled_large, settles_take}
+use Rattle.http_message.proofs.BeginningLemmas.{settled_text, settled_bare_cr, settled_large, settles_take}
 
 -- the length of the text
-pub text_size : (held : List ℕ) (lead size : ℕ) → IsTextAt held lead size → length (take size (drop lead held)) ≡ size
-text_size held lead size at =
-    length-take-le size (drop lead held) (omega (arith, at.within, length-drop lead held))
+pub text_size : (held : List ℕ) (empty_lines size : ℕ) → IsTextAt held empty_lines size → length (take size (drop empty_lines held)) ≡ size
+text_size held empty_lines size at =
+    length-take-le size (drop empty_lines held) (omega (arith, at.within, length-drop empty_lines held))
 
--- the empty lines and the text of a head decide what stands at the front, whatever follows them
-pub record Fronts (first text : List ℕ) : Type 0 where
-  pub front : (more : List ℕ) → front_of (first ++ more) ≡ Text text
-  pub behind : (more : List ℕ) → drop (lead_length (first ++ more)) (first ++ more) ≡ text ++ more
+-- the empty lines and the text of a head decide what the stream begins with, whatever follows them
+pub record Beginnings (first text : List ℕ) : Type 0 where
+  pub beginning : (more : List ℕ) → beginning_of (first ++ more) ≡ Text text
+  pub behind : (more : List ℕ) → drop (empty_lines_before_head (first ++ more)) (first ++ more) ≡ text ++ more
 
-pub text_fronts : (held : List ℕ) (lead size : ℕ) → IsTextAt held lead size
-    → Fronts (take (lead + size) held) (take size (drop lead held))
-text_fronts held lead size at =
-    let text = take size (drop lead held) in
-    let first = take (lead + size) held in
-    let settled = settled_text held text at.front in
-    let whole : lead_length held + length text ≡ lead + size = omega (arith, text_size held lead size at, at.lead_is) in
-    let long : length first ≡ lead + size = length-take-le (lead + size) held at.within in
+pub text_beginnings : (held : List ℕ) (empty_lines size : ℕ) → IsTextAt held empty_lines size
+    → Beginnings (take (empty_lines + size) held) (take size (drop empty_lines held))
+text_beginnings held empty_lines size at =
+    let text = take size (drop empty_lines held) in
+    let first = take (empty_lines + size) held in
+    let settled = settled_text held text at.beginning in
+    let whole : empty_lines_before_head held + length text ≡ empty_lines + size = omega (arith, text_size held empty_lines size at, at.empty_lines_is) in
+    let long : length first ≡ empty_lines + size = length-take-le (empty_lines + size) held at.within in
     record {
-      front = λ more. ap (λ n. front_of (take n held ++ more)) (sym whole) ∙ settled.settles.all more;
+      beginning = λ more. ap (λ n. beginning_of (take n held ++ more)) (sym whole) ∙ settled.settles.all more;
       behind = λ more.
-          let leads : lead_length (first ++ more) ≡ lead =
-          ap (λ n. lead_length (take n held ++ more)) (sym whole) ∙ settled.settles.leads more ∙ sym at.lead_is in
-          ap (λ n. drop n (first ++ more)) leads
-          ∙ drop-append-le lead first more (omega (arith, long))
-          ∙ ap (λ xs. xs ++ more) (drop-take lead size held);
+          let empty_lines_same : empty_lines_before_head (first ++ more) ≡ empty_lines =
+          ap (λ n. empty_lines_before_head (take n held ++ more)) (sym whole) ∙ settled.settles.empty_lines_same more ∙ sym at.empty_lines_is in
+          ap (λ n. drop n (first ++ more)) empty_lines_same
+          ∙ drop-append-le empty_lines first more (omega (arith, long))
+          ∙ ap (λ xs. xs ++ more) (drop-take empty_lines size held);
     }
 
 -- the text of a head, with what it frames behind it
-pub item_behind : (first text coded : List ℕ) (item : Item) → Fronts first text → IsItemOf text coded item
+pub item_behind : (first text coded : List ℕ) (item : Item) → Beginnings first text → IsItemOf text coded item
     → IsItem (first ++ coded) item
-item_behind first text coded item fronts is =
-    let P : Front → Type 0 = λ front. IsItemBy front (first ++ coded) item in
-    record { is = subst P (sym (fronts.front coded)) (coded, fronts.behind coded, is) }
+item_behind first text coded item beginnings is =
+    let P : Beginning → Type 0 = λ beginning. IsItemBy beginning (first ++ coded) item in
+    record { is = subst P (sym (beginnings.beginning coded)) (coded, beginnings.behind coded, is) }
 
 -- and without
-pub item_alone : (held : List ℕ) (lead size : ℕ) (item : Item) → IsTextAt held lead size
-    → IsItemOf (take size (drop lead held)) [] item → IsItem (take (lead + size) held) item
-item_alone held lead size item at is =
+pub item_alone : (held : List ℕ) (empty_lines size : ℕ) (item : Item) → IsTextAt held empty_lines size
+    → IsItemOf (take size (drop empty_lines held)) [] item → IsItem (take (empty_lines + size) held) item
+item_alone held empty_lines size item at is =
     let P : List ℕ → Type 0 = λ bytes. IsItem bytes item in
-    subst P (append-nil (take (lead + size) held))
-    (item_behind (take (lead + size) held) (take size (drop lead held)) [] item (text_fronts held lead size at) is)
+    subst P (append-nil (take (empty_lines + size) held))
+    (item_behind (take (empty_lines + size) held) (take size (drop empty_lines held)) [] item (text_beginnings held empty_lines size at) is)
 
 -- a bare CR, and a window without a head
-pub item_return : (held : List ℕ) (lead : ℕ) → IsReturnAt held lead
-    → IsItem (take (lead + 2) held) (unframed BadHead false false)
-item_return held lead at =
-    let enough : lead_length held + 2 ≤ lead + 2 = omega (arith, at.lead_is) in
-    let cut = settles_take held (lead_length held + 2) (lead + 2) BareReturn enough (settled_return held at.front) in
-    let P : Front → Type 0 = λ front. IsItemBy front (take (lead + 2) held) (unframed BadHead false false) in
-    let size : length (take (lead + 2) held) ≡ lead_length (take (lead + 2) held) + 2 =
-    omega (arith, length-take-le (lead + 2) held at.within, cut.1, at.lead_is) in
+pub item_bare_cr : (held : List ℕ) (empty_lines : ℕ) → IsBareCrAt held empty_lines
+    → IsItem (take (empty_lines + 2) held) (unframed BadHead false false)
+item_bare_cr held empty_lines at =
+    let enough : empty_lines_before_head held + 2 ≤ empty_lines + 2 = omega (arith, at.empty_lines_is) in
+    let cut = settles_take held (empty_lines_before_head held + 2) (empty_lines + 2) BareCr enough (settled_bare_cr held at.beginning) in
+    let P : Beginning → Type 0 = λ beginning. IsItemBy beginning (take (empty_lines + 2) held) (unframed BadHead false false) in
+    let size : length (take (empty_lines + 2) held) ≡ empty_lines_before_head (take (empty_lines + 2) held) + 2 =
+    omega (arith, length-take-le (empty_lines + 2) held at.within, cut.1, at.empty_lines_is) in
     record { is = subst P (sym cut.0) (size, refl) }
 
 pub item_large : (held : List ℕ) → IsTooLarge held → IsItem (take head_limit held) (unframed HeadTooLarge false false)
 item_large held at =
-    let cut = settles_take held head_limit head_limit TooLarge (lit≤ tt) (settled_large held at.front) in
-    let P : Front → Type 0 = λ front. IsItemBy front (take head_limit held) (unframed HeadTooLarge false false) in
+    let cut = settles_take held head_limit head_limit TooLarge (lit≤ tt) (settled_large held at.beginning) in
+    let P : Beginning → Type 0 = λ beginning. IsItemBy beginning (take head_limit held) (unframed HeadTooLarge false false) in
     record { is = subst P (sym cut.0) (length-take-le head_limit held at.full, refl) }
 
 -- the first bytes are dropped, as an item that has no body
@@ -103,22 +103,22 @@ bad_first held rest refused used is rest_is some limit within = record {
   limit = limit;
 }
 
-pub bad_text : (held rest : List ℕ) (refused : FramingRefusal) (lead size : ℕ) → IsTextAt held lead size
-    → IsItemOf (take size (drop lead held)) [] (unframed refused false false) → rest ≡ drop (lead + size) held
-    → BeginsBad held rest refused (lead + size)
-bad_text held rest refused lead size at is rest_is =
-    bad_first held rest refused (lead + size) (item_alone held lead size (unframed refused false false) at is) rest_is
+pub bad_text : (held rest : List ℕ) (refused : FramingRefusal) (empty_lines size : ℕ) → IsTextAt held empty_lines size
+    → IsItemOf (take size (drop empty_lines held)) [] (unframed refused false false) → rest ≡ drop (empty_lines + size) held
+    → BeginsBad held rest refused (empty_lines + size)
+bad_text held rest refused empty_lines size at is rest_is =
+    bad_first held rest refused (empty_lines + size) (item_alone held empty_lines size (unframed refused false false) at is) rest_is
     (omega (arith, at.some)) at.limit at.within
 
 -- a text that is no head, or a head that is refused
-pub bad_head_of : (held rest : List ℕ) (refused : FramingRefusal) (lead size : ℕ) → IsTextAt held lead size
-    → (IsNoHead (take size (drop lead held)) × (refused ≡ BadHead)) ⊎ IsRefusedHead (take size (drop lead held)) refused
-    → rest ≡ drop (lead + size) held → BeginsBad held rest refused (lead + size)
-bad_head_of held rest refused lead size at (inl none) rest_is =
-    let P : FramingRefusal → Type 0 = λ r. BeginsBad held rest r (lead + size) in
-    subst P (sym none.1) (bad_text held rest BadHead lead size at (no_head none.0 refl refl) rest_is)
-bad_head_of held rest refused lead size at (inr is) rest_is =
-    bad_text held rest refused lead size at (bad_head is.head refused is.is is.framing_is refl refl) rest_is
+pub bad_head_of : (held rest : List ℕ) (refused : FramingRefusal) (empty_lines size : ℕ) → IsTextAt held empty_lines size
+    → (IsNoHead (take size (drop empty_lines held)) × (refused ≡ BadHead)) ⊎ IsRefusedHead (take size (drop empty_lines held)) refused
+    → rest ≡ drop (empty_lines + size) held → BeginsBad held rest refused (empty_lines + size)
+bad_head_of held rest refused empty_lines size at (inl none) rest_is =
+    let P : FramingRefusal → Type 0 = λ r. BeginsBad held rest r (empty_lines + size) in
+    subst P (sym none.1) (bad_text held rest BadHead empty_lines size at (no_head none.0 refl refl) rest_is)
+bad_head_of held rest refused empty_lines size at (inr is) rest_is =
+    bad_text held rest refused empty_lines size at (bad_head is.head refused is.is is.framing_is refl refl) rest_is
 
 pub headed_bad : (all rest text : List ℕ) (spans : List HeaderSpan) (headed : Headed)
     (refused : FramingRefusal) (used : ℕ) → headed ≡ Bad refused used → BeginsBad all rest refused used
@@ -127,9 +127,9 @@ headed_bad all rest text spans headed refused used is bad =
     let P : Headed → Type 0 = λ answer. IsHeadOf all rest text spans answer in subst P (sym is) bad
 
 -- how the values of two fields frame a body, and what follows
-pub length_room : (text : List ℕ) (framing : Framing) → framing_by_length text ≡ Ok framing
+pub length_capacity : (text : List ℕ) (framing : Framing) → framing_by_length text ≡ Ok framing
     → (size : ℕ) × (framing ≡ Sized size) × (size ≤ body_limit)
-length_room text framing is =
+length_capacity text framing is =
     elim (cases_Bool (is_length text)) [
       | inl digits ↦ elim (cases_Bool (nat_le (digits_value 10 text) body_limit)) [
         | inl small ↦
@@ -140,14 +140,14 @@ length_room text framing is =
       | inr other ↦ let e = rw other at is in absurd (cc)
     ]
 
-pub codings_room : (coding : List ℕ) (codings : List (List ℕ)) (framing : Framing)
+pub codings_fits : (coding : List ℕ) (codings : List (List ℕ)) (framing : Framing)
     → framing_by_codings coding codings ≡ Ok framing → framing ≡ Chunked
-codings_room coding [] framing is =
+codings_fits coding [] framing is =
     elim (cases_Bool (str_eq_ignore_ascii_case coding (codes "chunked"))) [
       | inl same ↦ let e : ◌≡◌ {A = Result Framing FramingRefusal} (Ok Chunked) (Ok framing) = rw same at is in cc
       | inr other ↦ let e = rw other at is in absurd (cc)
     ]
-codings_room coding (other ∷ codings) framing is = absurd (cc)
+codings_fits coding (other ∷ codings) framing is = absurd (cc)
 
 -- a body of a stated length has no coding, and the other has one
 abbrev pub Frames : Framing → List (List ℕ) → Type 0
@@ -161,7 +161,7 @@ frames_by minor [] [] framing is =
     let P : Framing → Type 0 = λ f. Frames f [] in
     subst P e (omega arith, refl)
 frames_by minor (text ∷ []) [] framing is =
-    let (size, e, small) = length_room text framing is in
+    let (size, e, small) = length_capacity text framing is in
     let P : Framing → Type 0 = λ f. Frames f [] in
     subst P (sym e) (small, refl)
 frames_by minor (text ∷ other ∷ texts) [] framing is = absurd (cc)
@@ -169,7 +169,7 @@ frames_by minor [] (coding ∷ codings) framing is =
     elim (cases_Bool (nat_eq minor 0)) [
       | inl old ↦ let e = rw old at is in absurd (cc)
       | inr new ↦
-          let e : framing ≡ Chunked = codings_room coding codings framing (rw new at is) in
+          let e : framing ≡ Chunked = codings_fits coding codings framing (rw new at is) in
           let P : Framing → Type 0 = λ f. Frames f (coding ∷ codings) in
           subst P (sym e) (lt-ltb 0 (length (coding ∷ codings)) (omega arith))
     ]
@@ -187,73 +187,73 @@ frames head framing is =
           (rw few at is)
     ]
 
--- a body that is framed has room
-pub frames_room : (framing : Framing) (codings : List (List ℕ)) → Frames framing codings → HasRoom framing
-frames_room (Sized size) codings is = is.0
-frames_room Chunked codings is = tt
+-- a body that is framed fits into the buffer for it
+pub frames_fits : (framing : Framing) (codings : List (List ℕ)) → Frames framing codings → FitsBuffer framing
+frames_fits (Sized size) codings is = is.0
+frames_fits Chunked codings is = tt
 
--- an item calls for `100 Continue` where its head does
+-- an item expects `100 Continue` where its head does
 pub framed_continues : (head : RequestHead) (framing : Framing) (coded : List ℕ) (item : Item)
-    → framing_of head ≡ Ok framing → IsFramed head framing coded item → continues item ≡ calls head framing
-unfolding calls
+    → framing_of head ≡ Ok framing → IsFramed head framing coded item → continues item ≡ expects_continue head framing
+unfolding expects_continue
 framed_continues head (Sized size) coded (request m) is (sized n body long) =
     let f = frames head (Sized n) is in rw (f.1, long) refl
-framed_continues head (Sized size) coded (unframed refused called heads) is how = elim how [ ]
+framed_continues head (Sized size) coded (unframed refused expected heads) is how = elim how [ ]
 framed_continues head Chunked coded (request m) is (chunked bytes body decodes) =
     let f = frames head Chunked is in rw f refl
 framed_continues head Chunked coded item is (broken bytes refused decodes) = refl
 
 -- the text that was copied
-pub text_copied : (held bytes copied rest : List ℕ) (lead size : ℕ) → IsTextAt held lead size → bytes ≡ held
-    → copied ≡ take (lead + size - lead) (drop lead bytes)
-    → (take size (copied ++ rest) ≡ take size (drop lead held)) × (size ≤ length (copied ++ rest))
-text_copied held bytes copied rest lead size at same is =
-    let count : lead + size - lead ≡ size = omega arith in
-    let text : copied ≡ take size (drop lead held) = is ∙ ap (λ xs. take (lead + size - lead) (drop lead xs)) same
-    ∙ ap (λ n. take n (drop lead held)) count in
-    let long : length copied ≡ size = ap length text ∙ text_size held lead size at in
+pub text_copied : (held bytes copied rest : List ℕ) (empty_lines size : ℕ) → IsTextAt held empty_lines size → bytes ≡ held
+    → copied ≡ take (empty_lines + size - empty_lines) (drop empty_lines bytes)
+    → (take size (copied ++ rest) ≡ take size (drop empty_lines held)) × (size ≤ length (copied ++ rest))
+text_copied held bytes copied rest empty_lines size at same is =
+    let count : empty_lines + size - empty_lines ≡ size = omega arith in
+    let text : copied ≡ take size (drop empty_lines held) = is ∙ ap (λ xs. take (empty_lines + size - empty_lines) (drop empty_lines xs)) same
+    ∙ ap (λ n. take n (drop empty_lines held)) count in
+    let long : length copied ≡ size = ap length text ∙ text_size held empty_lines size at in
     (take_at copied rest size long ∙ text, omega (arith, length-append copied rest, long))
 
--- the head that was judged is at the front
+-- the bytes begin with the head that was judged
 pub framed_first :
-    (held rest room : List ℕ) (spans : List HeaderSpan) (lead size : ℕ) (judged : Judged)
-    → IsTextAt held lead size → take size room ≡ take size (drop lead held) → size ≤ length room
-    → rest ≡ drop (lead + size) held → IsFramedHead (take size (drop lead held)) spans judged
-    → BeginsFramed held rest room spans
-    (record { used = lead + size; text = size; parts = judged.parts; framing = judged.framing; calls = judged.calls; head = judged.head })
-framed_first held rest room spans lead size judged at same fits rest_is is =
-    let fronts = text_fronts held lead size at in
+    (held rest buffer : List ℕ) (spans : List HeaderSpan) (empty_lines size : ℕ) (judged : Judged)
+    → IsTextAt held empty_lines size → take size buffer ≡ take size (drop empty_lines held) → size ≤ length buffer
+    → rest ≡ drop (empty_lines + size) held → IsFramedHead (take size (drop empty_lines held)) spans judged
+    → BeginsFramed held rest buffer spans
+    (record { used = empty_lines + size; text = size; parts = judged.parts; framing = judged.framing; expects_continue = judged.expects_continue; is_head_request = judged.is_head_request })
+framed_first held rest buffer spans empty_lines size judged at same fits rest_is is =
+    let beginnings = text_beginnings held empty_lines size at in
     record {
-      first = take (lead + size) held;
+      first = take (empty_lines + size) held;
       head = is.head;
-      splits = sym (take-append-drop (lead + size) held) ∙ ap (λ xs. take (lead + size) held ++ xs) (sym rest_is);
-      size_is = length-take-le (lead + size) held at.within;
+      splits = sym (take-append-drop (empty_lines + size) held) ∙ ap (λ xs. take (empty_lines + size) held ++ xs) (sym rest_is);
+      size_is = length-take-le (empty_lines + size) held at.within;
       some = omega (arith, at.some);
       limit = at.limit;
       text_within = fits;
       at = rw same is.at;
       framing_is = is.framing_is;
-      room = frames_room judged.framing (values (codes "transfer-encoding") (map name_and_value is.head.fields)) (frames is.head judged.framing is.framing_is);
-      calls_is = is.called_is;
+      fits = frames_fits judged.framing (values (codes "transfer-encoding") (map name_and_value is.head.fields)) (frames is.head judged.framing is.framing_is);
+      expects_is = is.expected_is;
       head_is = is.heads_is;
-      front = λ more. fronts.front more ∙ ap Text (sym same);
-      behind = λ more. fronts.behind more ∙ ap (λ xs. xs ++ more) (sym same);
+      beginning = λ more. beginnings.beginning more ∙ ap Text (sym same);
+      behind = λ more. beginnings.behind more ∙ ap (λ xs. xs ++ more) (sym same);
     }
 
 -- why no head came, by whether all the bytes are blank
-pub halted_by : (source source' : End) (all : List ℕ) (stopped : Stopped) (blank : Bool) → IsStopped source source' stopped
-    → is_blank all ≡ blank → IsHalted source source' all (before_head stopped blank)
-halted_by source source' all InputEnd blank is same = absurd is
-halted_by source source' all Truncated true is same = (is, same)
-halted_by source source' all Truncated false is same = (is, same)
-halted_by source source' all ReadFault blank is same = is
-halted_by source source' all WriteFault blank is same = absurd is
+pub has_no_head : (source source' : End) (all : List ℕ) (incomplete : Incomplete) (blank : Bool) → NoMoreBytes source source' incomplete
+    → is_blank all ≡ blank → HasNoHead source source' all (before_head incomplete blank)
+has_no_head source source' all InputEnd blank is same = absurd is
+has_no_head source source' all Truncated true is same = (is, same)
+has_no_head source source' all Truncated false is same = (is, same)
+has_no_head source source' all ReadFault blank is same = is
+has_no_head source source' all WriteFault blank is same = absurd is
 
 -- what comes of all bytes that are held comes of those before with those that were taken
 module _ (source source' : End) (before after rest text : List ℕ) (spans : List HeaderSpan)
     (grows : Grows source source' IsUnread before after) where
-  heads_waits : IsIdle source source' grows.got ⊎ (front_of before ≡ Unfinished)
-  heads_waits = elim grows.waits [ inl idle ↦ inl idle | inr unread ↦ inr unread.front ]
+  heads_waits : IsIdle source source' grows.got ⊎ (beginning_of before ≡ Unfinished)
+  heads_waits = elim grows.waits [ inl idle ↦ inl idle | inr unread ↦ inr unread.beginning ]
 
   pub heads_grow : (headed : Headed) → IsHeadOf after rest text spans headed
       → Heads source source' before rest text spans (Ok headed)
@@ -261,13 +261,13 @@ module _ (source source' : End) (before after rest text : List ℕ) (spans : Lis
       let P : List ℕ → Type 0 = λ bytes. IsHeadOf bytes rest text spans headed in
       record { got = grows.got; took = grows.took; waits = heads_waits; is = subst P grows.adds is }
 
-  pub heads_stop : (stopped : Stopped) (blank : Bool) → IsUnread after × IsStopped source source' stopped
-      → blank ≡ is_blank after → Heads source source' before rest text spans (Err (before_head stopped blank))
-  heads_stop stopped blank why same =
-      let P : List ℕ → Type 0 = λ bytes. (front_of bytes ≡ Unfinished) × IsHalted source source' bytes (before_head stopped blank) in
+  pub heads_stop : (incomplete : Incomplete) (blank : Bool) → IsUnread after × NoMoreBytes source source' incomplete
+      → blank ≡ is_blank after → Heads source source' before rest text spans (Err (before_head incomplete blank))
+  heads_stop incomplete blank why same =
+      let P : List ℕ → Type 0 = λ bytes. (beginning_of bytes ≡ Unfinished) × HasNoHead source source' bytes (before_head incomplete blank) in
       record {
         got = grows.got;
         took = grows.took;
         waits = heads_waits;
-        is = subst P grows.adds (why.0.front, halted_by source source' after stopped blank why.1 (sym same));
+        is = subst P grows.adds (why.0.beginning, has_no_head source source' after incomplete blank why.1 (sym same));
       }

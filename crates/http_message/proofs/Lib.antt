@@ -1,11 +1,11 @@
-mod BlankLemmas
+mod EmptyLineLemmas
 mod BodyLemmas
 mod ChunkLemmas
 mod CodingFacts
 mod CodingLemmas
 mod FieldLemmas
 mod FramingLemmas
-mod FrontLemmas
+mod BeginningLemmas
 mod HeadLemmas
 mod InputLemmas
 mod ItemLemmas

@@ -5,13 +5,13 @@ use Rattle.std.proofs.lemmas.List.{append_assoc, append-nil, get_or_append_left,
 use Rattle.memchr.specs.Find.{Nowhere, is_byte, Passes as PassesTest}
 use Rattle.http_message.specs.Coding.{Whole, Overlong, Short, cut_by, line_length, trailers_length}
 use Rattle.http_message.specs.Line.{length_of, text_at, PassesLine, IsPassed, IsEndOf, EndsIn, Overruns, IsOpenIn}
-use Rattle.http_message.specs.Scan.{IsLine, IsEnd}
+use Rattle.http_message.specs.HeadScan.{IsLine, IsEnd}
 use Rattle.http_message.specs.Text.{empty_line, head_length}
 use Rattle.http_message.specs.declared.line.Sought.{Sought}
 use Rattle.http_message.specs.declared.line.Sought.TheVariants.{Line, Trailers}
 use Rattle.http_message.specs.declared.scan.TextEnd.{TextEnd}
 use Rattle.http_message.specs.declared.scan.TextEnd.TheVariants.{At, Behind}
-use Rattle.http_message.proofs.FrontLemmas.{line_front, line_cut, line_fits, head_bounds, head_cut, suc_inv, take_past}
+use Rattle.http_message.proofs.BeginningLemmas.{line_beginning, line_cut, line_fits, head_bounds, head_cut, suc_inv, take_past}
 use Rattle.http_message.proofs.LookLemmas.{passes_append}
 use Rattle.http_message.proofs.ScanLemmas.{step_step, suc_step, no_step}
 
@@ -78,10 +78,10 @@ passed_append Trailers bytes got n passes = passes_append bytes got n passes
 
 pub passed_more : (sought : Sought) (most : ℕ) (before after got : List ℕ) (n : ℕ) → length before < most
     → after ≡ before ++ got → IsPassed sought (take most before) n → IsPassed sought (take most after) n
-passed_more sought most before after got n room adds passed =
+passed_more sought most before after got n space adds passed =
     let more : take most before ++ take (most - length before) got ≡ take most after =
-    ap (λ xs. xs ++ take (most - length before) got) (take_all most before (omega (arith, room)))
-    ∙ sym (take_past most before got (omega (arith, room))) ∙ ap (take most) (sym adds) in
+    ap (λ xs. xs ++ take (most - length before) got) (take_all most before (omega (arith, space)))
+    ∙ sym (take_past most before got (omega (arith, space))) ∙ ap (take most) (sym adds) in
     let P : List ℕ → Type 0 = λ xs. IsPassed sought xs n in
     subst P more (passed_append sought (take most before) (take (most - length before) got) n passed)
 
@@ -117,7 +117,7 @@ line_decides (x ∷ bytes) n more is =
           rw (size, other) (ap (option_map suc) (line_decides bytes m more at))
     ]
 
--- trailers by whether an empty line stands at their front
+-- trailers by whether they begin with an empty line
 pub trailers_empty : (bytes : List ℕ) (size : ℕ) → empty_line bytes ≡ size → 0 < size → trailers_length bytes ≡ Some size
 trailers_empty bytes size is some = let more : nat_lt 0 size ≡ true = lt-ltb 0 size some in rw (is, more) refl
 
@@ -152,7 +152,7 @@ trailers_decide bytes n more is =
           let head : head_length bytes ≡ Some n = sym (trailers_filled bytes no_line) ∙ is in
           let bounds = head_bounds bytes n head in
           trailers_filled (take n bytes ++ more)
-          (line_front bytes n more bounds.0 (omega (arith, bounds.0, bounds.1)) ∙ no_line) ∙ head_cut bytes n more head
+          (line_beginning bytes n more bounds.0 (omega (arith, bounds.0, bounds.1)) ∙ no_line) ∙ head_cut bytes n more head
     ]
 
 -- both of either
@@ -165,7 +165,7 @@ pub decides : (sought : Sought) (bytes : List ℕ) (n : ℕ) (more : List ℕ) �
 decides Line bytes n more is = line_decides bytes n more is
 decides Trailers bytes n more is = trailers_decide bytes n more is
 
--- what stands at the front, by where it ends
+-- what the bytes begin with, by where it ends
 pub text_whole : (sought : Sought) (most : ℕ) (bytes : List ℕ) (n : ℕ) → EndsIn sought most bytes n
     → text_at sought most bytes ≡ Whole (take n bytes)
 text_whole sought most bytes n ends = ap (λ o. cut_by o (nat_le most (length bytes)) bytes) ends.at
@@ -215,7 +215,7 @@ ends_here sought most bytes n ends =
       limit = omega (arith, within.2, size);
     }
 
--- those of a full room decide that no text ends in it
+-- bytes that reach the limit decide that no text ends within it
 pub overruns_here : (sought : Sought) (most : ℕ) (bytes more : List ℕ) → Overruns sought most bytes
     → Overruns sought most (take most bytes ++ more)
 overruns_here sought most bytes more over =
@@ -225,7 +225,7 @@ overruns_here sought most bytes more over =
       full = omega (arith, size, length-append (take most bytes) more);
     }
 
--- and back: by what stands at the front
+-- and back: by what the bytes begin with
 pub cut_whole : (o : Option ℕ) (full : Bool) (bytes text : List ℕ) → cut_by o full bytes ≡ Whole text
     → (n : ℕ) × (o ≡ Some n) × (take n bytes ≡ text)
 cut_whole (Some n) full bytes text is = (n, refl, cc)

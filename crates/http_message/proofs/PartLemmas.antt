@@ -4,11 +4,11 @@ use Rattle.std.specs.Prelude.{Result, Ok, Err}
 use Rattle.std.specs.Str.{bytes_eq}
 use Rattle.std.proofs.lemmas.List.{length-take-le}
 use Rattle.httparse.specs.Ascii.{crlf_bytes}
-use Rattle.q_outside.specs.Told.{End}
+use Rattle.q_outside.specs.Ends.{End}
 use Rattle.http_message.specs.Bodied.{IsBody}
 use Rattle.http_message.specs.Coded.{IsCutShort, IsCoded, IsPart, IsLineEnd, IsContent, EndsCoding, IsEnding}
-use Rattle.http_message.specs.Coding.{Unfinished, room_behind, overlong_at, fits}
-use Rattle.http_message.specs.Input.{IsStopped, Grows, Reads}
+use Rattle.http_message.specs.Coding.{Unfinished, capacity_behind, overlong_at, fits}
+use Rattle.http_message.specs.Input.{NoMoreBytes, Grows, Reads}
 use Rattle.http_message.specs.Item.{IsCut, chunked}
 use Rattle.http_message.specs.Limits.{body_limit}
 use Rattle.http_message.specs.Line.{Overruns, IsOpenIn}
@@ -21,7 +21,7 @@ use Rattle.http_message.specs.declared.framing.Framing.TheVariants.{Sized, Chunk
 use Rattle.http_message.specs.declared.line.Sought.TheVariants.{Line}
 use Rattle.http_message.specs.declared.refusal.FramingRefusal.{FramingRefusal}
 use Rattle.http_message.specs.declared.refusal.FramingRefusal.TheVariants.{BadLength}
-use Rattle.http_message.specs.declared.stopped.Stopped.{Stopped}
+use Rattle.http_message.specs.declared.incomplete.Incomplete.{Incomplete}
 use Rattle.http_message.proofs.ChunkLemmas.{Announces, chunk_short, chunk_whole, chunk_bad, content_behind, content_short, line_overlong, line_short, ending_short, ending_part}
 use Rattle.http_message.proofs.InputLemmas.{Behind, behind_read, behind_grown, behind_held, behind_ok, behind_stop, reads_behind, reads_as, reads_stop, reads_grown, reads_short}
 use Rattle.http_message.proofs.StepLemmas.{DecodesTo, decoding_short, decoding_more, decoding_ends, decoding_breaks}
@@ -37,7 +37,7 @@ line_end_reads source last held grown rest whole grows skipped two is =
     (λ bytes few. few) (record { two = length-take-le 2 grown two; whole_is = is })
 
 -- a content, and two bytes behind it
-pub content_reads : {T : Type 0} (source middle last : End) (held rest held' into : List ℕ) (filled : T) (result : Result Bool Stopped)
+pub content_reads : {T : Type 0} (source middle last : End) (held rest held' into : List ℕ) (filled : T) (result : Result Bool Incomplete)
     → Reads source middle held rest (λ bytes. length bytes < length into) (λ (_ : T) used. used ≡ into) (Ok filled)
     → Reads middle last rest held' (λ bytes. length bytes < 2) IsLineEnd result
     → Reads source last held held' (λ bytes. length bytes < length into + 2) (IsContent into) result
@@ -60,10 +60,10 @@ module _ (source last : End) (held rest held' content body body' : List ℕ) (at
       behind_held source last held rest line (λ bytes. length bytes < length content + 2) (IsCutShort at.coded at.got) skipped
       (λ bytes few. chunk_short at line size held a some fit bytes (omega (arith, few, size_is)))
 
-  pub chunk_stops : (rest' : List ℕ) (stopped : Stopped)
-      → Reads source last rest held' (λ bytes. length bytes < length content + 2) (IsContent content) (Err stopped)
-      → Reads source last held rest' (IsCutShort at.coded at.got) (IsPart at body body') (Err stopped)
-  chunk_stops rest' stopped = behind_stop chunk_behind held' rest' (IsContent content) (IsPart at body body') stopped
+  pub chunk_stops : (rest' : List ℕ) (incomplete : Incomplete)
+      → Reads source last rest held' (λ bytes. length bytes < length content + 2) (IsContent content) (Err incomplete)
+      → Reads source last held rest' (IsCutShort at.coded at.got) (IsPart at body body') (Err incomplete)
+  chunk_stops rest' incomplete = behind_stop chunk_behind held' rest' (IsContent content) (IsPart at body body') incomplete
 
   pub chunk_taken : (next : Progress) → next.coded ≡ at.coded + line + size + 2 → next.got ≡ at.got + size
       → take next.got body' ≡ take at.got body ++ content
@@ -82,7 +82,7 @@ module _ (source last : End) (held rest held' content body body' : List ℕ) (at
       (λ bytes came. chunk_bad at line size held a some fit content bytes size_is came)
 
 -- the last line was taken
-pub ending_reads : (source last : End) (held rest held' body : List ℕ) (at : Progress) (line : ℕ) (result : Result Part Stopped)
+pub ending_reads : (source last : End) (held rest held' body : List ℕ) (at : Progress) (line : ℕ) (result : Result Part Incomplete)
     → Announces at.coded line 0 held → rest ≡ drop line held
     → Reads source last rest held' (λ bytes. EndsCoding (at.coded + line) bytes Unfinished) (IsEnding (at.coded + line)) result
     → Reads source last held held' (IsCutShort at.coded at.got) (IsPart at body body) result
@@ -93,9 +93,9 @@ ending_reads source last held rest held' body at line result a skipped second =
     held' (IsEnding (at.coded + line)) (IsPart at body body) result (ending_part at line held a body) second
 
 -- a part whose line was looked for
-module _ (source middle : End) (held grown : List ℕ) (at : Progress) (most : ℕ) (is : most ≡ room_behind at.coded)
+module _ (source middle : End) (held grown : List ℕ) (at : Progress) (most : ℕ) (is : most ≡ capacity_behind at.coded)
     (grows : Grows source middle (IsOpenIn Line most) held grown) where
-  pub part_reads : (last : End) (held' body body' : List ℕ) (result : Result Part Stopped)
+  pub part_reads : (last : End) (held' body body' : List ℕ) (result : Result Part Incomplete)
       → Reads middle last grown held' (IsCutShort at.coded at.got) (IsPart at body body') result
       → Reads source last held held' (IsCutShort at.coded at.got) (IsPart at body body') result
   part_reads last held' body body' result =
@@ -112,10 +112,10 @@ module _ (source middle : End) (held grown : List ℕ) (at : Progress) (most : �
       (part.Broken (overlong_at at.coded) (at.coded + most)) grows skipped (line_short at.coded at.got most is)
       (line_overlong at.coded at.got most grown is over)
 
-  pub part_stops : (rest body body' : List ℕ) (stopped : Stopped) → IsOpenIn Line most grown × IsStopped source middle stopped
-      → Reads source middle held rest (IsCutShort at.coded at.got) (IsPart at body body') (Err stopped)
-  part_stops rest body body' stopped =
-      reads_short source middle held grown rest (IsOpenIn Line most) (IsCutShort at.coded at.got) (IsPart at body body') stopped grows
+  pub part_stops : (rest body body' : List ℕ) (incomplete : Incomplete) → IsOpenIn Line most grown × NoMoreBytes source middle incomplete
+      → Reads source middle held rest (IsCutShort at.coded at.got) (IsPart at body body') (Err incomplete)
+  part_stops rest body body' incomplete =
+      reads_short source middle held grown rest (IsOpenIn Line most) (IsCutShort at.coded at.got) (IsPart at body body') incomplete grows
       (line_short at.coded at.got most is)
 
 -- a part behind the chunks so far
@@ -150,10 +150,10 @@ module _ (source middle last : End) (held grown held' body body' : List ℕ) (at
       behind_ok chunks_behind held' (IsPart at body body') (IsCoded body') (part.Broken refused total) (coded.Broken refused total)
       (λ bytes came. decoding_breaks body at total refused d.came.used d.came.says bytes came)
 
-  pub coding_stops : (rest' : List ℕ) (stopped : Stopped)
-      → Reads middle last grown held' (IsCutShort at.coded at.got) (IsPart at body body') (Err stopped)
-      → Reads source last held rest' (IsCutShort 0 0) (IsCoded body') (Err stopped)
-  coding_stops rest' stopped = behind_stop chunks_behind held' rest' (IsPart at body body') (IsCoded body') stopped
+  pub coding_stops : (rest' : List ℕ) (incomplete : Incomplete)
+      → Reads middle last grown held' (IsCutShort at.coded at.got) (IsPart at body body') (Err incomplete)
+      → Reads source last held rest' (IsCutShort 0 0) (IsCoded body') (Err incomplete)
+  coding_stops rest' incomplete = behind_stop chunks_behind held' rest' (IsPart at body body') (IsCoded body') incomplete
 
 -- a body of a stated length
 module _ {T : Type 0} (source last : End) (held held' into behind : List ℕ) (size : ℕ) (long : length into ≡ size) where
@@ -164,17 +164,17 @@ module _ {T : Type 0} (source last : End) (held held' into behind : List ℕ) (s
       reads_as (IsCut (Sized size)) (IsBody (Sized size) (into ++ behind)) (cut_sized size (length into) long)
       (coded.Whole size size) first (λ bytes same. body_sized into behind bytes size long small same)
 
-  pub sized_stops : (rest' : List ℕ) (stopped : Stopped)
-      → Reads source last held held' (λ bytes. length bytes < length into) (λ (_ : T) used. used ≡ into) (Err stopped)
-      → Reads source last held rest' (IsCut (Sized size)) (IsBody (Sized size) (into ++ behind)) (Err stopped)
-  sized_stops rest' stopped first =
+  pub sized_stops : (rest' : List ℕ) (incomplete : Incomplete)
+      → Reads source last held held' (λ bytes. length bytes < length into) (λ (_ : T) used. used ≡ into) (Err incomplete)
+      → Reads source last held rest' (IsCut (Sized size)) (IsBody (Sized size) (into ++ behind)) (Err incomplete)
+  sized_stops rest' incomplete first =
       reads_stop (IsCut (Sized size)) (IsBody (Sized size) (into ++ behind)) (cut_sized size (length into) long) rest' first
 
 -- and a chunked one
-pub coded_reads : (source last : End) (held held' body : List ℕ) (result : Result Coded Stopped) → length body ≡ body_limit
+pub coded_reads : (source last : End) (held held' body : List ℕ) (result : Result Coded Incomplete) → length body ≡ body_limit
     → Reads source last held held' (IsCutShort 0 0) (IsCoded body) result
     → Reads source last held held' (IsCut Chunked) (IsBody Chunked body) result
 coded_reads source last held held' body (Ok answer) long r =
     reads_as (IsCut Chunked) (IsBody Chunked body) (λ (bytes : List ℕ) (cut : IsCutShort 0 0 bytes). chunked bytes cut) answer r (body_coded body long answer)
-coded_reads source last held held' body (Err stopped) long r =
+coded_reads source last held held' body (Err incomplete) long r =
     reads_stop (IsCut Chunked) (IsBody Chunked body) (λ (bytes : List ℕ) (cut : IsCutShort 0 0 bytes). chunked bytes cut) held' r

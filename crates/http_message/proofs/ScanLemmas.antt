@@ -3,8 +3,8 @@ use Rattle.std.proofs.Common.{◌≡◌, ℕ, zero, suc, ◌+◌, ◌<◌, ◌�
 use Rattle.std.proofs.lemmas.List.{append-nil, get_or_append_left, drop-append-le, drop_more, drop-drop, length-drop, length-append, drop_all}
 use Rattle.std.proofs.lemmas.Bool.{cases_Bool, ne_eqb, eq-eqb, lt-ltb}
 use Rattle.memchr.specs.Find.{Nowhere, is_byte, Passes as PassesTest}
-use Rattle.http_message.specs.Text.{empty_line, blank_length, head_length}
-use Rattle.http_message.specs.Scan.{IsLine, IsCut, Skips, Passes, IsFeed}
+use Rattle.http_message.specs.Text.{empty_line, empty_lines_at_start, head_length}
+use Rattle.http_message.specs.HeadScan.{IsLine, IsCut, Skips, Passes, IsFeed}
 
 -- one step after another, at an answer of a search
 pub step_step : (a b : ℕ) (o : Option ℕ)
@@ -26,11 +26,11 @@ pub no_step : (o : Option ℕ) → option_map (λ n. 0 + n) o ≡ o
 no_step None = refl
 no_step (Some n) = let e : 0 + n ≡ n = omega arith in ap Some e
 
--- an empty line at the front is passed over as one
-pub blank_more : (bytes : List ℕ) → 0 < empty_line bytes
-    → blank_length bytes ≡ empty_line bytes + blank_length (drop (empty_line bytes) bytes)
-blank_more [] some = absurd (omega arith)
-blank_more (byte ∷ []) some =
+-- an empty line at the start is passed over as one
+pub empty_lines_more : (bytes : List ℕ) → 0 < empty_line bytes
+    → empty_lines_at_start bytes ≡ empty_line bytes + empty_lines_at_start (drop (empty_line bytes) bytes)
+empty_lines_more [] some = absurd (omega arith)
+empty_lines_more (byte ∷ []) some =
     elim (cases_Bool (nat_eq byte 10)) [
       | inl feed ↦ rw feed refl
       | inr other ↦ elim (cases_Bool (nat_eq byte 13)) [
@@ -38,12 +38,12 @@ blank_more (byte ∷ []) some =
         | inr neither ↦ let none : 0 < 0 = rw (other, neither) at some in absurd (omega arith)
       ]
     ]
-blank_more (byte ∷ next ∷ bytes) some =
+empty_lines_more (byte ∷ next ∷ bytes) some =
     elim (cases_Bool (nat_eq byte 10)) [
-      | inl feed ↦ rw feed (let e : suc (blank_length (next ∷ bytes)) ≡ 1 + blank_length (next ∷ bytes) = omega arith in e)
+      | inl feed ↦ rw feed (let e : suc (empty_lines_at_start (next ∷ bytes)) ≡ 1 + empty_lines_at_start (next ∷ bytes) = omega arith in e)
       | inr other ↦ elim (cases_Bool (nat_eq byte 13)) [
         | inl return ↦ elim (cases_Bool (nat_eq next 10)) [
-          | inl feed ↦ rw (other, return, feed) (let e : suc (suc (blank_length bytes)) ≡ 2 + blank_length bytes = omega arith in e)
+          | inl feed ↦ rw (other, return, feed) (let e : suc (suc (empty_lines_at_start bytes)) ≡ 2 + empty_lines_at_start bytes = omega arith in e)
           | inr bare ↦ let none : 0 < 0 = rw (other, return, bare) at some in absurd (omega arith)
         ]
         | inr neither ↦ let none : 0 < 0 = rw (other, neither) at some in absurd (omega arith)
@@ -51,9 +51,9 @@ blank_more (byte ∷ next ∷ bytes) some =
     ]
 
 -- without one nothing is passed over
-pub blank_none : (bytes : List ℕ) → empty_line bytes ≡ 0 → blank_length bytes ≡ 0
-blank_none [] none = refl
-blank_none (byte ∷ bytes) none = rw none refl
+pub no_empty_line : (bytes : List ℕ) → empty_line bytes ≡ 0 → empty_lines_at_start bytes ≡ 0
+no_empty_line [] none = refl
+no_empty_line (byte ∷ bytes) none = rw none refl
 
 -- a run without line feed
 pub head_run : (bytes : List ℕ) (k : ℕ) → k ≤ length bytes
@@ -83,27 +83,27 @@ skips_more bytes at size skips line some = record {
   all = λ more.
       let ys : List ℕ = drop at bytes ++ more in
       let is : empty_line ys ≡ size = line.all more in
-      let step : blank_length ys ≡ size + blank_length (drop size ys) =
-      rw is at (blank_more ys (rw is some)) in
+      let step : empty_lines_at_start ys ≡ size + empty_lines_at_start (drop size ys) =
+      rw is at (empty_lines_more ys (rw is some)) in
       let rest : drop size ys ≡ drop (at + size) bytes ++ more =
       drop-append-le size (drop at bytes) more line.fits ∙ ap (λ xs. xs ++ more) (drop-drop size at bytes) in
-      omega (arith, skips.all more, step, ap blank_length rest);
+      omega (arith, skips.all more, step, ap empty_lines_at_start rest);
   fits = omega (arith, skips.fits, line.fits, length-drop at bytes);
 }
 
 -- no empty line follows those that were passed over
 pub skips_all : (bytes : List ℕ) (at : ℕ) → Skips bytes at → IsLine (drop at bytes) 0
-    → at ≡ blank_length bytes
+    → at ≡ empty_lines_at_start bytes
 skips_all bytes at skips line =
-    let none : blank_length (drop at bytes ++ []) ≡ 0 = blank_none (drop at bytes ++ []) (line.all []) in
-    omega (arith, skips.all [], none, ap blank_length (append-nil bytes))
+    let none : empty_lines_at_start (drop at bytes ++ []) ≡ 0 = no_empty_line (drop at bytes ++ []) (line.all []) in
+    omega (arith, skips.all [], none, ap empty_lines_at_start (append-nil bytes))
 
 pub skips_cut : (bytes : List ℕ) (at : ℕ) → Skips bytes at → IsCut (drop at bytes)
-    → at ≡ blank_length bytes
+    → at ≡ empty_lines_at_start bytes
 skips_cut bytes at skips cut =
-    let none : blank_length (drop at bytes ++ []) ≡ 0 =
+    let none : empty_lines_at_start (drop at bytes ++ []) ≡ 0 =
     elim cut.cut [ inl e ↦ rw e refl | inr e ↦ rw e refl ] in
-    omega (arith, skips.all [], none, ap blank_length (append-nil bytes))
+    omega (arith, skips.all [], none, ap empty_lines_at_start (append-nil bytes))
 
 -- nothing was passed yet
 pub skips_none : (bytes : List ℕ) → Skips bytes 0

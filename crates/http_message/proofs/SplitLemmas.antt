@@ -6,49 +6,49 @@ use Rattle.std.proofs.lemmas.List.{append_assoc, append_cancel_left, take_at, dr
 use Rattle.httparse.specs.Grammar.{RequestHead}
 use Rattle.httparse.proofs.GrammarLemmas.{request_unique}
 use Rattle.http_message.specs.Coding.{Decoded, Broken, Unfinished as Pending}
-use Rattle.http_message.specs.Framing.{framing_of, calls}
+use Rattle.http_message.specs.Framing.{framing_of, expects_continue}
 use Rattle.http_message.specs.Head.{IsHead}
-use Rattle.http_message.specs.Item.{Item, request, unframed, closes, is_head, IsFramed, sized, chunked, broken, IsItemOf, no_head, bad_head, framed, IsItemBy, IsItem, IsCut, IsOpen, no_text, cut_short, IsCalled}
+use Rattle.http_message.specs.Item.{Item, request, unframed, closes, is_head_request, IsFramed, sized, chunked, broken, IsItemOf, no_head, bad_head, framed, IsItemBy, IsItem, IsCut, IsOpen, no_text, cut_short, ExpectsContinue}
 use Rattle.http_message.specs.Message.{message_of}
 use Rattle.http_message.specs.Split.{Piece, bytes_of, OnlyLastCloses, last_closes, IsSplit}
-use Rattle.http_message.specs.Text.{Front, BareReturn, Text, TooLarge, Unfinished, front_of, lead_length}
+use Rattle.http_message.specs.Text.{Beginning, BareCr, Text, TooLarge, Unfinished, beginning_of, empty_lines_before_head}
 use Rattle.http_message.specs.declared.framing.Framing.{Framing}
 use Rattle.http_message.specs.declared.framing.Framing.TheVariants.{Sized, Chunked}
 use Rattle.http_message.specs.declared.refusal.FramingRefusal.{FramingRefusal}
 use Rattle.http_message.specs.declared.refusal.FramingRefusal.TheVariants.{BadHead, HeadTooLarge}
 use Rattle.http_message.proofs.CodingLemmas.{one_outcome, none_in_unfinished}
 use Rattle.http_message.specs.Limits.{head_limit}
-use Rattle.http_message.proofs.FrontLemmas.{settled_text, settled_return, settled_large, settles_grow}
+use Rattle.http_message.proofs.BeginningLemmas.{settled_text, settled_bare_cr, settled_large, settles_grow}
 
--- the bytes begin with this item, of so many bytes, by what stands at their front
-abbrev pub BeginsBy : Front → List ℕ → ℕ → Item → Type 0
-BeginsBy BareReturn bytes n item = (n ≡ lead_length bytes + 2) × (item ≡ unframed BadHead false false)
+-- the bytes begin with this item of this length, by what they begin with
+abbrev pub BeginsBy : Beginning → List ℕ → ℕ → Item → Type 0
+BeginsBy BareCr bytes n item = (n ≡ empty_lines_before_head bytes + 2) × (item ≡ unframed BadHead false false)
 BeginsBy (Text text) bytes n item =
-    (coded : List ℕ) × (rest : List ℕ) × (drop (lead_length bytes) bytes ≡ text ++ (coded ++ rest))
-    × (n ≡ lead_length bytes + (length text + length coded)) × IsItemOf text coded item
+    (coded : List ℕ) × (rest : List ℕ) × (drop (empty_lines_before_head bytes) bytes ≡ text ++ (coded ++ rest))
+    × (n ≡ empty_lines_before_head bytes + (length text + length coded)) × IsItemOf text coded item
 BeginsBy TooLarge bytes n item = (n ≡ head_limit) × (item ≡ unframed HeadTooLarge false false)
 BeginsBy Unfinished bytes n item = ⊥
 
 -- bytes that are an item begin with it, whatever follows
-pub begins_by : (front : Front) (piece more : List ℕ) (item : Item) → front_of piece ≡ front
-    → IsItemBy front piece item
-    → (front_of (piece ++ more) ≡ front) × BeginsBy front (piece ++ more) (length piece) item
-begins_by BareReturn piece more item at is =
-    let grown = settles_grow piece (lead_length piece + 2) BareReturn more (settled_return piece at) in
+pub begins_by : (beginning : Beginning) (piece more : List ℕ) (item : Item) → beginning_of piece ≡ beginning
+    → IsItemBy beginning piece item
+    → (beginning_of (piece ++ more) ≡ beginning) × BeginsBy beginning (piece ++ more) (length piece) item
+begins_by BareCr piece more item at is =
+    let grown = settles_grow piece (empty_lines_before_head piece + 2) BareCr more (settled_bare_cr piece at) in
     (grown.0, (omega (arith, is.0, grown.1), is.1))
 begins_by (Text text) piece more item at (coded, split, is) =
     let settled = settled_text piece text at in
-    let grown = settles_grow piece (lead_length piece + length text) (Text text) more settled.settles in
-    let rest : drop (lead_length (piece ++ more)) (piece ++ more) ≡ text ++ (coded ++ more) =
+    let grown = settles_grow piece (empty_lines_before_head piece + length text) (Text text) more settled.settles in
+    let rest : drop (empty_lines_before_head (piece ++ more)) (piece ++ more) ≡ text ++ (coded ++ more) =
     ap (λ n. drop n (piece ++ more)) grown.1
-    ∙ drop-append-le (lead_length piece) piece more (omega (arith, settled.within))
+    ∙ drop-append-le (empty_lines_before_head piece) piece more (omega (arith, settled.within))
     ∙ ap (λ xs. xs ++ more) split ∙ append_assoc text coded more in (
       grown.0,
       (
         coded,
         more,
         rest,
-        omega (arith, grown.1, settled.within, ap length split, length-drop (lead_length piece) piece, length-append text coded),
+        omega (arith, grown.1, settled.within, ap length split, length-drop (empty_lines_before_head piece) piece, length-append text coded),
         is,
       ),
     )
@@ -101,7 +101,7 @@ one_framed head Chunked coded rest other others item item' (broken bytes refused
     let one = one_outcome 0 0 coded rest other others (Broken refused) (Broken refused') how how' (broken_done refused) (broken_done refused') same in
     let outcomes = one.1 in
     let refusals : refused ≡ refused' = cc in
-    (one.0, ap (λ (r : FramingRefusal). unframed r (calls head Chunked) (is_head head)) refusals)
+    (one.0, ap (λ (r : FramingRefusal). unframed r (expects_continue head Chunked) (is_head_request head)) refusals)
 
 -- what is framed behind one head, of another that is the same
 pub framed_same : (text : List ℕ) (head other : RequestHead) (framing framing' : Framing) (coded : List ℕ) (item : Item)
@@ -140,9 +140,9 @@ one_of_text text coded rest coded' rest' item other same (framed head framing at
     (framed_same text head head' framing framing' coded' other at at' good good' how') same
 
 -- bytes begin with one item
-pub one_by : (front : Front) (bytes : List ℕ) (n m : ℕ) (item other : Item) → BeginsBy front bytes n item
-    → BeginsBy front bytes m other → (n ≡ m) × (item ≡ other)
-one_by BareReturn bytes n m item other a b = (a.0 ∙ sym b.0, a.1 ∙ sym b.1)
+pub one_by : (beginning : Beginning) (bytes : List ℕ) (n m : ℕ) (item other : Item) → BeginsBy beginning bytes n item
+    → BeginsBy beginning bytes m other → (n ≡ m) × (item ≡ other)
+one_by BareCr bytes n m item other a b = (a.0 ∙ sym b.0, a.1 ∙ sym b.1)
 one_by (Text text) bytes n m item other (coded, rest, split, size, is) (coded', rest', split', size', is') =
     let same : coded ++ rest ≡ coded' ++ rest' =
     append_cancel_left text (coded ++ rest) (coded' ++ rest') (sym split ∙ split') in
@@ -155,15 +155,15 @@ one_by Unfinished bytes n m item other a b = absurd a
 pub item_unique : (first second rest others : List ℕ) (item other : Item) → IsItem first item → IsItem second other
     → first ++ rest ≡ second ++ others → (first ≡ second) × (item ≡ other)
 item_unique first second rest others item other a b same =
-    let begins = begins_by (front_of first) first rest item refl a.is in
-    let begins' = begins_by (front_of second) second others other refl b.is in
-    let fronts : front_of second ≡ front_of first = sym begins'.0 ∙ ap front_of (sym same) ∙ begins.0 in
-    let P : Front → List ℕ → Type 0 = λ front bytes. BeginsBy front bytes (length second) other in
-    let moved : BeginsBy (front_of first) (second ++ others) (length second) other =
-    subst (λ front. P front (second ++ others)) fronts begins'.1 in
-    let here : BeginsBy (front_of first) (first ++ rest) (length second) other =
-    subst (λ bytes. P (front_of first) bytes) (sym same) moved in
-    let one = one_by (front_of first) (first ++ rest) (length first) (length second) item other begins.1 here in (
+    let begins = begins_by (beginning_of first) first rest item refl a.is in
+    let begins' = begins_by (beginning_of second) second others other refl b.is in
+    let beginnings : beginning_of second ≡ beginning_of first = sym begins'.0 ∙ ap beginning_of (sym same) ∙ begins.0 in
+    let P : Beginning → List ℕ → Type 0 = λ beginning bytes. BeginsBy beginning bytes (length second) other in
+    let moved : BeginsBy (beginning_of first) (second ++ others) (length second) other =
+    subst (λ beginning. P beginning (second ++ others)) beginnings begins'.1 in
+    let here : BeginsBy (beginning_of first) (first ++ rest) (length second) other =
+    subst (λ bytes. P (beginning_of first) bytes) (sym same) moved in
+    let one = one_by (beginning_of first) (first ++ rest) (length first) (length second) item other begins.1 here in (
       sym (take_at first rest (length first) refl) ∙ ap (take (length first)) same
           ∙ take_at second others (length first) (sym one.0),
       one.1,
@@ -179,7 +179,7 @@ no_framed_in_cut head Chunked coded rest item (chunked bytes body how) (chunked 
 no_framed_in_cut head Chunked coded rest item (broken bytes refused how) (chunked bytes' cut) =
     none_in_unfinished 0 0 coded rest (Broken refused) how (broken_done refused) cut
 
--- and so no item stands behind the text
+-- and so no item follows the text
 pub no_item_in_cut : (text coded rest : List ℕ) (item : Item) (head : RequestHead) (framing : Framing) → IsHead text head
     → framing_of head ≡ Ok framing → IsItemOf text coded item → IsCut framing (coded ++ rest) → ⊥
 no_item_in_cut text coded rest item head framing at good (no_head none nil is) cut = none.none head at
@@ -190,56 +190,56 @@ no_item_in_cut text coded rest item head framing at good (framed head' framing' 
     (framed_same text head head' framing framing' coded item at at' good good' how) cut
 
 -- bytes in which no item is whole begin with none
-pub open_no_item : (first rest : List ℕ) (item : Item) (called : Bool) → IsItem first item → IsOpen (first ++ rest) called → ⊥
-open_no_item first rest item called is (no_text unfinished quiet) =
-    let begins = begins_by (front_of first) first rest item refl is.is in
-    let front : front_of first ≡ Unfinished = sym begins.0 ∙ unfinished in
-    subst (λ f. BeginsBy f (first ++ rest) (length first) item) front begins.1
-open_no_item first rest item called is (cut_short text coded head framing front behind at good cut calling) =
-    let begins = begins_by (front_of first) first rest item refl is.is in
-    let same : front_of first ≡ Text text = sym begins.0 ∙ front in
+pub open_no_item : (first rest : List ℕ) (item : Item) (expected : Bool) → IsItem first item → IsOpen (first ++ rest) expected → ⊥
+open_no_item first rest item expected is (no_text unfinished quiet) =
+    let begins = begins_by (beginning_of first) first rest item refl is.is in
+    let beginning : beginning_of first ≡ Unfinished = sym begins.0 ∙ unfinished in
+    subst (λ f. BeginsBy f (first ++ rest) (length first) item) beginning begins.1
+open_no_item first rest item expected is (cut_short text coded head framing beginning behind at good cut expecting) =
+    let begins = begins_by (beginning_of first) first rest item refl is.is in
+    let same : beginning_of first ≡ Text text = sym begins.0 ∙ beginning in
     let (used, others, split, size, here) = subst (λ f. BeginsBy f (first ++ rest) (length first) item) same begins.1 in
     let coded_is : coded ≡ used ++ others = append_cancel_left text coded (used ++ others) (sym behind ∙ split) in
     let P : List ℕ → Type 0 = λ bytes. IsCut framing bytes in
     no_item_in_cut text used others item head framing at good here (subst P coded_is cut)
 
 -- a text of a head is not there where more bytes decide
-pub no_text_pending : (rest text : List ℕ) → front_of rest ≡ Unfinished → front_of rest ≡ Text text → ⊥
-no_text_pending rest text unfinished front = let e : Unfinished ≡ Text text = sym unfinished ∙ front in cc
+pub no_text_pending : (rest text : List ℕ) → beginning_of rest ≡ Unfinished → beginning_of rest ≡ Text text → ⊥
+no_text_pending rest text unfinished beginning = let e : Unfinished ≡ Text text = sym unfinished ∙ beginning in cc
 
--- whether a head calls for `100 Continue`, of a text that is another
-pub calls_same : (text other : List ℕ) (head head' : RequestHead) (framing framing' : Framing) → text ≡ other
+-- whether a head expects `100 Continue`, of a text that is another
+pub expects_same : (text other : List ℕ) (head head' : RequestHead) (framing framing' : Framing) → text ≡ other
     → IsHead text head → IsHead other head' → framing_of head ≡ Ok framing → framing_of head' ≡ Ok framing'
-    → calls head framing ≡ calls head' framing'
-calls_same text other head head' framing framing' same at at' good good' =
+    → expects_continue head framing ≡ expects_continue head' framing'
+expects_same text other head head' framing framing' same at at' good good' =
     let P : List ℕ → Type 0 = λ t. IsHead t head' in
     let heads : head ≡ head' = one_head text head head' at (subst P (sym same) at') in
     let framings : framing ≡ framing' = one_framing framing framing' (framing_of head) good (ap framing_of heads ∙ good') in
-    ap (λ (h : RequestHead). calls h framing) heads ∙ ap (λ (f : Framing). calls head' f) framings
+    ap (λ (h : RequestHead). expects_continue h framing) heads ∙ ap (λ (f : Framing). expects_continue head' f) framings
 
-pub one_text : (rest text other : List ℕ) → front_of rest ≡ Text text → front_of rest ≡ Text other → text ≡ other
-one_text rest text other front front' = let e : Text text ≡ Text other = sym front ∙ front' in cc
+pub one_text : (rest text other : List ℕ) → beginning_of rest ≡ Text text → beginning_of rest ≡ Text other → text ≡ other
+one_text rest text other beginning beginning' = let e : Text text ≡ Text other = sym beginning ∙ beginning' in cc
 
--- bytes in which no item is whole call for `100 Continue` or do not
-pub one_called : (rest : List ℕ) (called other : Bool) → IsOpen rest called → IsOpen rest other → called ≡ other
-one_called rest called other (no_text front quiet) (no_text front' quiet') = quiet ∙ sym quiet'
-one_called rest called other (no_text front quiet) (cut_short text coded head framing front' behind at good cut calling) =
-    absurd (no_text_pending rest text front front')
-one_called rest called other (cut_short text coded head framing front behind at good cut calling) (no_text front' quiet) =
-    absurd (no_text_pending rest text front' front)
-one_called rest called other (cut_short text coded head framing front behind at good cut calling) (cut_short text' coded' head' framing' front' behind' at' good' cut' calling') =
-    calling ∙ calls_same text text' head head' framing framing' (one_text rest text text' front front') at at' good good'
-    ∙ sym calling'
+-- bytes in which no item is whole expect `100 Continue` or do not
+pub one_expected : (rest : List ℕ) (expected other : Bool) → IsOpen rest expected → IsOpen rest other → expected ≡ other
+one_expected rest expected other (no_text beginning quiet) (no_text beginning' quiet') = quiet ∙ sym quiet'
+one_expected rest expected other (no_text beginning quiet) (cut_short text coded head framing beginning' behind at good cut expecting) =
+    absurd (no_text_pending rest text beginning beginning')
+one_expected rest expected other (cut_short text coded head framing beginning behind at good cut expecting) (no_text beginning' quiet) =
+    absurd (no_text_pending rest text beginning' beginning)
+one_expected rest expected other (cut_short text coded head framing beginning behind at good cut expecting) (cut_short text' coded' head' framing' beginning' behind' at' good' cut' expecting') =
+    expecting ∙ expects_same text text' head head' framing framing' (one_text rest text text' beginning beginning') at at' good good'
+    ∙ sym expecting'
 
-pub called_there : (rest : List ℕ) (called : Bool) → IsOpen rest called → IsCalled rest → called ≡ true
-called_there rest called (no_text front quiet) is = absurd (no_text_pending rest is.text front is.front)
-called_there rest called (cut_short text coded head framing front behind at good cut calling) is =
-    calling ∙ calls_same text is.text head is.head framing is.framing (one_text rest text is.text front is.front) at is.is good is.framed
-    ∙ is.called
+pub expected_there : (rest : List ℕ) (expected : Bool) → IsOpen rest expected → ExpectsContinue rest → expected ≡ true
+expected_there rest expected (no_text beginning quiet) is = absurd (no_text_pending rest is.text beginning is.beginning)
+expected_there rest expected (cut_short text coded head framing beginning behind at good cut expecting) is =
+    expecting ∙ expects_same text is.text head is.head framing is.framing (one_text rest text is.text beginning is.beginning) at is.is good is.framed
+    ∙ is.expected
 
-pub one_call : (rest : List ℕ) (called other : Bool) → IsOpen rest called
-    → (IsOpen rest other → called ≡ other) × (IsCalled rest → called ≡ true)
-one_call rest called other is = (one_called rest called other is, called_there rest called is)
+pub one_expectation : (rest : List ℕ) (expected other : Bool) → IsOpen rest expected
+    → (IsOpen rest other → expected ≡ other) × (ExpectsContinue rest → expected ≡ true)
+one_expectation rest expected other is = (one_expected rest expected other is, expected_there rest expected is)
 
 -- the pieces behind the first
 pub going_tail : (piece : Piece) (pieces : List Piece) → OnlyLastCloses (piece ∷ pieces) → OnlyLastCloses pieces

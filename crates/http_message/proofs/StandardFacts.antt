@@ -4,25 +4,25 @@ use Rattle.std.specs.Prelude.{Ok, Err}
 use Rattle.httparse.specs.Grammar.{trim_ows}
 use Rattle.http_message.specs.Fields.{Pair, values, has_option}
 use Rattle.http_message.specs.Framing.{framing_in, is_length}
-use Rattle.http_message.specs.Message.{Message, asks_to_close, calls_for_continue, expects}
-use Rattle.http_message.specs.Text.{front_of, lead_length, window, Text, BareReturn, Unfinished, is_blank}
+use Rattle.http_message.specs.Message.{Message, asks_to_close, is_continue_expected, expects}
+use Rattle.http_message.specs.Text.{beginning_of, empty_lines_before_head, window, Text, BareCr, Unfinished, is_blank}
 use Rattle.http_message.specs.declared.framing.Framing.TheVariants.{Sized, Chunked}
 use Rattle.http_message.specs.Limits.{body_limit}
 use Rattle.http_message.specs.declared.refusal.FramingRefusal.TheVariants.{HeadTooLarge, BadLength, BadCoding, BodyTooLarge}
 
 -- RFC 9112, section 2.2: empty lines before the request line are passed over, and LF may end a line
-pub lines : (front_of (codes "\r\n\nGET / HTTP/1.1\n\r\nx") ≡ Text (codes "GET / HTTP/1.1\n\r\n"))
-    × (front_of (codes "a\n\nb") ≡ Text (codes "a\n\n"))
-    × (front_of (codes "a\r\n\r\nb") ≡ Text (codes "a\r\n\r\n"))
-    × (lead_length (codes "\n\r\n\nx") ≡ 4)
-unfolding front_of lead_length window
+pub lines : (beginning_of (codes "\r\n\nGET / HTTP/1.1\n\r\nx") ≡ Text (codes "GET / HTTP/1.1\n\r\n"))
+    × (beginning_of (codes "a\n\nb") ≡ Text (codes "a\n\n"))
+    × (beginning_of (codes "a\r\n\r\nb") ≡ Text (codes "a\r\n\r\n"))
+    × (empty_lines_before_head (codes "\n\r\n\nx") ≡ 4)
+unfolding beginning_of empty_lines_before_head window
 lines = (refl, refl, refl, refl)
 
 -- RFC 9112, section 2.2: a bare CR is no line end
-pub returns : (front_of (codes "\n\rx") ≡ BareReturn) × (front_of (codes "\n\r") ≡ Unfinished)
-    × (front_of (codes "x\r") ≡ Unfinished) × (front_of [] ≡ Unfinished)
+pub returns : (beginning_of (codes "\n\rx") ≡ BareCr) × (beginning_of (codes "\n\r") ≡ Unfinished)
+    × (beginning_of (codes "x\r") ≡ Unfinished) × (beginning_of [] ≡ Unfinished)
     × (is_blank (codes "\n\r") ≡ true) × (is_blank (codes "x") ≡ false)
-unfolding front_of lead_length window
+unfolding beginning_of empty_lines_before_head window
 returns = (refl, refl, refl, refl, refl, refl)
 
 -- RFC 9110, section 8.6: a length is digits, leading zeros included
@@ -42,7 +42,7 @@ pub lengths : (framing_in 1 [] ≡ Ok (Sized 0))
 unfolding values is_length
 lengths = (refl, refl, refl, refl, refl, refl, refl, refl, refl, refl, refl, refl, refl)
 
--- RFC 9112, sections 6.1 and 7: the names of codings have no case, and a coding stands in HTTP/1.1 alone
+-- RFC 9112, sections 6.1 and 7: the names of codings have no case, and a coding is allowed in HTTP/1.1 alone
 -- and without a length
 pub codings : (framing_in 1 ((codes "Transfer-Encoding", codes "chunked") ∷ []) ≡ Ok Chunked)
     × (framing_in 1 ((codes "transfer-encoding", codes "Chunked") ∷ []) ≡ Ok Chunked)
@@ -92,8 +92,8 @@ pub expectations : (expects ((codes "Expect", codes "100-continue") ∷ []) ≡ 
     × (expects ((codes "Expect", codes "100-continue, x") ∷ []) ≡ false)
     × (expects ((codes "Expect", codes "") ∷ []) ≡ false)
     × (expects [] ≡ false)
-    × (calls_for_continue 1 ((codes "Expect", codes "100-continue") ∷ []) true ≡ true)
-    × (calls_for_continue 1 ((codes "Expect", codes "100-continue") ∷ []) false ≡ false)
-    × (calls_for_continue 0 ((codes "Expect", codes "100-continue") ∷ []) true ≡ false)
+    × (is_continue_expected 1 ((codes "Expect", codes "100-continue") ∷ []) true ≡ true)
+    × (is_continue_expected 1 ((codes "Expect", codes "100-continue") ∷ []) false ≡ false)
+    × (is_continue_expected 0 ((codes "Expect", codes "100-continue") ∷ []) true ≡ false)
 unfolding values
 expectations = (refl, refl, refl, refl, refl, refl, refl, refl, refl)

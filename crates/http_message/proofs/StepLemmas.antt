@@ -2,7 +2,7 @@
 use Rattle.std.proofs.Common.{◌≡◌, ℕ, List, [], ◌++◌, length, take, refl, sym, ◌∙◌, ap, subst, inl, arith}
 use Rattle.std.specs.Prelude.{Ok}
 use Rattle.std.proofs.lemmas.List.{append_assoc, append-nil, length-append}
-use Rattle.q_outside.specs.Told.{End}
+use Rattle.q_outside.specs.Ends.{End}
 use Rattle.q_outside.proofs.Chain.{took_nothing}
 use Rattle.http_message.specs.Coded.{IsCutShort, ComesOut, IsProgress, IsChunk}
 use Rattle.http_message.specs.Coding.{Decodes, Outcome, Decoded, Broken, Unfinished, behind}

@@ -3,30 +3,30 @@ use Rattle.std.proofs.Common.{◌≡◌, ◌⊎◌, ℕ, ◌+◌, ◌<◌, ◌�
 use Rattle.std.proofs.lemmas.List.{length-append, take_at}
 use Rattle.httparse.specs.Grammar.{RequestHead}
 use Rattle.httparse.specs.declared.spans.HeaderSpan.{HeaderSpan}
-use Rattle.q_outside.specs.Told.{End, TookBytes, GaveBytes, GavePart}
+use Rattle.q_outside.specs.Ends.{End, TookBytes, GaveBytes, GavePart}
 use Rattle.q_outside.proofs.Chain.{took_both, gave_nothing}
 use Rattle.http_message.specs.Bodied.{IsBodied, IsBody}
 use Rattle.http_message.specs.Coded.{IsCoded}
 use Rattle.http_message.specs.Coding.{Decoded, Broken}
-use Rattle.http_message.specs.Framing.{calls}
-use Rattle.http_message.specs.Headed.{BeginsFramed, BeginsBad, IsHalted}
-use Rattle.http_message.specs.Input.{IsStopped, IsIdle}
-use Rattle.http_message.specs.Item.{Item, request, unframed, continues, is_head, IsFramed, sized, chunked, broken, framed, IsCut, IsOpen, no_text, cut_short}
+use Rattle.http_message.specs.Framing.{expects_continue}
+use Rattle.http_message.specs.Headed.{BeginsFramed, BeginsBad, HasNoHead}
+use Rattle.http_message.specs.Input.{NoMoreBytes, IsIdle}
+use Rattle.http_message.specs.Item.{Item, request, unframed, continues, is_head_request, IsFramed, sized, chunked, broken, framed, IsCut, IsOpen, no_text, cut_short}
 use Rattle.http_message.specs.Message.{Message, message_of, message_in}
 use Rattle.http_message.specs.Next.{Waits}
-use Rattle.http_message.specs.Room.{held_of}
-use Rattle.http_message.specs.Stopped.{taken_by}
-use Rattle.http_message.specs.Taken.{Held, IsTaken, TakesItem, Halts, Breaks, WaitsForNone, continue_where, continue_text}
-use Rattle.http_message.specs.Text.{Unfinished, front_of, lead_length, is_blank}
+use Rattle.http_message.specs.Room.{state_of}
+use Rattle.http_message.specs.Incomplete.{taken_by}
+use Rattle.http_message.specs.Taken.{RequestState, IsTaken, TakesItem, IsIncomplete, ContinueFails, WaitsForNone, continue_where, continue_text}
+use Rattle.http_message.specs.Text.{Unfinished, beginning_of, empty_lines_before_head, is_blank}
 use Rattle.http_message.specs.declared.coding.Coded.{Coded}
 use Rattle.http_message.specs.declared.coding.Coded.TheVariants as coded
 use Rattle.http_message.specs.declared.framing.Framing.TheVariants.{Sized, Chunked}
 use Rattle.http_message.specs.declared.headed.Framed.{Framed as FramedHead}
 use Rattle.http_message.specs.declared.refusal.FramingRefusal.{FramingRefusal}
-use Rattle.http_message.specs.declared.stopped.Stopped.{Stopped}
-use Rattle.http_message.specs.declared.stopped.Stopped.TheVariants.{InputEnd, Truncated, ReadFault, WriteFault}
+use Rattle.http_message.specs.declared.incomplete.Incomplete.{Incomplete}
+use Rattle.http_message.specs.declared.incomplete.Incomplete.TheVariants.{InputEnd, Truncated, ReadFault, WriteFault}
 use Rattle.http_message.specs.declared.taken.Taken.{Taken}
-use Rattle.http_message.proofs.BlankLemmas.{text_not_blank}
+use Rattle.http_message.proofs.EmptyLineLemmas.{text_not_blank}
 use Rattle.http_message.proofs.CodingLemmas.{coding_within}
 use Rattle.http_message.proofs.HeadLemmas.{message_at}
 use Rattle.http_message.proofs.ItemLemmas.{item_behind, framed_continues}
@@ -73,34 +73,34 @@ body_coded body long (coded.Broken refused used) bytes is = record {
 module _ (input got input' text : List ℕ) (spans : List HeaderSpan) (head : FramedHead)
     (first : BeginsFramed (input ++ got) input' text spans head) where
   -- bytes whose body is cut short are open
-  pub open_framed : (bytes coded : List ℕ) → bytes ≡ first.first ++ coded → IsCut head.framing coded → IsOpen bytes head.calls
+  pub open_framed : (bytes coded : List ℕ) → bytes ≡ first.first ++ coded → IsCut head.framing coded → IsOpen bytes head.expects_continue
   open_framed bytes coded splits cut =
-      cut_short (take head.text text) coded first.head head.framing (ap front_of splits ∙ first.front coded)
-      (ap (λ xs. drop (lead_length xs) xs) splits ∙ first.behind coded) first.at.is first.framing_is cut first.calls_is
+      cut_short (take head.text text) coded first.head head.framing (ap beginning_of splits ∙ first.beginning coded)
+      (ap (λ xs. drop (empty_lines_before_head xs) xs) splits ∙ first.behind coded) first.at.is first.framing_is cut first.expects_is
 
   -- nothing was taken, or no item is whole in the bytes that were held
-  pub waits_body : (source middle last : End) (more : List ℕ) → IsIdle source middle got ⊎ (front_of input ≡ Unfinished)
+  pub waits_body : (source middle last : End) (more : List ℕ) → IsIdle source middle got ⊎ (beginning_of input ≡ Unfinished)
       → IsIdle middle last more ⊎ IsCut head.framing input' → Waits source last input
-  waits_body source middle last more (inr front) second = inr (false, no_text front refl)
+  waits_body source middle last more (inr beginning) second = inr (false, no_text beginning refl)
   waits_body source middle last more (inl idle) (inl still) = inl (still.same ∙ idle.same)
   waits_body source middle last more (inl idle) (inr cut) =
       let splits : input ≡ first.first ++ input' =
       sym (append-nil input) ∙ ap (λ xs. input ++ xs) (sym idle.none) ∙ first.splits in
-      inr (head.calls, open_framed input input' splits cut)
+      inr (head.expects_continue, open_framed input input' splits cut)
 
 -- The head: what was taken until it was there, or until no more came.
-module _ (source middle : End) (input got : List ℕ) (place : ℕ) (message : Message) (took : TookBytes source middle got) where
+module _ (source middle : End) (input got : List ℕ) (offset : ℕ) (message : Message) (took : TookBytes source middle got) where
   -- an item without a body was taken
   pub takes_bad : (sink : End) (rest : List ℕ) (refused : FramingRefusal) (used behind : ℕ) (message' : Message)
-      → BeginsBad (input ++ got) rest refused used → behind ≡ place + used
-      → TakesItem source middle sink sink (held_of input place message) (held_of rest behind message') (unframed refused false false)
-  takes_bad sink rest refused used behind message' bad place_is = record {
+      → BeginsBad (input ++ got) rest refused used → behind ≡ offset + used
+      → TakesItem source middle sink sink (state_of input offset message) (state_of rest behind message') (unframed refused false false)
+  takes_bad sink rest refused used behind message' bad offset_is = record {
     used = bad.first;
     uses = record {
       got = got;
       took = took;
       bytes = bad.splits;
-      place = omega (arith, bad.size_is, place_is);
+      offset = omega (arith, bad.size_is, offset_is);
       limit = omega (arith, bad.size_is, bad.limit);
     };
     is = bad.is;
@@ -109,42 +109,42 @@ module _ (source middle : End) (input got : List ℕ) (place : ℕ) (message : M
   }
 
   -- no head is complete
-  halts_early : (sink : End) (blank : Bool) → front_of (input ++ got) ≡ Unfinished → is_blank (input ++ got) ≡ blank
-      → Halts source middle sink sink (held_of input place message) blank
-  halts_early sink blank front is = record {
+  incomplete_early : (sink : End) (blank : Bool) → beginning_of (input ++ got) ≡ Unfinished → is_blank (input ++ got) ≡ blank
+      → IsIncomplete source middle sink sink (state_of input offset message) blank
+  incomplete_early sink blank beginning is = record {
     got = got;
     took = took;
-    called = false;
-    is_open = no_text front refl;
+    expected = false;
+    is_open = no_text beginning refl;
     gave = gave_nothing sink;
     blank_is = is;
   }
 
-  pub stops_early : (sink : End) (room' : Held) (stopped : Stopped)
-      → (front_of (input ++ got) ≡ Unfinished) × IsHalted source middle (input ++ got) stopped
-      → IsTaken source middle sink sink (held_of input place message) room' (taken_by stopped)
-  stops_early sink room' InputEnd why = (why.1.0, halts_early sink true why.0 why.1.1)
-  stops_early sink room' Truncated why = (why.1.0, halts_early sink false why.0 why.1.1)
-  stops_early sink room' ReadFault why = (why.1, (is_blank (input ++ got), halts_early sink (is_blank (input ++ got)) why.0 refl))
-  stops_early sink room' WriteFault why = absurd why.1
+  pub stops_early : (sink : End) (buffer' : RequestState) (incomplete : Incomplete)
+      → (beginning_of (input ++ got) ≡ Unfinished) × HasNoHead source middle (input ++ got) incomplete
+      → IsTaken source middle sink sink (state_of input offset message) buffer' (taken_by incomplete)
+  stops_early sink buffer' InputEnd why = (why.1.0, incomplete_early sink true why.0 why.1.1)
+  stops_early sink buffer' Truncated why = (why.1.0, incomplete_early sink false why.0 why.1.1)
+  stops_early sink buffer' ReadFault why = (why.1, (is_blank (input ++ got), incomplete_early sink (is_blank (input ++ got)) why.0 refl))
+  stops_early sink buffer' WriteFault why = absurd why.1
 
   -- A head that frames a body was taken.
   module _ (sink sink' : End) (input' text : List ℕ) (spans : List HeaderSpan) (head : FramedHead)
       (first : BeginsFramed (input ++ got) input' text spans head) where
     -- the sink failed inside `100 Continue`
-    pub breaks_off : head.calls ≡ true → GavePart sink sink' continue_text
-        → Breaks source middle sink sink' (held_of input place message)
-    breaks_off called gave = record {
+    pub continue_fails : head.expects_continue ≡ true → GavePart sink sink' continue_text
+        → ContinueFails source middle sink sink' (state_of input offset message)
+    continue_fails expected gave = record {
       got = got;
       took = took;
-      called = record {
+      expected = record {
         text = take head.text text;
         head = first.head;
         framing = head.framing;
-        front = ap front_of first.splits ∙ first.front input';
+        beginning = ap beginning_of first.splits ∙ first.beginning input';
         is = first.at.is;
         framed = first.framing_is;
-        called = sym first.calls_is ∙ called;
+        expected = sym first.expects_is ∙ expected;
       };
       gave = gave;
     }
@@ -156,15 +156,15 @@ module _ (source middle : End) (input got : List ℕ) (place : ℕ) (message : M
 
     -- The body: what was taken until it was there, or until no more came.
     module _ (last : End) (more : List ℕ) (took_more : TookBytes middle last more)
-        (gave : GaveBytes sink sink' (continue_where head.calls)) where
+        (gave : GaveBytes sink sink' (continue_where head.expects_continue)) where
       -- an item with its body was taken
       takes_framed : (rest bytes : List ℕ) (used behind : ℕ) (item : RequestHead → Item) (message' : Message)
-          → input' ++ more ≡ bytes ++ rest → IsBodied head.framing item used bytes → behind ≡ place + head.used + used
-          → TakesItem source last sink sink' (held_of input place message) (held_of rest behind message') (item first.head)
-      takes_framed rest bytes used behind item message' splits body place_is =
+          → input' ++ more ≡ bytes ++ rest → IsBodied head.framing item used bytes → behind ≡ offset + head.used + used
+          → TakesItem source last sink sink' (state_of input offset message) (state_of rest behind message') (item first.head)
+      takes_framed rest bytes used behind item message' splits body offset_is =
           let framing = body.framed first.head in
-          let called : continues (item first.head) ≡ head.calls =
-          framed_continues first.head head.framing bytes (item first.head) first.framing_is framing ∙ sym first.calls_is in
+          let expected : continues (item first.head) ≡ head.expects_continue =
+          framed_continues first.head head.framing bytes (item first.head) first.framing_is framing ∙ sym first.expects_is in
           let long : length (first.first ++ bytes) ≡ head.used + used =
           omega (arith, length-append first.first bytes, first.size_is, body.size_is) in
           record {
@@ -173,68 +173,68 @@ module _ (source middle : End) (input got : List ℕ) (place : ℕ) (message : M
               got = got ++ more;
               took = took_both source middle last got more took took_more;
               bytes = splits_more more ∙ ap (λ xs. first.first ++ xs) splits ∙ sym (append_assoc first.first bytes rest);
-              place = omega (arith, long, place_is);
+              offset = omega (arith, long, offset_is);
               limit = omega (arith, long, first.limit, body.limit);
             };
             is = item_behind first.first (take head.text text) bytes (item first.head)
-                (record { front = first.front; behind = first.behind })
+                (record { beginning = first.beginning; behind = first.behind })
                 (framed first.head head.framing first.at.is first.framing_is framing);
             some = omega (arith, long, first.some);
-            gave = let P : Bool → Type 0 = λ b. GaveBytes sink sink' (continue_where b) in subst P (sym called) gave;
+            gave = let P : Bool → Type 0 = λ b. GaveBytes sink sink' (continue_where b) in subst P (sym expected) gave;
           }
 
-      -- the request that is kept is the one that was taken
+      -- the last request is the one that was taken
       pub takes_request : (rest body bytes : List ℕ) (size used behind : ℕ)
           → input' ++ more ≡ bytes ++ rest → IsBody head.framing body (coded.Whole size used) bytes
-          → behind ≡ place + head.used + used
-          → TakesItem source last sink sink' (held_of input place message)
-          (held_of rest behind (message_in (take head.text text) spans head.parts (take size body)))
+          → behind ≡ offset + head.used + used
+          → TakesItem source last sink sink' (state_of input offset message)
+          (state_of rest behind (message_in (take head.text text) spans head.parts (take size body)))
           (request (message_in (take head.text text) spans head.parts (take size body)))
-      takes_request rest body bytes size used behind splits is place_is =
-          let kept = message_in (take head.text text) spans head.parts (take size body) in
-          let same : message_of first.head (take size body) ≡ kept =
+      takes_request rest body bytes size used behind splits is offset_is =
+          let last_request = message_in (take head.text text) spans head.parts (take size body) in
+          let same : message_of first.head (take size body) ≡ last_request =
           sym (message_at (take head.text text) spans head.parts first.head (take size body) first.at) in
           let P : Message → Type 0 = λ m.
-          TakesItem source last sink sink' (held_of input place message) (held_of rest behind kept) (request m) in
+          TakesItem source last sink sink' (state_of input offset message) (state_of rest behind last_request) (request m) in
           subst P same
-          (takes_framed rest bytes used behind (λ h. request (message_of h (take size body))) kept splits is.1 place_is)
+          (takes_framed rest bytes used behind (λ h. request (message_of h (take size body))) last_request splits is.1 offset_is)
 
       -- a request was taken whose coding is refused
       pub takes_broken : (rest body bytes : List ℕ) (refused : FramingRefusal) (used behind : ℕ) (message' : Message)
           → input' ++ more ≡ bytes ++ rest → IsBody head.framing body (coded.Broken refused used) bytes
-          → behind ≡ place + head.used + used
-          → TakesItem source last sink sink' (held_of input place message) (held_of rest behind message')
-          (unframed refused head.calls head.head)
-      takes_broken rest body bytes refused used behind message' splits is place_is =
-          rw (first.calls_is, first.head_is)
-          (takes_framed rest bytes used behind (λ h. unframed refused (calls h head.framing) (is_head h)) message' splits is place_is)
+          → behind ≡ offset + head.used + used
+          → TakesItem source last sink sink' (state_of input offset message) (state_of rest behind message')
+          (unframed refused head.expects_continue head.is_head_request)
+      takes_broken rest body bytes refused used behind message' splits is offset_is =
+          rw (first.expects_is, first.head_is)
+          (takes_framed rest bytes used behind (λ h. unframed refused (expects_continue h head.framing) (is_head_request h)) message' splits is offset_is)
 
       -- a body is cut short
-      halts_late : IsCut head.framing (input' ++ more) → Halts source last sink sink' (held_of input place message) false
-      halts_late cut =
+      incomplete_late : IsCut head.framing (input' ++ more) → IsIncomplete source last sink sink' (state_of input offset message) false
+      incomplete_late cut =
           let all = input ++ (got ++ more) in
-          let front = ap front_of (splits_more more) ∙ first.front (input' ++ more) in
+          let beginning = ap beginning_of (splits_more more) ∙ first.beginning (input' ++ more) in
           record {
             got = got ++ more;
             took = took_both source middle last got more took took_more;
-            called = head.calls;
+            expected = head.expects_continue;
             is_open = open_framed input got input' text spans head first all (input' ++ more) (splits_more more) cut;
             gave = gave;
-            blank_is = text_not_blank all (take head.text text) front;
+            blank_is = text_not_blank all (take head.text text) beginning;
           }
 
-      pub stops_late : (room' : Held) (stopped : Stopped) → IsCut head.framing (input' ++ more) × IsStopped middle last stopped
-          → IsTaken source last sink sink' (held_of input place message) room' (taken_by stopped)
-      stops_late room' InputEnd why = absurd why.1
-      stops_late room' Truncated why = (why.1, halts_late why.0)
-      stops_late room' ReadFault why = (omega (arith, took.count, why.1), (false, halts_late why.0))
-      stops_late room' WriteFault why = absurd why.1
+      pub stops_late : (buffer' : RequestState) (incomplete : Incomplete) → IsCut head.framing (input' ++ more) × NoMoreBytes middle last incomplete
+          → IsTaken source last sink sink' (state_of input offset message) buffer' (taken_by incomplete)
+      stops_late buffer' InputEnd why = absurd why.1
+      stops_late buffer' Truncated why = (why.1, incomplete_late why.0)
+      stops_late buffer' ReadFault why = (omega (arith, took.count, why.1), (false, incomplete_late why.0))
+      stops_late buffer' WriteFault why = absurd why.1
 
 -- no head was there yet, or nothing was taken
-pub waits_head : (source last : End) (input got : List ℕ) → IsIdle source last got ⊎ (front_of input ≡ Unfinished)
+pub waits_head : (source last : End) (input got : List ℕ) → IsIdle source last got ⊎ (beginning_of input ≡ Unfinished)
     → Waits source last input
 waits_head source last input got (inl idle) = inl idle.same
-waits_head source last input got (inr front) = inr (false, no_text front refl)
+waits_head source last input got (inr beginning) = inr (false, no_text beginning refl)
 
 -- where the bytes that are held begin with a whole item, nothing is taken
 pub waits_for_none : (source last : End) (seen held : List ℕ) → seen ≡ held → Waits source last seen → WaitsForNone source last held
@@ -243,16 +243,16 @@ waits_for_none source last seen held same (inr waits) piece rest item is splits 
     let P : List ℕ → Type 0 = λ bytes. IsOpen bytes waits.0 in
     absurd (open_no_item piece rest item waits.0 is (subst P (same ∙ splits) waits.1))
 
--- a room that is seen as another
-pub taken_seen : (source source' sink sink' : End) (seen room room' : Held) (answer : Taken)
-    → seen ≡ room → IsTaken source source' sink sink' seen room' answer → IsTaken source source' sink sink' room room' answer
-taken_seen source source' sink sink' seen room room' answer same is =
-    let P : Held → Type 0 = λ r. IsTaken source source' sink sink' r room' answer in subst P same is
+-- the same for buffers with an equal view
+pub taken_seen : (source source' sink sink' : End) (seen buffer buffer' : RequestState) (answer : Taken)
+    → seen ≡ buffer → IsTaken source source' sink sink' seen buffer' answer → IsTaken source source' sink sink' buffer buffer' answer
+taken_seen source source' sink sink' seen buffer buffer' answer same is =
+    let P : RequestState → Type 0 = λ r. IsTaken source source' sink sink' r buffer' answer in subst P same is
 
--- where no item is taken, nothing is said of the room after the call
-pub taken_stopped : (source source' sink sink' : End) (room room' other : Held) (stopped : Stopped)
-    → IsTaken source source' sink sink' room room' (taken_by stopped) → IsTaken source source' sink sink' room other (taken_by stopped)
-taken_stopped source source' sink sink' room room' other InputEnd is = is
-taken_stopped source source' sink sink' room room' other Truncated is = is
-taken_stopped source source' sink sink' room room' other ReadFault is = is
-taken_stopped source source' sink sink' room room' other WriteFault is = is
+-- where no item is taken, nothing is claimed of the buffers after the call
+pub taken_incomplete : (source source' sink sink' : End) (buffer buffer' other : RequestState) (incomplete : Incomplete)
+    → IsTaken source source' sink sink' buffer buffer' (taken_by incomplete) → IsTaken source source' sink sink' buffer other (taken_by incomplete)
+taken_incomplete source source' sink sink' buffer buffer' other InputEnd is = is
+taken_incomplete source source' sink sink' buffer buffer' other Truncated is = is
+taken_incomplete source source' sink sink' buffer buffer' other ReadFault is = is
+taken_incomplete source source' sink sink' buffer buffer' other WriteFault is = is

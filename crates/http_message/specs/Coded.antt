@@ -1,4 +1,4 @@
--- What taking a chunked body answers, and what each step of it does.
+-- Internal. What taking a chunked body answers, and what each step of it does.
 use Rattle.std.specs.Prelude.{◌≡◌, ℕ, Bool, ◌+◌, ◌<◌, ◌≤◌, List, [], ◌++◌, length, take}
 use Rattle.std.specs.Str.{bytes_eq}
 use Rattle.httparse.specs.Ascii.{crlf_bytes}
@@ -15,12 +15,12 @@ pub record IsProgress (at : Progress) : Type 0 where
   pub coded : at.coded ≤ coding_limit
   pub got : at.got ≤ body_limit
 
--- the bytes are cut short, behind so many of a coding and so many of its body
+-- the bytes are cut short, after `coded` bytes of a coding and `got` bytes of its body
 abbrev pub IsCutShort : (coded got : ℕ) → List ℕ → Type 0
 IsCutShort coded got bytes = Decodes coded got bytes Unfinished
 
--- The bytes come out so, behind so many of a coding and so many of its body, and the coding has so many
--- with them.
+-- After `coded` bytes of a coding and `got` bytes of its body, the bytes have this outcome. With them
+-- the coding has `total` bytes.
 pub record ComesOut (coded got total : ℕ) (outcome : Outcome) (bytes : List ℕ) : Type 0 where
   pub decodes : Decodes coded got bytes outcome
   pub total_is : total ≡ coded + length bytes
@@ -31,7 +31,7 @@ IsCoded body (coded.Whole size total) bytes =
     (size ≤ body_limit) × ComesOut 0 0 total (Decoded (take size body)) bytes
 IsCoded body (coded.Broken refused total) bytes = ComesOut 0 0 total (Broken refused) bytes
 
--- The bytes are a chunk, and its content stands in the body behind that of those before.
+-- The bytes are a chunk, and its content is in the body after that of the chunks before.
 pub record IsChunk (at next : Progress) (body body' bytes : List ℕ) : Type 0 where
   pub content : List ℕ
   pub decodes : (rest : List ℕ) (outcome : Outcome) → Decodes next.coded next.got rest outcome
@@ -48,13 +48,13 @@ IsPart at body body' (part.End total) bytes =
     ComesOut at.coded at.got total (Decoded []) bytes × (body' ≡ body)
 IsPart at body body' (part.Broken refused total) bytes = ComesOut at.coded at.got total (Broken refused) bytes
 
--- the text is the line at the front, whatever follows, behind so many bytes of a coding
+-- the text is the next line after `coded` bytes of a coding, whatever follows it
 pub record IsLineHere (coded : ℕ) (text : List ℕ) : Type 0 where
   pub all : (more : List ℕ) → line_at coded (text ++ more) ≡ Whole text
   pub some : 0 < length text
   pub limit : coded + length text ≤ coding_limit
 
--- The bytes are two, and CR LF where the answer says so.
+-- There are two bytes, and they are CR LF where the answer says so.
 pub record IsLineEnd (whole : Bool) (bytes : List ℕ) : Type 0 where
   pub two : length bytes ≡ 2
   pub whole_is : whole ≡ bytes_eq bytes crlf_bytes
@@ -65,13 +65,13 @@ pub record IsContent (content : List ℕ) (whole : Bool) (bytes : List ℕ) : Ty
   pub bytes_are : bytes ≡ content ++ end
   pub is : IsLineEnd whole end
 
--- behind the last line, which ends behind so many bytes of the coding, the bytes come out so
+-- after the last line, which ends at byte `coded` of the coding, the bytes have this outcome
 abbrev pub EndsCoding : ℕ → List ℕ → Outcome → Type 0
 EndsCoding coded bytes outcome =
     (start got : ℕ) (line : List ℕ) → IsLineHere start line → IsSizeLine line 0 → coded ≡ start + length line
     → Decodes start got (line ++ bytes) outcome
 
--- The bytes behind the last line come out so, and the coding has so many with them.
+-- The bytes after the last line have this outcome, and the coding has `total` bytes with them.
 pub record ConcludesSo (coded total : ℕ) (outcome : Outcome) (bytes : List ℕ) : Type 0 where
   pub total_is : total ≡ coded + length bytes
   pub ends : EndsCoding coded bytes outcome

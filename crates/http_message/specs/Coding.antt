@@ -1,8 +1,8 @@
--- The chunked coding of a body (RFC 9112, section 7.1), in a stream of bytes.
+-- Believed. The chunked coding of a body (RFC 9112, section 7.1), in a stream of bytes.
 use Rattle.std.specs.Prelude.{◌≡◌, ◌≢◌, ℕ, ◌+◌, ◌-◌, ◌<◌, ◌≤◌, min, Bool, true, false, nat_le, nat_lt, if◌then◌else◌, ◌==◌, ◌&&◌, List, [], ◌∷◌, ◌++◌, length, take, Option, Some, None, option_map, suc}
 use Rattle.httparse.specs.Ascii.{line_feed, crlf_bytes}
 use Rattle.httparse.specs.Grammar.{ChunkLine, ReadsChunkLine, chunk_size, Field, LineEnd, ReadsSection}
-use Rattle.http_message.specs.Limits.{line_limit, coding_limit, trailer_room, body_limit}
+use Rattle.http_message.specs.Limits.{line_limit, coding_limit, trailer_capacity, body_limit}
 use Rattle.http_message.specs.Text.{empty_line, head_length}
 use Rattle.http_message.specs.declared.refusal.FramingRefusal.{FramingRefusal}
 use Rattle.http_message.specs.declared.refusal.FramingRefusal.TheVariants.{BadLength, BodyTooLarge}
@@ -12,40 +12,40 @@ abbrev pub line_length : List ℕ → Option ℕ
 line_length [] = None
 line_length (byte ∷ bytes) = if byte == line_feed then Some 1 else option_map suc (line_length bytes)
 
--- the length of the trailers: of an empty line at the front, or up to and with the first empty line
+-- the length of the trailers: that of an empty line at the start, else up to and with the first empty line
 abbrev pub trailers_length : List ℕ → Option ℕ
 trailers_length bytes = if nat_lt 0 (empty_line bytes) then Some (empty_line bytes) else head_length bytes
 
--- What stands at the front of a stream in which a text is looked for.
+-- What a stream begins with, in which a text is looked for.
 pub data Cut : Type 0 where
   -- the text, whole
   Whole : (text : List ℕ) → Cut
-  -- the text does not end in the room for it
+  -- the text does not end within its limit
   Overlong : Cut
   -- more bytes decide
   Short : Cut
 
--- behind so many bytes of a coding there is room for so many bytes of a line or of trailers
-abbrev pub room_behind : ℕ → ℕ
-room_behind coded = min line_limit (coding_limit - coded)
+-- the longest line, or the longest trailers, after this number of bytes of a coding
+abbrev pub capacity_behind : ℕ → ℕ
+capacity_behind coded = min line_limit (coding_limit - coded)
 
--- of the length of the text that is found in the room, and whether the room is full
+-- by the length of the text that was found within the limit, and whether the bytes reach the limit
 abbrev pub cut_by : Option ℕ → Bool → List ℕ → Cut
 cut_by (Some size) full bytes = Whole (take size bytes)
 cut_by None true bytes = Overlong
 cut_by None false bytes = Short
 
--- the line at the front, behind so many bytes of the coding
+-- the line that the bytes begin with, after this number of bytes of the coding
 unfoldable pub line_at : ℕ → List ℕ → Cut
 line_at coded bytes =
-    cut_by (line_length (take (room_behind coded) bytes)) (nat_le (room_behind coded) (length bytes)) bytes
+    cut_by (line_length (take (capacity_behind coded) bytes)) (nat_le (capacity_behind coded) (length bytes)) bytes
 
--- the trailers at the front, behind so many bytes of the coding
+-- the trailers that the bytes begin with, after this number of bytes of the coding
 unfoldable pub trailers_at : ℕ → List ℕ → Cut
 trailers_at coded bytes =
-    cut_by (trailers_length (take (room_behind coded) bytes)) (nat_le (room_behind coded) (length bytes)) bytes
+    cut_by (trailers_length (take (capacity_behind coded) bytes)) (nat_le (capacity_behind coded) (length bytes)) bytes
 
--- Why a text that does not end in its room is refused: it is too long by itself, or the coding is.
+-- Why a text that does not end within its limit is refused: it is too long itself, or the coding is.
 abbrev pub overlong_at : ℕ → FramingRefusal
 overlong_at coded = if nat_le line_limit (coding_limit - coded) then BadLength else BodyTooLarge
 
@@ -59,18 +59,18 @@ pub record IsSizeLine (text : List ℕ) (size : ℕ) : Type 0 where
 pub record IsNoLine (text : List ℕ) : Type 0 where
   pub none : (line : ChunkLine) → ¬ (ReadsChunkLine text line [])
 
--- the whole text is trailers: fields, for which there is room, and an empty line
+-- the whole text is trailers: fields, not more than fit into the buffer, and an empty line
 pub record AreTrailers (text : List ℕ) : Type 0 where
   pub fields : List Field
   pub end : LineEnd
   pub reads : ReadsSection text fields end []
-  pub room : length fields ≤ trailer_room
+  pub few : length fields ≤ trailer_capacity
 
 -- the whole text is none
 pub record AreNoTrailers (text : List ℕ) : Type 0 where
   pub none : AreTrailers text → ⊥
 
--- A chunk of this size fits behind so many bytes of the coding, so many of the body, and its line.
+-- A chunk of this size fits after `coded` bytes of the coding, `got` bytes of the body, and its line.
 abbrev pub fits : ℕ → ℕ → ℕ → ℕ → Bool
 fits coded got line size = nat_le (got + size) body_limit && nat_le (coded + line + size + 2) coding_limit
 
@@ -89,7 +89,7 @@ behind content (Decoded body) = Decoded (content ++ body)
 behind content (Broken refused) = Broken refused
 behind content Unfinished = Unfinished
 
--- Behind so many bytes of a coding, and so many of its body, these bytes come out so, whole and no more.
+-- After `coded` bytes of a coding and `got` bytes of its body, just these bytes have this outcome.
 pub data Decodes : (coded got : ℕ) → (bytes : List ℕ) → Outcome → Type 0 where
   -- a chunk, and what follows it
   chunk : (coded got size : ℕ) (line content rest : List ℕ) (outcome : Outcome)
@@ -106,7 +106,7 @@ pub data Decodes : (coded got : ℕ) → (bytes : List ℕ) → Outcome → Type
   bad_line : (coded got : ℕ) (line : List ℕ) → line_at coded line ≡ Whole line → IsNoLine line
       → Decodes coded got line (Broken BadLength)
   -- a line that is too long
-  long_line : (coded got : ℕ) (bytes : List ℕ) → line_at coded bytes ≡ Overlong → length bytes ≡ room_behind coded
+  long_line : (coded got : ℕ) (bytes : List ℕ) → line_at coded bytes ≡ Overlong → length bytes ≡ capacity_behind coded
       → Decodes coded got bytes (Broken (overlong_at coded))
   -- a chunk that does not fit
   large : (coded got size : ℕ) (line : List ℕ) → line_at coded line ≡ Whole line → IsSizeLine line size → 0 < size
@@ -124,7 +124,7 @@ pub data Decodes : (coded got : ℕ) → (bytes : List ℕ) → Outcome → Type
   -- trailers that are too long
   long_trailers : (coded got : ℕ) (line bytes : List ℕ)
       → line_at coded (line ++ bytes) ≡ Whole line → IsSizeLine line 0
-      → trailers_at (coded + length line) bytes ≡ Overlong → length bytes ≡ room_behind (coded + length line)
+      → trailers_at (coded + length line) bytes ≡ Overlong → length bytes ≡ capacity_behind (coded + length line)
       → Decodes coded got (line ++ bytes) (Broken (overlong_at (coded + length line)))
   -- a line, a chunk or trailers that are cut short
   short_line : (coded got : ℕ) (bytes : List ℕ) → line_at coded bytes ≡ Short → Decodes coded got bytes Unfinished

@@ -1,4 +1,4 @@
--- The fields of a head by their names (RFC 9110, section 5).
+-- Believed. The fields of a head by their names (RFC 9110, section 5).
 use Rattle.std.specs.Prelude.{ℕ, Bool, if◌then◌else◌, ◌==◌, List, [], ◌∷◌, map, filter}
 use Rattle.std.specs.List.{list_any}
 use Rattle.std.specs.Str.{str_eq_ignore_ascii_case}
@@ -22,15 +22,15 @@ before_first byte [] = (byte ∷ []) ∷ []
 before_first byte (piece ∷ pieces) = (byte ∷ piece) ∷ pieces
 
 -- the pieces between the bytes that are this one; no byte is one empty piece
-abbrev pub parted_at : ℕ → List ℕ → List (List ℕ)
-parted_at mark [] = [] ∷ []
-parted_at mark (byte ∷ bytes) =
-    if byte == mark then [] ∷ parted_at mark bytes else before_first byte (parted_at mark bytes)
+abbrev pub pieces_between : ℕ → List ℕ → List (List ℕ)
+pieces_between separator [] = [] ∷ []
+pieces_between separator (byte ∷ bytes) =
+    if byte == separator then [] ∷ pieces_between separator bytes else before_first byte (pieces_between separator bytes)
 
 -- the option is a member of the list, without regard to ASCII case and to white space around it
 unfoldable pub has_option : List ℕ → List ℕ → Bool
 has_option option text =
-    list_any (λ piece. str_eq_ignore_ascii_case (trim_ows piece) option) (parted_at 44 text)
+    list_any (λ piece. str_eq_ignore_ascii_case (trim_ows piece) option) (pieces_between 44 text)
 
 -- some field of this name lists the option (RFC 9110, section 5.6.1)
 abbrev pub lists : List ℕ → List ℕ → List Pair → Bool

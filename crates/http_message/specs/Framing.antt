@@ -1,4 +1,4 @@
--- How the body of a request is framed (RFC 9112, section 6), of its head's fields.
+-- Believed. How the body of a request is framed (RFC 9112, section 6), of its head's fields.
 use Rattle.std.specs.Prelude.{ℕ, Bool, true, ◌&&◌, nat_le, nat_lt, if◌then◌else◌, ◌==◌, List, [], ◌∷◌, length, map, Result, Ok, Err, codes}
 use Rattle.std.specs.Char.{is_ascii_digit}
 use Rattle.std.specs.List.{list_all}
@@ -8,7 +8,7 @@ use Rattle.httparse.specs.Grammar.{RequestHead}
 use Rattle.httparse.specs.Spans.{name_and_value}
 use Rattle.http_message.specs.Fields.{Pair, values}
 use Rattle.http_message.specs.Limits.{most_fields, body_limit}
-use Rattle.http_message.specs.Message.{calls_for_continue}
+use Rattle.http_message.specs.Message.{is_continue_expected}
 use Rattle.http_message.specs.declared.framing.Framing.{Framing}
 use Rattle.http_message.specs.declared.framing.Framing.TheVariants.{Sized, Chunked}
 use Rattle.http_message.specs.declared.refusal.FramingRefusal.{FramingRefusal}
@@ -50,11 +50,11 @@ framing_in minor fields =
 unfoldable pub framing_of : RequestHead → Result Framing FramingRefusal
 framing_of head = framing_in head.minor (map name_and_value head.fields)
 
--- a body framed so is chunked or longer than 0
+-- a body of this framing is chunked or longer than 0
 abbrev pub has_body : Framing → Bool
 has_body (Sized size) = nat_lt 0 size
 has_body Chunked = true
 
--- a head calls for `100 Continue` before its body
-unfoldable pub calls : RequestHead → Framing → Bool
-calls head framing = calls_for_continue head.minor (map name_and_value head.fields) (has_body framing)
+-- a head expects `100 Continue` before its body
+unfoldable pub expects_continue : RequestHead → Framing → Bool
+expects_continue head framing = is_continue_expected head.minor (map name_and_value head.fields) (has_body framing)

@@ -1,29 +1,29 @@
--- What a call does with the bytes that are held and those of a source, and why it stops.
+-- Internal. What a call does with the bytes that are held and those of a source, and why no more came.
 use Rattle.std.specs.Prelude.{◌≡◌, ◌⊎◌, ℕ, ◌<◌, List, [], ◌++◌, length, Result, Ok, Err}
-use Rattle.q_outside.specs.Told.{End, IsEnded, TookBytes}
-use Rattle.http_message.specs.declared.stopped.Stopped.{Stopped}
-use Rattle.http_message.specs.declared.stopped.Stopped.TheVariants.{InputEnd, Truncated, ReadFault, WriteFault}
+use Rattle.q_outside.specs.Ends.{End, IsEnded, TookBytes}
+use Rattle.http_message.specs.declared.incomplete.Incomplete.{Incomplete}
+use Rattle.http_message.specs.declared.incomplete.Incomplete.TheVariants.{InputEnd, Truncated, ReadFault, WriteFault}
 
 -- why no more bytes came from a source
-abbrev pub IsStopped : (source source' : End) → Stopped → Type 0
-IsStopped source source' InputEnd = ⊥
-IsStopped source source' Truncated = IsEnded source'.bytes
-IsStopped source source' ReadFault = source.faults < source'.faults
-IsStopped source source' WriteFault = ⊥
+abbrev pub NoMoreBytes : (source source' : End) → Incomplete → Type 0
+NoMoreBytes source source' InputEnd = ⊥
+NoMoreBytes source source' Truncated = IsEnded source'.bytes
+NoMoreBytes source source' ReadFault = source.faults < source'.faults
+NoMoreBytes source source' WriteFault = ⊥
 
 -- Nothing was taken from the source.
 pub record IsIdle (source source' : End) (got : List ℕ) : Type 0 where
   pub same : source' ≡ source
   pub none : got ≡ []
 
--- Bytes were taken, and are held behind those that were held; some were only where those were short.
+-- Bytes were taken and added to those that are held; some were taken only where those were short.
 pub record Grows (source source' : End) (short : List ℕ → Type 0) (held held' : List ℕ) : Type 0 where
   pub got : List ℕ
   pub took : TookBytes source source' got
   pub adds : held' ≡ held ++ got
   pub waits : IsIdle source source' got ⊎ short held
 
--- Bytes were taken, at least one, and are held behind those that were held.
+-- Bytes were taken, at least one, and added to those that are held.
 pub record Adds (source source' : End) (held held' : List ℕ) : Type 0 where
   pub got : List ℕ
   pub took : TookBytes source source' got
@@ -31,27 +31,27 @@ pub record Adds (source source' : End) (held held' : List ℕ) : Type 0 where
   pub some : 0 < length got
 
 -- No more bytes came.
-pub record AddsNone (source source' : End) (held held' : List ℕ) (stopped : Stopped) : Type 0 where
+pub record AddsNone (source source' : End) (held held' : List ℕ) (incomplete : Incomplete) : Type 0 where
   pub took : TookBytes source source' []
   pub same : held' ≡ held
-  pub is : IsStopped source source' stopped
+  pub is : NoMoreBytes source source' incomplete
 
 -- how a call for more bytes came out
-abbrev pub Fills : {T : Type 0} → (source source' : End) → (held held' : List ℕ) → Result T Stopped → Type 0
+abbrev pub Fills : {T : Type 0} → (source source' : End) → (held held' : List ℕ) → Result T Incomplete → Type 0
 Fills source source' held held' (Ok filled) = Adds source source' held held'
-Fills source source' held held' (Err stopped) = AddsNone source source' held held' stopped
+Fills source source' held held' (Err incomplete) = AddsNone source source' held held' incomplete
 
 -- Fewer bytes were taken, and then no more came.
-pub record TookFewer (source source' : End) (size : ℕ) (stopped : Stopped) : Type 0 where
+pub record TookFewer (source source' : End) (size : ℕ) (incomplete : Incomplete) : Type 0 where
   pub got : List ℕ
   pub took : TookBytes source source' got
   pub fewer : length got < size
-  pub is : IsStopped source source' stopped
+  pub is : NoMoreBytes source source' incomplete
 
--- whether a room was filled from the source
-abbrev pub IsFull : {T : Type 0} → (source source' : End) → List ℕ → Result T Stopped → Type 0
-IsFull source source' room (Ok filled) = TookBytes source source' room
-IsFull source source' room (Err stopped) = TookFewer source source' (length room) stopped
+-- whether a buffer was filled from the source
+abbrev pub IsFull : {T : Type 0} → (source source' : End) → List ℕ → Result T Incomplete → Type 0
+IsFull source source' into (Ok filled) = TookBytes source source' into
+IsFull source source' into (Err incomplete) = TookFewer source source' (length into) incomplete
 
 -- Of all the bytes, these are used, and the others are held.
 pub record Consumes (all held' : List ℕ) (is : List ℕ → Type 0) : Type 0 where
@@ -60,15 +60,15 @@ pub record Consumes (all held' : List ℕ) (is : List ℕ → Type 0) : Type 0 w
   pub says : is used
 
 -- Of all the bytes, those that are used are what the answer says; or all are short, and no more came.
-abbrev pub IsRead : {T : Type 0} → (source source' : End) → (all held' : List ℕ) → (short : List ℕ → Type 0) → (is : T → List ℕ → Type 0) → Result T Stopped → Type 0
+abbrev pub IsRead : {T : Type 0} → (source source' : End) → (all held' : List ℕ) → (short : List ℕ → Type 0) → (is : T → List ℕ → Type 0) → Result T Incomplete → Type 0
 IsRead source source' all held' short is (Ok answer) = Consumes all held' (is answer)
-IsRead source source' all held' short is (Err stopped) = short all × IsStopped source source' stopped
+IsRead source source' all held' short is (Err incomplete) = short all × NoMoreBytes source source' incomplete
 
 -- A call used some of the bytes that were held and of those that it took; it took some only where those
 -- that were held were short.
 pub record Reads {T : Type 0}
     (source source' : End) (held held' : List ℕ) (short : List ℕ → Type 0) (is : T → List ℕ → Type 0)
-    (answer : Result T Stopped) : Type 0 where
+    (answer : Result T Incomplete) : Type 0 where
   pub got : List ℕ
   pub took : TookBytes source source' got
   pub waits : IsIdle source source' got ⊎ short held

@@ -1,10 +1,10 @@
--- What the whole text of a head is.
+-- Internal. What the whole text of a head is.
 use Rattle.std.specs.Prelude.{◌≡◌, ◌⊎◌, ℕ, List, Result, Ok, Err}
 use Rattle.httparse.specs.Grammar.{RequestHead}
 use Rattle.httparse.specs.declared.spans.HeaderSpan.{HeaderSpan}
-use Rattle.http_message.specs.Framing.{framing_of, calls}
+use Rattle.http_message.specs.Framing.{framing_of, expects_continue}
 use Rattle.http_message.specs.Head.{IsHead, IsHeadAt, IsNoHead}
-use Rattle.http_message.specs.Item.{is_head}
+use Rattle.http_message.specs.Item.{is_head_request}
 use Rattle.http_message.specs.declared.judge.Judged.{Judged}
 use Rattle.http_message.specs.declared.refusal.FramingRefusal.{FramingRefusal}
 use Rattle.http_message.specs.declared.refusal.FramingRefusal.TheVariants.{BadHead}
@@ -20,8 +20,8 @@ pub record IsFramedHead (text : List ℕ) (spans : List HeaderSpan) (judged : Ju
   pub head : RequestHead
   pub at : IsHeadAt text spans judged.parts head
   pub framing_is : framing_of head ≡ Ok judged.framing
-  pub called_is : judged.calls ≡ calls head judged.framing
-  pub heads_is : judged.head ≡ is_head head
+  pub expected_is : judged.expects_continue ≡ expects_continue head judged.framing
+  pub heads_is : judged.is_head_request ≡ is_head_request head
 
 -- what the text is; a refusal says that it is no head, or a head that is refused
 abbrev pub IsJudged : List ℕ → List HeaderSpan → Result Judged FramingRefusal → Type 0

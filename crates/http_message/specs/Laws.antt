@@ -1,6 +1,6 @@
--- What follows from the definitions alone.
+-- Internal. What follows from the definitions alone.
 use Rattle.std.specs.Prelude.{◌≡◌, ℕ, Bool, true, List, ◌++◌}
-use Rattle.http_message.specs.Item.{Item, IsItem, IsOpen, IsCalled}
+use Rattle.http_message.specs.Item.{Item, IsItem, IsOpen, ExpectsContinue}
 use Rattle.http_message.specs.Split.{Piece, IsSplit}
 
 -- a byte string begins with one item at most
@@ -12,13 +12,13 @@ OneItemFirst =
 -- bytes in which no item is whole begin with none
 abbrev pub NoItemInOpen : Type 0
 NoItemInOpen =
-    (first rest : List ℕ) (item : Item) (called : Bool) → IsItem first item → IsOpen (first ++ rest) called → ⊥
+    (first rest : List ℕ) (item : Item) (expected : Bool) → IsItem first item → IsOpen (first ++ rest) expected → ⊥
 
--- such bytes call for `100 Continue` or do not, and a head among them that calls for it says which
-abbrev pub OneCall : Type 0
-OneCall =
-    (rest : List ℕ) (called other : Bool) → IsOpen rest called
-    → (IsOpen rest other → called ≡ other) × (IsCalled rest → called ≡ true)
+-- such bytes expect `100 Continue` or do not, and do where they begin with a head that expects it
+abbrev pub OneExpectation : Type 0
+OneExpectation =
+    (rest : List ℕ) (expected other : Bool) → IsOpen rest expected
+    → (IsOpen rest other → expected ≡ other) × (ExpectsContinue rest → expected ≡ true)
 
 -- a byte string has one split
 abbrev pub OneSplit : Type 0

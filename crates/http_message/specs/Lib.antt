@@ -3,7 +3,7 @@ pub mod Buffers
 pub mod Coded
 pub mod Coding
 pub mod Fields
-pub mod Found
+pub mod HeadFound
 pub mod Framing
 pub mod Head
 pub mod Headed
@@ -16,12 +16,12 @@ pub mod Line
 pub mod Message
 pub mod Named
 pub mod Next
-pub mod Placed
+pub mod BufferRange
 pub mod Room
-pub mod Scan
+pub mod HeadScan
 pub mod Split
-pub mod Stopped
+pub mod Incomplete
 pub mod Taken
 pub mod Text
 pub use Rattle.httparse.specs.Spans
-pub use Rattle.q_outside.specs.Told
+pub use Rattle.q_outside.specs.Ends

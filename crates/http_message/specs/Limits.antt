@@ -1,34 +1,34 @@
--- The limits of a request.
+-- Believed. The limits of a request.
 use Rattle.std.specs.Prelude.{ℕ, ◌+◌}
 
--- a head ends within so many bytes, with the empty lines before it
+-- the longest head, with the empty lines before it, in bytes
 abbrev pub head_limit : ℕ
 head_limit = 16384
 
--- a head has at most so many fields
+-- the greatest number of fields of a head
 abbrev pub most_fields : ℕ
 most_fields = 64
 
--- there is room for so many fields: a field has three bytes at least
-abbrev pub field_room : ℕ
-field_room = 5462
+-- the number of fields that fit into the buffer for them: a field has three bytes at least
+abbrev pub field_capacity : ℕ
+field_capacity = 5462
 
--- a body has at most so many bytes
+-- the longest body, in bytes
 abbrev pub body_limit : ℕ
 body_limit = 65536
 
--- a chunk's line has at most so many bytes with its end, and so have the trailers with their empty line
+-- the longest line of a chunk with its line end, and the longest trailers with their empty line, in bytes
 abbrev pub line_limit : ℕ
 line_limit = 4096
 
--- there is room for so many fields in the trailers: a field has three bytes at least
-abbrev pub trailer_room : ℕ
-trailer_room = 1366
+-- the number of trailer fields that fit into the buffer for them: a field has three bytes at least
+abbrev pub trailer_capacity : ℕ
+trailer_capacity = 1366
 
--- the whole coding has at most so many bytes
+-- the longest chunked coding of a body, in bytes
 abbrev pub coding_limit : ℕ
 coding_limit = 524288
 
--- an item has at most so many bytes: the greatest head and the greatest coding
+-- the longest item, in bytes: the longest head and the longest coding
 abbrev pub item_limit : ℕ
 item_limit = head_limit + coding_limit

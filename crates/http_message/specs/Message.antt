@@ -1,4 +1,4 @@
--- A request, as its bytes say it.
+-- Believed. A request, as its bytes say it.
 use Rattle.std.specs.Prelude.{ℕ, Bool, ◌&&◌, ◌||◌, ◌==◌, nat_lt, take, List, length, map, codes}
 use Rattle.std.specs.List.{list_any}
 use Rattle.std.specs.Str.{str_eq_ignore_ascii_case}
@@ -28,7 +28,7 @@ message_of head body = record {
   body = body;
 }
 
--- the request whose parts stand in the text of its head
+-- the request whose parts are at these offsets in the text of its head
 abbrev pub message_in : List ℕ → List HeaderSpan → RequestSpans → List ℕ → Message
 message_in text spans parts body = record {
   method = span_bytes text parts.method;
@@ -38,7 +38,7 @@ message_in text spans parts body = record {
   body = body;
 }
 
--- some field of Transfer-Encoding stands there
+-- there is a field Transfer-Encoding
 abbrev pub is_coded : List Pair → Bool
 is_coded fields = nat_lt 0 (length (values (codes "transfer-encoding") fields))
 
@@ -47,10 +47,10 @@ abbrev pub expects : List Pair → Bool
 expects fields =
     list_any (λ value. str_eq_ignore_ascii_case value (codes "100-continue")) (values (codes "expect") fields)
 
--- A request of HTTP/1.1 calls for `100 Continue` where it expects it and has a body, which is chunked
+-- A request of HTTP/1.1 gets `100 Continue` where it asks for it and has a body, which is chunked
 -- or longer than 0.
-abbrev pub calls_for_continue : ℕ → List Pair → Bool → Bool
-calls_for_continue minor fields has_body = (minor == 1) && (expects fields && has_body)
+abbrev pub is_continue_expected : ℕ → List Pair → Bool → Bool
+is_continue_expected minor fields has_body = (minor == 1) && (expects fields && has_body)
 
 -- the connection ends after a request of HTTP/1.0, and after one that asks for it (RFC 9112, section 9.6)
 abbrev pub asks_to_close : Message → Bool

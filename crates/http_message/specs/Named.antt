@@ -1,9 +1,9 @@
--- How often a name stands among the fields, as the code tells it.
+-- Internal. How often a name occurs among the fields, as the code answers it.
 use Rattle.std.specs.Prelude.{◌≡◌, ℕ, List, [], ◌∷◌}
 use Rattle.http_message.specs.declared.fields.Named.{Named}
 use Rattle.http_message.specs.declared.fields.Named.TheVariants.{Absent, Once, Repeated}
 
--- what is told of the values of the fields of a name
+-- what is answered for the values of the fields of a name
 abbrev pub IsNamed : List (List ℕ) → Named → Type 0
 IsNamed found Absent = found ≡ []
 IsNamed found (Once value) = found ≡ value.now ∷ []

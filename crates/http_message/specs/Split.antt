@@ -1,4 +1,4 @@
--- A byte string as its items in turn.
+-- Internal. A byte string as its items in turn.
 use Rattle.std.specs.Prelude.{◌≡◌, ◌⊎◌, ℕ, ◌≤◌, Bool, true, false, List, [], ◌∷◌, ◌++◌, length, All}
 use Rattle.std.specs.List.{flat_map}
 use Rattle.http_message.specs.Item.{Item, closes, IsItem, IsOpen}
@@ -31,4 +31,4 @@ pub record IsSplit (limit : ℕ) (bytes : List ℕ) (pieces : List Piece) (rest 
   pub each : All (λ piece. IsItem piece.bytes piece.item) pieces
   pub few : length pieces ≤ limit
   pub going : OnlyLastCloses pieces
-  pub ends : (last_closes pieces ≡ true) ⊎ ((length pieces ≡ limit) ⊎ ((called : Bool) × IsOpen rest called))
+  pub ends : (last_closes pieces ≡ true) ⊎ ((length pieces ≡ limit) ⊎ ((expected : Bool) × IsOpen rest expected))

@@ -3,14 +3,14 @@ ghost use Rattle.std.specs.Prelude.{◌≡◌, ◌<◌, ◌≤◌, ℕ, ◌+◌,
 ghost use Rattle.http_message.specs.Coded.{IsCutShort, IsPart, IsProgress, IsContent, IsLineEnd, IsLineHere};
 ghost use Rattle.http_message.specs.Coding.{IsSizeLine, IsNoLine};
 ghost use Rattle.http_message.specs.Input.{Reads};
-ghost use Rattle.http_message.specs.Limits.{body_limit, trailer_room};
+ghost use Rattle.http_message.specs.Limits.{body_limit, trailer_capacity};
 
 use crate::body::take_exact;
+use crate::incomplete::Incomplete;
 use crate::input::Input;
-use crate::limits::{fits, overlong_at, room_behind};
+use crate::limits::{capacity_behind, fits, overlong_at};
 use crate::line::{Sought, TextFound, find_text};
 use crate::refusal::FramingRefusal;
-use crate::stopped::Stopped;
 use crate::trailers::take_trailers;
 use httparse::spans::HeaderSpan;
 use httparse::{Status, parse_chunk_size};
@@ -30,11 +30,11 @@ pub struct Progress {
 pub enum Part {
     /// It is a chunk, and the coding has come so far.
     Chunk(Progress),
-    /// It is the last one, and the coding has so many bytes with it.
+    /// It is the last one; `coded` is the length of the coding with it.
     End {
         coded: usize,
     },
-    /// It is refused, of so many bytes of the coding.
+    /// It is refused, after this number of bytes of the coding.
     Broken {
         refused: FramingRefusal,
         coded: usize,
@@ -46,22 +46,22 @@ pub fn take_part<S: Source>(
     source: &mut S,
     input: &mut Input,
     body: &mut [u8],
-    spare: &mut [HeaderSpan],
+    trailer_spans: &mut [HeaderSpan],
     at: Progress,
-) -> Result<Part, Stopped>
+) -> Result<Part, Incomplete>
     requires body { length body.old ≡ body_limit }
-    requires spare { length spare.old ≡ trailer_room }
+    requires trailer_spans { length trailer_spans.old ≡ trailer_capacity }
     requires at { IsProgress at }
     ensures { Reads (S.at source.old) (S.at source.new) input.old input.new (IsCutShort at.coded at.got) (IsPart at body.old body.new) result }
 {
-    let room = room_behind(at.coded);
-    match find_text(source, input, Sought::Line, room)? {
-        TextFound::Whole(line) => take_announced(source, input, body, spare, at, line),
+    let capacity = capacity_behind(at.coded);
+    match find_text(source, input, Sought::Line, capacity)? {
+        TextFound::Whole(line) => take_announced(source, input, body, trailer_spans, at, line),
         TextFound::Overlong => {
-            input.skip(room);
+            input.skip(capacity);
             Ok(Part::Broken {
                 refused: overlong_at(at.coded),
-                coded: at.coded + room,
+                coded: at.coded + capacity,
             })
         }
     }
@@ -72,12 +72,12 @@ fn take_announced<S: Source>(
     source: &mut S,
     input: &mut Input,
     body: &mut [u8],
-    spare: &mut [HeaderSpan],
+    trailer_spans: &mut [HeaderSpan],
     at: Progress,
     line: usize,
-) -> Result<Part, Stopped>
+) -> Result<Part, Incomplete>
     requires body { length body.old ≡ body_limit }
-    requires spare { length spare.old ≡ trailer_room }
+    requires trailer_spans { length trailer_spans.old ≡ trailer_capacity }
     requires at { IsProgress at }
     requires within { line ≤ length input.old }
     requires here { IsLineHere at.coded (take line input.old) }
@@ -91,7 +91,7 @@ fn take_announced<S: Source>(
                 coded: at.coded + line,
             })
         }
-        Some(0) => take_last(source, input, spare, at, line),
+        Some(0) => take_last(source, input, trailer_spans, at, line),
         Some(size) => take_chunk(source, input, body, at, line, size),
     }
 }
@@ -121,7 +121,7 @@ fn take_chunk<S: Source>(
     at: Progress,
     line: usize,
     size: usize,
-) -> Result<Part, Stopped>
+) -> Result<Part, Incomplete>
     requires body { length body.old ≡ body_limit }
     requires at { IsProgress at }
     requires within { line ≤ length input.old }
@@ -155,7 +155,7 @@ fn take_content<S: Source>(
     source: &mut S,
     input: &mut Input,
     into: &mut [u8],
-) -> Result<bool, Stopped>
+) -> Result<bool, Incomplete>
     ensures { Reads (S.at source.old) (S.at source.new) input.old input.new (λ bytes. length bytes < length into.new + 2) (IsContent into.new) result }
 {
     take_exact(source, input, into)?;
@@ -163,7 +163,7 @@ fn take_content<S: Source>(
 }
 
 /// Takes two bytes, and answers whether they are CR LF.
-fn take_line_end<S: Source>(source: &mut S, input: &mut Input) -> Result<bool, Stopped>
+fn take_line_end<S: Source>(source: &mut S, input: &mut Input) -> Result<bool, Incomplete>
     ensures { Reads (S.at source.old) (S.at source.new) input.old input.new (λ bytes. length bytes < 2) IsLineEnd result }
 {
     while input.len() < 2 {
@@ -178,11 +178,11 @@ fn take_line_end<S: Source>(source: &mut S, input: &mut Input) -> Result<bool, S
 fn take_last<S: Source>(
     source: &mut S,
     input: &mut Input,
-    spare: &mut [HeaderSpan],
+    trailer_spans: &mut [HeaderSpan],
     at: Progress,
     line: usize,
-) -> Result<Part, Stopped>
-    requires spare { length spare.old ≡ trailer_room }
+) -> Result<Part, Incomplete>
+    requires trailer_spans { length trailer_spans.old ≡ trailer_capacity }
     requires at { IsProgress at }
     requires within { line ≤ length input.old }
     requires here { IsLineHere at.coded (take line input.old) }
@@ -190,5 +190,5 @@ fn take_last<S: Source>(
     ensures { (body : List ℕ) → Reads (S.at source.old) (S.at source.new) input.old input.new (IsCutShort at.coded at.got) (IsPart at body body) result }
 {
     input.skip(line);
-    take_trailers(source, input, spare, at.coded + line)
+    take_trailers(source, input, trailer_spans, at.coded + line)
 }

@@ -10,7 +10,7 @@ ghost use Rattle.http_message.specs.Named.{IsNamed};
 use crate::options::has_option;
 use httparse::spans::HeaderSpan;
 
-/// How often a name stands among the fields of a head.
+/// How often a name occurs among the fields of a head.
 #[derive(Clone, Copy, Debug, PartialEq, Eq)]
 pub enum Named<'a> {
     /// No field has it.
@@ -34,17 +34,17 @@ impl<'a> Named<'a> {
     }
 }
 
-/// The field at this place.
-pub fn field_at(text: &[u8], fields: &[HeaderSpan], place: usize) -> HeaderSpan
+/// The field with this index.
+pub fn field_at(text: &[u8], fields: &[HeaderSpan], index: usize) -> HeaderSpan
     requires within { All (IsHeaderWithin (length text.now)) fields.now }
-    requires place { place < length fields.now }
+    requires index { index < length fields.now }
     ensures within { IsHeaderWithin (length text.now) result }
-    ensures is { slice_get (map (header_bytes text.now) fields.now) place ≡ Some (header_bytes text.now result) }
+    ensures is { slice_get (map (header_bytes text.now) fields.now) index ≡ Some (header_bytes text.now result) }
 {
-    fields[place]
+    fields[index]
 }
 
-/// How often this name stands among the fields, and its value where it stands once.
+/// How often this name occurs among the fields, and its value where it occurs once.
 pub fn find_named<'a>(text: &'a [u8], fields: &[HeaderSpan], name: &[u8]) -> Named<'a>
     requires { All (IsHeaderWithin (length text.now)) fields.now }
     ensures { IsNamed (values name.now (map (header_bytes text.now) fields.now)) result }

@@ -6,7 +6,7 @@ ghost use Rattle.std.specs.Str.Parse.{digits_value};
 ghost use Rattle.httparse.specs.Spans.{header_bytes, IsHeaderWithin};
 ghost use Rattle.http_message.specs.Framing.{framing_in, framing_by, framing_by_length, framing_by_codings, is_length, has_body};
 ghost use Rattle.http_message.specs.Limits.{body_limit};
-ghost use Rattle.http_message.specs.Message.{calls_for_continue};
+ghost use Rattle.http_message.specs.Message.{is_continue_expected};
 ghost use Rattle.http_message.specs.Named.{IsNamed};
 
 use crate::fields::{Named, expects, find_named};
@@ -49,7 +49,7 @@ pub fn framing_in(text: &[u8], minor: u8, fields: &[HeaderSpan]) -> Result<Frami
     framing_by(minor, lengths, codings)
 }
 
-/// The same, of how often the two fields stand there.
+/// The same, by how often the two fields occur.
 fn framing_by(minor: u8, lengths: Named, codings: Named) -> Result<Framing, FramingRefusal>
     ensures { (texts names : List (List ℕ)) → IsNamed texts lengths.entry → IsNamed names codings.entry
         → result ≡ framing_by minor texts names }
@@ -126,11 +126,11 @@ fn digit(byte: u8) -> usize
     byte.wrapping_sub(b'0') as usize
 }
 
-/// Whether a head of this minor version and these fields, which frames the body so, calls for
+/// Whether a head of this minor version and these fields, with this framing of its body, expects
 /// `100 Continue`.
-pub fn calls(text: &[u8], minor: u8, fields: &[HeaderSpan], framing: Framing) -> bool
+pub fn expects_continue(text: &[u8], minor: u8, fields: &[HeaderSpan], framing: Framing) -> bool
     requires { All (IsHeaderWithin (length text.now)) fields.now }
-    ensures { result ≡ calls_for_continue minor (map (header_bytes text.now) fields.now) (has_body framing) }
+    ensures { result ≡ is_continue_expected minor (map (header_bytes text.now) fields.now) (has_body framing) }
 {
     minor == 1 && framing.has_body() && expects(text, fields)
 }

@@ -1,18 +1,18 @@
 //! The head of the next item: found, judged, and copied to where it stays.
 ghost use Rattle.std.specs.Prelude.{◌≡◌, ◌≤◌, length, drop};
-ghost use Rattle.http_message.specs.Found.{IsTextAt};
+ghost use Rattle.http_message.specs.HeadFound.{IsTextAt};
 ghost use Rattle.http_message.specs.Headed.{IsHeadOf, Heads};
-ghost use Rattle.http_message.specs.Limits.{head_limit, field_room};
-ghost use Rattle.http_message.specs.Stopped.{before_head};
+ghost use Rattle.http_message.specs.Limits.{head_limit, field_capacity};
+ghost use Rattle.http_message.specs.Incomplete.{before_head};
 ghost use Rattle.http_message.specs.Text.{is_blank};
 
-use crate::find::{Found, find_head};
+use crate::find::{HeadFound, find_head};
 use crate::framing::Framing;
+use crate::incomplete::Incomplete;
 use crate::input::Input;
 use crate::judge::judge;
 use crate::limits::HEAD_LIMIT;
 use crate::refusal::FramingRefusal;
-use crate::stopped::Stopped;
 use httparse::spans::{HeaderSpan, RequestSpans};
 use q_outside::Source;
 
@@ -27,10 +27,10 @@ pub struct Framed {
     pub parts: RequestSpans,
     /// How the body is framed.
     pub framing: Framing,
-    /// Whether it calls for `100 Continue`.
-    pub calls: bool,
+    /// Whether it expects `100 Continue`.
+    pub expects_continue: bool,
     /// Whether the method is HEAD.
-    pub head: bool,
+    pub is_head_request: bool,
 }
 
 /// What comes of the head of the next item.
@@ -38,29 +38,39 @@ pub struct Framed {
 pub enum Headed {
     /// The head frames a body.
     Framed(Framed),
-    /// No body is framed, and so many bytes were used.
+    /// No body is framed. `used` is the number of bytes used.
     Bad {
         refused: FramingRefusal,
         used: usize,
     },
 }
 
-/// Takes the head of the next item, whose text is copied to the front of the room for it.
+/// Takes the head of the next item. Its text is copied to the start of the buffer for it.
 pub fn next_head<S: Source>(
     source: &mut S,
     input: &mut Input,
     text: &mut [u8],
     spans: &mut [HeaderSpan],
-) -> Result<Headed, Stopped>
+) -> Result<Headed, Incomplete>
     requires text { length text.old ≡ head_limit }
-    requires spans { length spans.old ≡ field_room }
+    requires spans { length spans.old ≡ field_capacity }
     ensures { Heads (S.at source.old) (S.at source.new) input.old input.new text.new spans.new result }
 {
     match find_head(source, input) {
-        Ok(Found::BareReturn { lead }) => Ok(refuse(input, FramingRefusal::BadHead, lead + 2)),
-        Ok(Found::Text { lead, size }) => Ok(judge_text(input, text, spans, lead, size)),
-        Ok(Found::TooLarge) => Ok(refuse(input, FramingRefusal::HeadTooLarge, HEAD_LIMIT)),
-        Err(stopped) => Err(stopped.before_head(is_blank(input.bytes()))),
+        Ok(HeadFound::BareCr { empty_lines }) => Ok(refuse(
+            input,
+            FramingRefusal::BadHead,
+            empty_lines + 2,
+        )),
+        Ok(HeadFound::Text { empty_lines, size }) => Ok(judge_text(
+            input,
+            text,
+            spans,
+            empty_lines,
+            size,
+        )),
+        Ok(HeadFound::TooLarge) => Ok(refuse(input, FramingRefusal::HeadTooLarge, HEAD_LIMIT)),
+        Err(incomplete) => Err(incomplete.before_head(is_blank(input.bytes()))),
     }
 }
 
@@ -69,16 +79,16 @@ fn judge_text(
     input: &mut Input,
     text: &mut [u8],
     spans: &mut [HeaderSpan],
-    lead: usize,
+    empty_lines: usize,
     size: usize,
 ) -> Headed
     requires text { length text.old ≡ head_limit }
-    requires spans { length spans.old ≡ field_room }
-    requires at { IsTextAt input.old lead size }
+    requires spans { length spans.old ≡ field_capacity }
+    requires at { IsTextAt input.old empty_lines size }
     ensures { IsHeadOf input.old input.new text.new spans.new result }
 {
-    let used = lead + size;
-    text[..size].copy_from_slice(&input.bytes()[lead..used]);
+    let used = empty_lines + size;
+    text[..size].copy_from_slice(&input.bytes()[empty_lines..used]);
     match judge(&text[..size], spans) {
         Err(refused) => refuse(input, refused, used),
         Ok(judged) => {
@@ -88,8 +98,8 @@ fn judge_text(
                 text: size,
                 parts: judged.parts,
                 framing: judged.framing,
-                calls: judged.calls,
-                head: judged.head,
+                expects_continue: judged.expects_continue,
+                is_head_request: judged.is_head_request,
             })
         }
     }

@@ -1,19 +1,19 @@
 //! The bytes that were taken from a source and are not used yet.
 ghost use Rattle.std.specs.Prelude.{◌≡◌, ◌+◌, ◌-◌, ◌<◌, ◌≤◌, [], length, take, drop, slice_range, vec_len, IfOk, IfErr};
 ghost use Rattle.httparse.specs.Spans.{span_bytes};
-ghost use Rattle.q_outside.specs.Told.{TookBytes};
-ghost use Rattle.http_message.specs.Input.{IsStopped, Fills};
+ghost use Rattle.q_outside.specs.Ends.{TookBytes};
+ghost use Rattle.http_message.specs.Input.{NoMoreBytes, Fills};
 ghost use Rattle.http_message.specs.Limits.{head_limit};
 
+use crate::incomplete::Incomplete;
 use crate::limits::HEAD_LIMIT;
-use crate::stopped::Stopped;
 use httparse::spans::Span;
 use q_base::Memory;
 use q_outside::{Failed, Source};
 use std::alloc::Global;
 use std::marker::Model;
 
-/// Bytes in a buffer that has room for the longest head. Contracts see them as a list.
+/// Bytes in a buffer that is as long as the longest head. Contracts see them as a list.
 #[derive(Drop)]
 pub struct Input {
     buffer: Vec<u8>,
@@ -23,17 +23,17 @@ pub struct Input {
 
 impl Model for Input {
     ghost use Rattle.std.specs.Prelude.{ℕ, List, slice_range};
-    ghost use Rattle.http_message.specs.Placed.{IsPlaced};
+    ghost use Rattle.http_message.specs.BufferRange.{IsBufferRange};
 
     ghost Value = { List ℕ };
 
     ghost view = { λ i. slice_range i.buffer.items i.start i.end };
 
-    ghost invariant = { λ i. IsPlaced i.buffer.items i.start i.end };
+    ghost invariant = { λ i. IsBufferRange i.buffer.items i.start i.end };
 }
 
 impl Input {
-    /// No bytes, and the room for them.
+    /// No bytes, in a buffer for them.
     pub fn new(alloc: Global) -> Result<Input, Memory>
         ensures { IfOk result (λ input. input ≡ []) }
     {
@@ -80,29 +80,29 @@ impl Input {
         }
     }
 
-    /// Takes more bytes behind these, at least one. They are moved to the front where the room behind
+    /// Takes more bytes behind these, at least one. They are moved to the start where the space behind
     /// them is used up.
-    pub fn fill<S: Source>(&mut self, source: &mut S) -> Result<(), Stopped>
+    pub fn fill<S: Source>(&mut self, source: &mut S) -> Result<(), Incomplete>
         requires { length self.old < head_limit }
         ensures { Fills (S.at source.old) (S.at source.new) self.old self.new result }
     {
-        let place = make_room(&mut self.buffer, self.start, self.end);
-        self.start = place.start;
-        self.end = place.end;
-        let count = take_behind(source, &mut self.buffer, place.end)?;
-        self.end = place.end + count;
+        let span = make_space(&mut self.buffer, self.start, self.end);
+        self.start = span.start;
+        self.end = span.end;
+        let count = take_behind(source, &mut self.buffer, span.end)?;
+        self.end = span.end + count;
         Ok(())
     }
 }
 
-/// Where the bytes stand once there is room behind them: they are moved to the front if need be.
-fn make_room(buffer: &mut Vec<u8>, start: usize, end: usize) -> Span
+/// Where the bytes are once there is space behind them. They are moved to the start if need be.
+fn make_space(buffer: &mut Vec<u8>, start: usize, end: usize) -> Span
     requires ordered { start ≤ end }
     requires within { end ≤ vec_len buffer.old }
     requires some { end - start < vec_len buffer.old }
     ensures same { span_bytes buffer.new.items result ≡ slice_range buffer.old.items start end }
     ensures ordered { result.start ≤ result.end }
-    ensures room { result.end < vec_len buffer.new }
+    ensures space { result.end < vec_len buffer.new }
     ensures len { vec_len buffer.new ≡ vec_len buffer.old }
 {
     if end < buffer.len() {
@@ -115,23 +115,23 @@ fn make_room(buffer: &mut Vec<u8>, start: usize, end: usize) -> Span
     }
 }
 
-/// Takes bytes behind the first ones, so many, and answers how many came, at least one.
+/// Takes bytes from the offset `end` on, and answers how many came, at least one.
 fn take_behind<S: Source>(
     source: &mut S,
     buffer: &mut Vec<u8>,
     end: usize,
-) -> Result<usize, Stopped>
+) -> Result<usize, Incomplete>
     requires { end < vec_len buffer.old }
-    ensures kept { take end buffer.new.items ≡ take end buffer.old.items }
+    ensures same_before { take end buffer.new.items ≡ take end buffer.old.items }
     ensures len { vec_len buffer.new ≡ vec_len buffer.old }
     ensures some { IfOk result (λ n. 0 < n) }
     ensures within { IfOk result (λ n. end + n ≤ vec_len buffer.new) }
     ensures took { IfOk result (λ n. TookBytes (S.at source.old) (S.at source.new) (slice_range buffer.new.items end (end + n))) }
-    ensures stopped { IfErr result (λ stopped. TookBytes (S.at source.old) (S.at source.new) [] × IsStopped (S.at source.old) (S.at source.new) stopped) }
+    ensures incomplete { IfErr result (λ incomplete. TookBytes (S.at source.old) (S.at source.new) [] × NoMoreBytes (S.at source.old) (S.at source.new) incomplete) }
 {
     match source.take(&mut buffer[end..]) {
-        Ok(0) => Err(Stopped::Truncated),
+        Ok(0) => Err(Incomplete::Truncated),
         Ok(count) => Ok(count),
-        Err(Failed) => Err(Stopped::ReadFault),
+        Err(Failed) => Err(Incomplete::ReadFault),
     }
 }

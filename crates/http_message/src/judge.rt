@@ -5,9 +5,9 @@ ghost use Rattle.std.specs.Prelude.{codes};
 ghost use Rattle.httparse.specs.Grammar.{RequestHead};
 ghost use Rattle.http_message.specs.Head.{IsHeadAt};
 ghost use Rattle.http_message.specs.Judged.{IsJudged};
-ghost use Rattle.http_message.specs.Limits.{field_room};
+ghost use Rattle.http_message.specs.Limits.{field_capacity};
 
-use crate::framing::{Framing, calls, framing_in};
+use crate::framing::{Framing, expects_continue, framing_in};
 use crate::head::read_head;
 use crate::refusal::FramingRefusal;
 use httparse::spans::{HeaderSpan, RequestSpans};
@@ -19,16 +19,16 @@ pub struct Judged {
     pub parts: RequestSpans,
     /// How the body is framed.
     pub framing: Framing,
-    /// Whether it calls for `100 Continue`.
-    pub calls: bool,
+    /// Whether it expects `100 Continue`.
+    pub expects_continue: bool,
     /// Whether the method is HEAD.
-    pub head: bool,
+    pub is_head_request: bool,
 }
 
-/// Reads the head that the whole text is, or says why it is none or is refused. Where its fields stand
-/// is written to the front of `spans`.
+/// Reads the head that the whole text is, or says why it is none or is refused. The offsets of its
+/// fields are written to the start of `spans`.
 pub fn judge(text: &[u8], spans: &mut [HeaderSpan]) -> Result<Judged, FramingRefusal>
-    requires { length spans.old ≡ field_room }
+    requires { length spans.old ≡ field_capacity }
     ensures { IsJudged text.now spans.new result }
 {
     match read_head(text, spans) {
@@ -51,15 +51,15 @@ fn judge_head(
         Ok(framing) => Ok(Judged {
             parts,
             framing,
-            calls: calls(text, parts.version, fields, framing),
-            head: is_head(parts.method.of(text)),
+            expects_continue: expects_continue(text, parts.version, fields, framing),
+            is_head_request: is_head_request(parts.method.of(text)),
         }),
         Err(refused) => Err(refused),
     }
 }
 
 /// Whether the method is HEAD.
-fn is_head(method: &[u8]) -> bool
+fn is_head_request(method: &[u8]) -> bool
     ensures { result ≡ bytes_eq method.now (codes "HEAD") }
 {
     method == b"HEAD".as_slice()

@@ -10,9 +10,10 @@ mod find;
 mod framing;
 mod head;
 mod headed;
+mod incomplete;
 mod input;
 mod judge;
-mod kept;
+mod last_request;
 mod laws;
 mod limits;
 mod line;
@@ -23,7 +24,6 @@ mod refusal;
 mod request;
 mod room;
 mod scan;
-mod stopped;
 mod taken;
 #[cfg(test)]
 mod tests;
@@ -32,7 +32,7 @@ mod trailers;
 pub use fields::Named;
 pub use framing::Framing;
 pub use laws::{
-    limits_are_named, no_item_is_in_open_bytes, one_call_is_there, one_item_is_first,
+    limits_are_named, no_item_is_in_open_bytes, one_expectation_holds, one_item_is_first,
     one_split_is_there,
 };
 pub use message::Request;

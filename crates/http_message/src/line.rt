@@ -1,15 +1,15 @@
-//! The search for a line of a chunk or for trailers, which goes on where it stopped when more bytes
-//! have come.
+//! The search for a line of a chunk or for trailers. It goes on where it was when more bytes
+//! come.
 ghost use Rattle.std.specs.Prelude.{◌≡◌, ◌≤◌, take};
 ghost use Rattle.http_message.specs.Input.{Grows};
 ghost use Rattle.http_message.specs.Limits.{line_limit};
 ghost use Rattle.http_message.specs.Line.{IsPassed, IsEndOf, IsOpenIn, IsSight, IsTextFound, PassesLine};
-ghost use Rattle.http_message.specs.Scan.{Passes};
+ghost use Rattle.http_message.specs.HeadScan.{Passes};
 ghost use Rattle.http_message.specs.declared.line.Sought.TheVariants.{Line, Trailers};
 
+use crate::incomplete::Incomplete;
 use crate::input::Input;
 use crate::scan::{TextEnd, empty_line, find_head_end};
-use crate::stopped::Stopped;
 use memchr::memchr;
 use q_outside::Source;
 
@@ -27,24 +27,24 @@ pub enum Sought {
 pub enum TextFound {
     /// What is looked for, of this length.
     Whole(usize),
-    /// It does not end in the room for it.
+    /// It does not end within its limit.
     Overlong,
 }
 
-/// Takes bytes until what is looked for is whole, or has filled the room for it.
+/// Takes bytes until what is looked for is whole, or is longer than its limit.
 pub fn find_text<S: Source>(
     source: &mut S,
     input: &mut Input,
     sought: Sought,
-    room: usize,
-) -> Result<TextFound, Stopped>
-    requires { room ≤ line_limit }
-    ensures grows { Grows (S.at source.old) (S.at source.new) (IsOpenIn sought room) input.old input.new }
-    ensures found { IsTextFound (S.at source.old) (S.at source.new) sought room input.new result }
+    capacity: usize,
+) -> Result<TextFound, Incomplete>
+    requires { capacity ≤ line_limit }
+    ensures grows { Grows (S.at source.old) (S.at source.new) (IsOpenIn sought capacity) input.old input.new }
+    ensures found { IsTextFound (S.at source.old) (S.at source.new) sought capacity input.new result }
 {
     let mut passed = 0;
     loop {
-        match look_for(input.bytes(), sought, room, passed) {
+        match look_for(input.bytes(), sought, capacity, passed) {
             Ok(found) => return Ok(found),
             Err(further) => {
                 input.fill(source)?;
@@ -54,20 +54,25 @@ pub fn find_text<S: Source>(
     }
 }
 
-/// Looks for it at the front of the bytes, behind those that were passed. Where more bytes decide, the
-/// search goes on behind as many as it answers.
-fn look_for(bytes: &[u8], sought: Sought, room: usize, passed: usize) -> Result<TextFound, usize>
-    requires { IsPassed sought (take room bytes.now) passed }
-    ensures { IsSight sought room bytes.now result }
+/// Looks for it in the bytes, after those that were passed. Where more bytes are needed, it answers
+/// how many are passed then.
+fn look_for(
+    bytes: &[u8],
+    sought: Sought,
+    capacity: usize,
+    passed: usize,
+) -> Result<TextFound, usize>
+    requires { IsPassed sought (take capacity bytes.now) passed }
+    ensures { IsSight sought capacity bytes.now result }
 {
-    match end_of(first(bytes, room), sought, passed) {
+    match end_of(first(bytes, capacity), sought, passed) {
         TextEnd::At(size) => Ok(TextFound::Whole(size)),
-        TextEnd::Behind(_) if bytes.len() >= room => Ok(TextFound::Overlong),
+        TextEnd::Behind(_) if bytes.len() >= capacity => Ok(TextFound::Overlong),
         TextEnd::Behind(further) => Err(further),
     }
 }
 
-/// The first bytes, at most so many.
+/// The first bytes, at most `most` of them.
 fn first(bytes: &[u8], most: usize) -> &[u8]
     ensures { result.now ≡ take most bytes.now }
 {
@@ -95,7 +100,7 @@ fn line_end(bytes: &[u8], passed: usize) -> TextEnd
 {
     match memchr(b'\n', &bytes[passed..]) {
         None => TextEnd::Behind(bytes.len()),
-        Some(place) => TextEnd::At(passed + place + 1),
+        Some(offset) => TextEnd::At(passed + offset + 1),
     }
 }
 

@@ -1,4 +1,4 @@
-//! A request as it stands in the room that it was taken into.
+//! A request in the buffers that it was taken into.
 ghost use Rattle.std.specs.Prelude.{◌≡◌, ◌<◌, length, map, slice_get};
 ghost use Rattle.http_message.specs.Fields.{values, lists};
 ghost use Rattle.http_message.specs.Message.{asks_to_close};
@@ -8,7 +8,7 @@ use crate::fields::{Named, field_at, find_named, lists};
 use httparse::spans::{HeaderSpan, RequestSpans};
 use std::marker::Model;
 
-/// A request, whose parts stand in the room that it was taken into.
+/// A request, whose parts are in the buffers that it was taken into.
 #[derive(Drop)]
 pub struct Request<'a> {
     pub(crate) text: &'a [u8],
@@ -64,25 +64,25 @@ impl<'a> Request<'a> {
         self.parts.headers
     }
 
-    /// The name of the field at this place, as it was written.
-    pub fn name(&self, place: usize) -> &'a [u8]
-        requires { place < length self.now.fields }
-        ensures { slice_get (map (λ pair. pair.0) self.now.fields) place ≡ Some result.now }
+    /// The name of the field with this index, as it was written.
+    pub fn name(&self, index: usize) -> &'a [u8]
+        requires { index < length self.now.fields }
+        ensures { slice_get (map (λ pair. pair.0) self.now.fields) index ≡ Some result.now }
     {
-        let field = field_at(self.text, &self.spans[..self.parts.headers], place);
+        let field = field_at(self.text, &self.spans[..self.parts.headers], index);
         field.name.of(self.text)
     }
 
-    /// The value of the field at this place, without the white space around it.
-    pub fn value(&self, place: usize) -> &'a [u8]
-        requires { place < length self.now.fields }
-        ensures { slice_get (map (λ pair. pair.1) self.now.fields) place ≡ Some result.now }
+    /// The value of the field with this index, without the white space around it.
+    pub fn value(&self, index: usize) -> &'a [u8]
+        requires { index < length self.now.fields }
+        ensures { slice_get (map (λ pair. pair.1) self.now.fields) index ≡ Some result.now }
     {
-        let field = field_at(self.text, &self.spans[..self.parts.headers], place);
+        let field = field_at(self.text, &self.spans[..self.parts.headers], index);
         field.value.of(self.text)
     }
 
-    /// How often this name stands among the fields, without regard to ASCII case.
+    /// How often this name occurs among the fields, without regard to ASCII case (RFC 9110, section 5.1).
     pub fn named(&self, name: &[u8]) -> Named<'a>
         ensures { IsNamed (values name.now self.now.fields) result }
     {

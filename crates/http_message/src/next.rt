@@ -1,33 +1,33 @@
-//! The next item, and what is kept of it.
+//! The next item, and where its request is.
 ghost use Rattle.std.specs.Prelude.{◌≡◌};
 
-use crate::kept::Kept;
+use crate::last_request::LastRequest;
 use crate::refusal::FramingRefusal;
 use crate::taken::Taken;
 
-/// The item, the place behind what was used, and the request, where it is one.
+/// The item, the offset of the first byte after it, and the request, where it is one.
 #[derive(Clone, Copy, Debug, PartialEq, Eq)]
 pub struct Next {
     pub taken: Taken,
-    pub place: usize,
-    pub kept: Kept,
+    pub offset: usize,
+    pub last_request: LastRequest,
 }
 
 impl Next {
-    /// A request whose end cannot be told.
-    pub fn unframed(refused: FramingRefusal, place: usize, behind: usize, head: bool) -> Next
-        ensures taken { result.taken ≡ Taken.Framing refused place head }
-        ensures place { result.place ≡ behind }
-        ensures kept { result.kept ≡ Kept.NONE }
+    /// A request whose end cannot be determined.
+    pub fn unframed(refused: FramingRefusal, offset: usize, behind: usize, head: bool) -> Next
+        ensures taken { result.taken ≡ Taken.Framing refused offset head }
+        ensures offset { result.offset ≡ behind }
+        ensures last_request { result.last_request ≡ LastRequest.NONE }
     {
         Next {
             taken: Taken::Framing {
                 refused,
-                place,
+                place: offset,
                 head,
             },
-            place: behind,
-            kept: Kept::NONE,
+            offset: behind,
+            last_request: LastRequest::NONE,
         }
     }
 }

@@ -1,8 +1,8 @@
-//! Options in a field that lists them, parted by commas.
+//! Options in a field that lists them, separated by commas (RFC 9110, section 5.6.1).
 ghost use Rattle.std.specs.Prelude.{◌≡◌, ◌<◌, [], ◌∷◌, length, reverse, IfSome, IfNone};
 ghost use Rattle.std.specs.Str.{str_eq_ignore_ascii_case};
 ghost use Rattle.httparse.specs.Grammar.{skip_ows, trim_ows};
-ghost use Rattle.http_message.specs.Fields.{has_option, parted_at};
+ghost use Rattle.http_message.specs.Fields.{has_option, pieces_between};
 
 use httparse::is_space_or_tab;
 use memchr::memchr;
@@ -21,11 +21,11 @@ pub fn has_option(text: &[u8], option: &[u8]) -> bool
     is_option(rest, option)
 }
 
-/// The list up to its first comma and behind it, or nothing where it has none.
+/// The list before its first comma and after it, or nothing where it has none.
 fn split_once(list: &[u8]) -> Option<(&[u8], &[u8])>
-    ensures parts { IfSome result (λ parts. parted_at 44 list.now ≡ parts.0.now ∷ parted_at 44 parts.1.now) }
+    ensures parts { IfSome result (λ parts. pieces_between 44 list.now ≡ parts.0.now ∷ pieces_between 44 parts.1.now) }
     ensures less { IfSome result (λ parts. length parts.1.now < length list.now) }
-    ensures none { IfNone result (parted_at 44 list.now ≡ list.now ∷ []) }
+    ensures none { IfNone result (pieces_between 44 list.now ≡ list.now ∷ []) }
 {
     match memchr(b',', list) {
         Some(end) => Some((&list[..end], &list[end + 1..])),
@@ -41,7 +41,7 @@ fn is_option(member: &[u8], option: &[u8]) -> bool
     trim_end(trim_start(member)).eq_ignore_ascii_case(option)
 }
 
-/// Without the white space at the front.
+/// Without the white space at the start.
 fn trim_start(text: &[u8]) -> &[u8]
     ensures { result.now ≡ skip_ows text.now }
 {

@@ -1,14 +1,14 @@
 //! The next item of a source's bytes.
 ghost use Rattle.std.specs.Prelude.{◌≡◌, ◌+◌, ◌<◌, ◌^◌, length, IfOk, IfErr, true};
-ghost use Rattle.q_outside.specs.Told.{GaveBytes, GavePart};
+ghost use Rattle.q_outside.specs.Ends.{GaveBytes, GavePart};
 ghost use Rattle.http_message.specs.Bodied.{IsBody};
-ghost use Rattle.http_message.specs.Headed.{HasRoom};
+ghost use Rattle.http_message.specs.Headed.{FitsBuffer};
 ghost use Rattle.http_message.specs.Input.{Reads};
 ghost use Rattle.http_message.specs.Item.{IsCut};
-ghost use Rattle.http_message.specs.Limits.{trailer_room, body_limit};
+ghost use Rattle.http_message.specs.Limits.{trailer_capacity, body_limit};
 ghost use Rattle.http_message.specs.Message.{Message};
 ghost use Rattle.http_message.specs.Next.{IsNext, Waits};
-ghost use Rattle.http_message.specs.Room.{held_of};
+ghost use Rattle.http_message.specs.Room.{state_of};
 ghost use Rattle.http_message.specs.Taken.{item_limit, continue_text, continue_where};
 
 use crate::body::take_exact;
@@ -16,53 +16,53 @@ use crate::buffers::Buffers;
 use crate::coding::{Coded, take_coded};
 use crate::framing::Framing;
 use crate::headed::{Headed, next_head};
+use crate::incomplete::Incomplete;
 use crate::input::Input;
-use crate::kept::Kept;
+use crate::last_request::LastRequest;
 use crate::next::Next;
-use crate::stopped::Stopped;
 use crate::taken::Taken;
 use httparse::spans::HeaderSpan;
 use q_outside::{Failed, Sink, Source, give_all};
 
-/// What begins the text of an item that calls for it (RFC 9110, section 15.2.1).
+/// What is given before the reply to an item that expects it (RFC 9110, section 15.2.1).
 const CONTINUE: &[u8] = b"HTTP/1.1 100 Continue\r\n\r\n";
 
-/// Takes the next item, which begins at this place, into the buffers.
+/// Takes the next item, which begins at this offset, into the buffers.
 pub fn next_in<S: Source, K: Sink>(
     source: &mut S,
     sink: &mut K,
     buffers: &mut Buffers,
-    place: usize,
-) -> Result<Next, Stopped>
-    requires { place + item_limit < 2 ^ 64 }
-    ensures next { (message : Message) → IsNext (S.at source.old) (S.at source.new) (K.at sink.old) (K.at sink.new) (held_of buffers.old.bytes place message) buffers.new result }
+    offset: usize,
+) -> Result<Next, Incomplete>
+    requires { offset + item_limit < 2 ^ 64 }
+    ensures next { (message : Message) → IsNext (S.at source.old) (S.at source.new) (K.at sink.old) (K.at sink.new) (state_of buffers.old.bytes offset message) buffers.new result }
     ensures waits { Waits (S.at source.old) (S.at source.new) buffers.old.bytes }
 {
     let Buffers {
         input,
         text,
         spans,
-        spare,
+        trailer_spans,
         body,
     } = buffers;
     let head = match next_head(source, input, text, spans)? {
         Headed::Bad { refused, used } => {
-            return Ok(Next::unframed(refused, place, place + used, false));
+            return Ok(Next::unframed(refused, offset, offset + used, false));
         }
         Headed::Framed(head) => head,
     };
-    give_continue(sink, head.calls)?;
-    let behind = place + head.used;
-    let (size, used) = match take_body(source, input, head.framing, body, spare)? {
+    give_continue(sink, head.expects_continue)?;
+    let behind = offset + head.used;
+    let (size, used) = match take_body(source, input, head.framing, body, trailer_spans)? {
         Coded::Whole { size, used } => (size, used),
         Coded::Broken { refused, used } => {
-            return Ok(Next::unframed(refused, place, behind + used, head.head));
+            return Ok(Next::unframed(refused, offset, behind + used, head.is_head_request));
         }
     };
     Ok(Next {
-        taken: Taken::Request { place },
-        place: behind + used,
-        kept: Kept {
+        taken: Taken::Request { place: offset },
+        offset: behind + used,
+        last_request: LastRequest {
             text: head.text,
             parts: head.parts,
             body: size,
@@ -70,31 +70,31 @@ pub fn next_in<S: Source, K: Sink>(
     })
 }
 
-/// Gives `100 Continue` where it is called for.
-fn give_continue<K: Sink>(sink: &mut K, called: bool) -> Result<(), Stopped>
-    ensures gave { IfOk result (λ _. GaveBytes (K.at sink.old) (K.at sink.new) (continue_where called)) }
-    ensures stopped { IfErr result (λ stopped. (stopped ≡ Stopped.WriteFault) × (called ≡ true) × GavePart (K.at sink.old) (K.at sink.new) continue_text) }
+/// Gives `100 Continue` where it is expected.
+fn give_continue<K: Sink>(sink: &mut K, expected: bool) -> Result<(), Incomplete>
+    ensures gave { IfOk result (λ _. GaveBytes (K.at sink.old) (K.at sink.new) (continue_where expected)) }
+    ensures incomplete { IfErr result (λ incomplete. (incomplete ≡ Incomplete.WriteFault) × (expected ≡ true) × GavePart (K.at sink.old) (K.at sink.new) continue_text) }
 {
-    if !called {
+    if !expected {
         return Ok(());
     }
     match give_all(sink, CONTINUE) {
         Ok(()) => Ok(()),
-        Err(Failed) => Err(Stopped::WriteFault),
+        Err(Failed) => Err(Incomplete::WriteFault),
     }
 }
 
-/// Takes the body of this framing into the front of the room for it.
+/// Takes the body of this framing to the start of the buffer for it.
 fn take_body<S: Source>(
     source: &mut S,
     input: &mut Input,
     framing: Framing,
     body: &mut [u8],
-    spare: &mut [HeaderSpan],
-) -> Result<Coded, Stopped>
-    requires room { HasRoom framing }
+    trailer_spans: &mut [HeaderSpan],
+) -> Result<Coded, Incomplete>
+    requires fits { FitsBuffer framing }
     requires body { length body.old ≡ body_limit }
-    requires spare { length spare.old ≡ trailer_room }
+    requires trailer_spans { length trailer_spans.old ≡ trailer_capacity }
     ensures { Reads (S.at source.old) (S.at source.new) input.old input.new (IsCut framing) (IsBody framing body.new) result }
 {
     match framing {
@@ -102,6 +102,6 @@ fn take_body<S: Source>(
             take_exact(source, input, &mut body[..size])?;
             Ok(Coded::Whole { size, used: size })
         }
-        Framing::Chunked => take_coded(source, input, body, spare),
+        Framing::Chunked => take_coded(source, input, body, trailer_spans),
     }
 }

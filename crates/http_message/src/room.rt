@@ -1,9 +1,9 @@
-//! The room for a connection's requests, and the requests that are taken into it.
+//! The buffers for a connection's requests, and the requests that are taken into them.
 ghost use Rattle.std.specs.Prelude.{◌≡◌, ◌+◌, ◌<◌, ◌^◌, [], IfOk};
 ghost use Rattle.http_message.specs.Taken.{IsTaken, WaitsForNone, item_limit};
 
 use crate::buffers::Buffers;
-use crate::kept::Kept;
+use crate::last_request::LastRequest;
 use crate::message::Request;
 use crate::request::next_in;
 use crate::taken::Taken;
@@ -12,36 +12,36 @@ use q_outside::{Sink, Source};
 use std::alloc::Global;
 use std::marker::Model;
 
-/// The room for the requests of a connection: the bytes that were taken from its source and are not
+/// The buffers for the requests of a connection: the bytes that were taken from its source and are not
 /// used yet, and the last request. All memory is taken by `new`.
 #[derive(Drop)]
 pub struct RequestRoom {
     buffers: Buffers,
-    kept: Kept,
-    place: usize,
+    last_request: LastRequest,
+    offset: usize,
 }
 
 impl Model for RequestRoom {
-    ghost use Rattle.http_message.specs.Room.{IsKept, message_kept, held_of};
-    ghost use Rattle.http_message.specs.Taken.{Held};
+    ghost use Rattle.http_message.specs.Room.{IsLastRequest, last_message, state_of};
+    ghost use Rattle.http_message.specs.Taken.{RequestState};
 
-    ghost Value = { Held };
+    ghost Value = { RequestState };
 
-    ghost view = { λ r. held_of r.buffers.bytes r.place (message_kept r.buffers r.kept) };
+    ghost view = { λ r. state_of r.buffers.bytes r.offset (last_message r.buffers r.last_request) };
 
-    ghost invariant = { λ r. IsKept r.buffers r.kept };
+    ghost invariant = { λ r. IsLastRequest r.buffers r.last_request };
 }
 
 impl RequestRoom {
-    /// The room, which holds no byte.
+    /// The buffers, which hold no byte.
     pub fn new(alloc: Global) -> Result<RequestRoom, Memory>
-        ensures { IfOk result (λ room. (room.bytes ≡ []) × (room.place ≡ 0)) }
+        ensures { IfOk result (λ buffer. (buffer.bytes ≡ []) × (buffer.offset ≡ 0)) }
     {
         let buffers = Buffers::new(alloc)?;
         Ok(RequestRoom {
             buffers,
-            kept: Kept::NONE,
-            place: 0,
+            last_request: LastRequest::NONE,
+            offset: 0,
         })
     }
 
@@ -49,40 +49,40 @@ impl RequestRoom {
     pub fn request(&self) -> Request<'_>
         ensures { result ≡ self.now.message }
     {
-        self.buffers.request(self.kept)
+        self.buffers.request(self.last_request)
     }
 
     /// Drops what is left of a former connection.
     pub fn clear(&mut self)
         ensures bytes { self.new.bytes ≡ [] }
-        ensures place { self.new.place ≡ 0 }
+        ensures offset { self.new.offset ≡ 0 }
     {
         self.buffers.clear();
-        self.place = 0;
+        self.offset = 0;
     }
 }
 
-/// Takes the next item of the source's bytes, of those first that the room holds, and says what it is.
-/// `100 Continue` is given to the sink where the item's head calls for it, before its body is taken.
+/// Takes the next item, first from the bytes that are held, then from the source, and says what it is.
+/// `100 Continue` is given to the sink where the item's head expects it, before its body is taken.
 /// It takes no memory.
 pub fn next_request<S: Source, K: Sink>(
     source: &mut S,
     sink: &mut K,
-    room: &mut RequestRoom,
+    buffer: &mut RequestRoom,
 ) -> Taken
-    requires { room.old.place + item_limit < 2 ^ 64 }
-    ensures taken { IsTaken (S.at source.old) (S.at source.new) (K.at sink.old) (K.at sink.new) room.old room.new result }
-    ensures waits { WaitsForNone (S.at source.old) (S.at source.new) room.old.bytes }
+    requires { buffer.old.offset + item_limit < 2 ^ 64 }
+    ensures taken { IsTaken (S.at source.old) (S.at source.new) (K.at sink.old) (K.at sink.new) buffer.old buffer.new result }
+    ensures waits { WaitsForNone (S.at source.old) (S.at source.new) buffer.old.bytes }
 {
-    match next_in(source, sink, &mut room.buffers, room.place) {
+    match next_in(source, sink, &mut buffer.buffers, buffer.offset) {
         Ok(next) => {
-            room.place = next.place;
-            room.kept = next.kept;
+            buffer.offset = next.offset;
+            buffer.last_request = next.last_request;
             next.taken
         }
-        Err(stopped) => {
-            room.kept = Kept::NONE;
-            stopped.taken()
+        Err(incomplete) => {
+            buffer.last_request = LastRequest::NONE;
+            incomplete.taken()
         }
     }
 }

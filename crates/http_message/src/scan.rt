@@ -1,23 +1,23 @@
-//! The search for the end of a head, which goes on where it stopped when more bytes have come.
+//! The search for the end of a head (RFC 9112, section 2.1). It goes on where it was when more bytes come.
 ghost use Rattle.std.specs.Prelude.{◌≡◌, ℕ, ◌+◌, ◌<◌, ◌≤◌, length, drop, IfSome, IfNone, Option, None};
-ghost use Rattle.http_message.specs.Text.{begins_bare_return, blank_length};
-ghost use Rattle.http_message.specs.Scan.{IsLine, IsCut, Skips, Passes, IsScanned, IsFeed, IsEnd};
+ghost use Rattle.http_message.specs.Text.{begins_bare_cr, empty_lines_at_start};
+ghost use Rattle.http_message.specs.HeadScan.{IsLine, IsCut, Skips, Passes, IsScanned, IsFeed, IsEnd};
 
 use memchr::memchr;
 
 /// How far the search has come.
 #[derive(Clone, Copy, Debug, PartialEq, Eq)]
-pub struct Scan {
-    /// The length of the empty lines at the front.
-    pub blank: usize,
-    /// The length of the bytes behind these in which no head ends.
+pub struct HeadScan {
+    /// The length of the empty lines at the start.
+    pub empty_lines: usize,
+    /// The number of bytes after these in which no head ends.
     pub passed: usize,
 }
 
-impl Scan {
+impl HeadScan {
     /// The search before its first look.
-    pub const START: Scan = Scan {
-        blank: 0,
+    pub const START: HeadScan = HeadScan {
+        empty_lines: 0,
         passed: 0,
     };
 }
@@ -32,35 +32,38 @@ pub enum TextEnd {
 }
 
 /// Passes over the empty lines that have come.
-pub fn pass_blank(bytes: &[u8], scan: Scan) -> Scan
+pub fn pass_empty_lines(bytes: &[u8], scan: HeadScan) -> HeadScan
     requires { IsScanned bytes.now scan }
-    ensures blank { result.blank ≡ blank_length bytes.now }
+    ensures empty_lines { result.empty_lines ≡ empty_lines_at_start bytes.now }
     ensures scanned { IsScanned bytes.now result }
 {
-    let blank = skip_blank(bytes, scan.blank);
-    if blank == scan.blank {
+    let empty_lines = skip_empty_lines(bytes, scan.empty_lines);
+    if empty_lines == scan.empty_lines {
         return scan;
     }
-    Scan { blank, passed: 0 }
+    HeadScan {
+        empty_lines,
+        passed: 0,
+    }
 }
 
-/// The length of the empty lines at the front, of which so many bytes are known.
-fn skip_blank(bytes: &[u8], known: usize) -> usize
+/// The length of the empty lines at the start, of which `known` bytes are known.
+fn skip_empty_lines(bytes: &[u8], known: usize) -> usize
     requires { Skips bytes.now known }
-    ensures blank { result ≡ blank_length bytes.now }
+    ensures empty_lines { result ≡ empty_lines_at_start bytes.now }
     ensures skips { Skips bytes.now result }
 {
-    let mut blank = known;
+    let mut empty_lines = known;
     loop {
-        match empty_line(&bytes[blank..]) {
-            None => return blank,
-            Some(0) => return blank,
-            Some(size) => blank += size,
+        match empty_line(&bytes[empty_lines..]) {
+            None => return empty_lines,
+            Some(0) => return empty_lines,
+            Some(size) => empty_lines += size,
         }
     }
 }
 
-/// The length of the empty line at the front, 0 where none is there, or nothing where the next byte
+/// The length of the empty line at the start, 0 where there is none, or nothing where the next byte
 /// decides.
 pub fn empty_line(rest: &[u8]) -> Option<usize>
     ensures some { IfSome result (IsLine rest.now) }
@@ -84,9 +87,9 @@ pub fn empty_line(rest: &[u8]) -> Option<usize>
     Some(0)
 }
 
-/// Whether a CR stands at the front that another byte than LF follows.
-pub fn begins_bare_return(rest: &[u8]) -> bool
-    ensures { result ≡ begins_bare_return rest.now }
+/// Whether the bytes begin with a bare CR: a CR that another byte than LF follows.
+pub fn begins_bare_cr(rest: &[u8]) -> bool
+    ensures { result ≡ begins_bare_cr rest.now }
 {
     rest.len() >= 2 && rest[0] == b'\r' && rest[1] != b'\n'
 }
@@ -110,7 +113,7 @@ pub fn find_head_end(rest: &[u8], passed: usize) -> TextEnd
     }
 }
 
-/// The place of the next line feed.
+/// The offset of the next line feed.
 fn next_line_feed(rest: &[u8], passed: usize) -> Option<usize>
     requires { Passes rest.now passed }
     ensures some { IfSome result (λ feed. IsFeed rest.now feed × (passed ≤ feed)) }
@@ -118,6 +121,6 @@ fn next_line_feed(rest: &[u8], passed: usize) -> Option<usize>
 {
     match memchr(b'\n', &rest[passed..]) {
         None => None,
-        Some(place) => Some(passed + place),
+        Some(offset) => Some(passed + offset),
     }
 }

@@ -2,14 +2,14 @@
 
 use crate::refusal::FramingRefusal;
 
-/// What was taken. A place is that of the item's first byte, counted since the room was cleared.
+/// What was taken. A place is the offset of the item's first byte in the bytes of the connection.
 #[derive(Clone, Copy, Debug, PartialEq, Eq)]
 pub enum Taken {
-    /// A request with all of its body, which stands in the room.
+    /// A request with all of its body, which is in the buffers.
     Request {
         place: usize,
     },
-    /// A request whose end cannot be told. The head was not refused and its method is HEAD where
+    /// A request whose end cannot be determined. The head was not refused and its method is HEAD where
     /// `head` says so.
     Framing {
         refused: FramingRefusal,

@@ -38,13 +38,13 @@ fn script_of(alloc: Global, way: Way) -> Result<Script, Memory> {
     Ok(Script::of(failing, sizes))
 }
 
-/// A line for each item of the bytes, and behind them what the sink was given.
-fn told(alloc: Global, bytes: &[u8], takes: Way, gives: Way) -> Result<Vec<u8>, Memory> {
-    told_counted::<Brand>(alloc, bytes, takes, gives, Blank::new(1))
+/// A line for each item of the bytes, and then what the sink was given.
+fn report(alloc: Global, bytes: &[u8], takes: Way, gives: Way) -> Result<Vec<u8>, Memory> {
+    report_counted::<Brand>(alloc, bytes, takes, gives, Blank::new(1))
 }
 
 /// The same, over a sink whose faults are counted by this ledger.
-fn told_counted<L: Ledger>(
+fn report_counted<L: Ledger>(
     alloc: Global,
     bytes: &[u8],
     takes: Way,
@@ -57,17 +57,17 @@ fn told_counted<L: Ledger>(
 {
     let mut source = ListSource::of(Vec::from_slice(alloc, bytes)?, script_of(alloc, takes)?);
     let mut sink = ListSink::<L>::new(alloc, 1_000, script_of(alloc, gives)?, blank)?;
-    let mut room = RequestRoom::new(alloc)?;
+    let mut buffer = RequestRoom::new(alloc)?;
     let mut text = Vec::new(alloc);
     for _turn in 0..9_usize {
-        match next_request(&mut source, &mut sink, &mut room) {
-            Taken::Request { place } => tell(alloc, &mut text, place, &room.request())?,
+        match next_request(&mut source, &mut sink, &mut buffer) {
+            Taken::Request { place } => report_request(alloc, &mut text, place, &buffer.request())?,
             Taken::Framing {
                 refused,
                 place,
                 head,
             } => {
-                tell_refusal(alloc, &mut text, refused, place, head)?;
+                report_refusal(alloc, &mut text, refused, place, head)?;
                 break;
             }
             Taken::InputEnd => {
@@ -93,7 +93,12 @@ fn told_counted<L: Ledger>(
 }
 
 /// Adds the line of a request.
-fn tell(alloc: Global, text: &mut Vec<u8>, place: usize, request: &Request) -> Result<(), Memory> {
+fn report_request(
+    alloc: Global,
+    text: &mut Vec<u8>,
+    place: usize,
+    request: &Request,
+) -> Result<(), Memory> {
     text.extend_from_slice(format!(in alloc; "{place} ")?.as_bytes())?;
     text.extend_from_slice(request.method())?;
     text.push(b' ')?;
@@ -108,7 +113,7 @@ fn tell(alloc: Global, text: &mut Vec<u8>, place: usize, request: &Request) -> R
 }
 
 /// Adds the line of a refusal.
-fn tell_refusal(
+fn report_refusal(
     alloc: Global,
     text: &mut Vec<u8>,
     refused: FramingRefusal,
@@ -285,7 +290,7 @@ fn items_are_those_of_the_bytes_in_whatever_pieces(rt: HostRuntime) -> Result<()
 
     for (bytes, want) in rows {
         for size in SIZES {
-            let text = told(rt.alloc(), bytes, by(size), by(size))?;
+            let text = report(rt.alloc(), bytes, by(size), by(size))?;
             assert_eq!(rt; text.as_slice(), want, "pieces of {size}");
         }
     }
@@ -301,10 +306,10 @@ const SECOND: &[u8] =
 /// The length of the second's head.
 const SECOND_HEAD: usize = 66;
 
-/// What is told of them.
+/// The lines of their items.
 const TOLD: [&[u8]; 2] = [b"0 PUT /a 1 1 false: hi\n", b"43 POST /b 1 2 false: ok\n"];
 
-/// Both, with an empty line behind them.
+/// Both, with an empty line after them.
 fn script_bytes(alloc: Global) -> Result<Vec<u8>, Memory> {
     let mut bytes = Vec::from_slice(alloc, FIRST)?;
     bytes.extend_from_slice(SECOND)?;
@@ -312,8 +317,8 @@ fn script_bytes(alloc: Global) -> Result<Vec<u8>, Memory> {
     Ok(bytes)
 }
 
-/// What is told of these first bytes, and then of their end.
-fn want_of(alloc: Global, size: usize) -> Result<Vec<u8>, Memory> {
+/// The lines of these first bytes, and of their end.
+fn expected_of(alloc: Global, size: usize) -> Result<Vec<u8>, Memory> {
     let both = FIRST.len() + SECOND.len();
     let mut want = Vec::new(alloc);
     if size >= FIRST.len() {
@@ -338,9 +343,9 @@ fn want_of(alloc: Global, size: usize) -> Result<Vec<u8>, Memory> {
 fn a_stream_ends_behind_each_of_its_bytes(rt: HostRuntime) -> Result<(), Fail> {
     let bytes = script_bytes(rt.alloc())?;
     for size in 0..=bytes.len() {
-        let want = want_of(rt.alloc(), size)?;
+        let want = expected_of(rt.alloc(), size)?;
         for piece in SIZES {
-            let text = told(rt.alloc(), &bytes[..size], by(piece), by(piece))?;
+            let text = report(rt.alloc(), &bytes[..size], by(piece), by(piece))?;
             assert_eq!(rt;
                 text.as_slice(),
                 want.as_slice(),
@@ -354,13 +359,13 @@ fn a_stream_ends_behind_each_of_its_bytes(rt: HostRuntime) -> Result<(), Fail> {
 #[test]
 fn a_source_and_a_sink_fail_at_each_call(rt: HostRuntime) -> Result<(), Fail> {
     let bytes = script_bytes(rt.alloc())?;
-    let whole = want_of(rt.alloc(), bytes.len())?;
+    let whole = expected_of(rt.alloc(), bytes.len())?;
     for call in 0..200 {
         let takes = Way {
             size: 1,
             failing: Some(call),
         };
-        let text = told(rt.alloc(), &bytes, takes, by(1))?;
+        let text = report(rt.alloc(), &bytes, takes, by(1))?;
         let taken = call as usize;
         if taken > bytes.len() {
             assert_eq!(rt; text.as_slice(), whole.as_slice(), "take {call}");
@@ -384,7 +389,7 @@ fn a_source_and_a_sink_fail_at_each_call(rt: HostRuntime) -> Result<(), Fail> {
             size: 1,
             failing: Some(call),
         };
-        let text = told(rt.alloc(), &bytes, by(7), gives)?;
+        let text = report(rt.alloc(), &bytes, by(7), gives)?;
         let mut want = Vec::from_slice(rt.alloc(), TOLD[0])?;
         want.extend_from_slice(b"write fault\n")?;
         want.extend_from_slice(&b"HTTP/1.1 100 Continue\r\n\r\n"[..call as usize])?;
@@ -401,7 +406,7 @@ fn fill(text: &mut Vec<u8>, byte: u8, count: usize) -> Result<(), Memory> {
     Ok(())
 }
 
-/// A head of so many bytes, behind a number of empty lines.
+/// A head of this length, after a number of empty lines.
 fn long_head(alloc: Global, blank: usize, size: usize) -> Result<Vec<u8>, Memory> {
     let mut bytes = Vec::new(alloc);
     fill(&mut bytes, b'\n', blank)?;
@@ -415,7 +420,7 @@ fn long_head(alloc: Global, blank: usize, size: usize) -> Result<Vec<u8>, Memory
     Ok(bytes)
 }
 
-/// A head of so many fields.
+/// A head with this number of fields.
 fn wide_head(alloc: Global, fields: usize) -> Result<Vec<u8>, Memory> {
     let mut bytes = Vec::from_slice(alloc, b"GET /a HTTP/1.1\n")?;
     for _ in 0..fields {
@@ -425,7 +430,7 @@ fn wide_head(alloc: Global, fields: usize) -> Result<Vec<u8>, Memory> {
     Ok(bytes)
 }
 
-/// A request whose chunks have these lines, each of so many bytes, for one byte each.
+/// A request with a number of chunks of one byte, whose lines have these lengths.
 fn long_coding(alloc: Global, lines: usize, last: usize) -> Result<Vec<u8>, Memory> {
     let mut bytes = Vec::from_slice(alloc, CHUNKED)?;
     for line in 0..=lines {
@@ -438,7 +443,7 @@ fn long_coding(alloc: Global, lines: usize, last: usize) -> Result<Vec<u8>, Memo
     Ok(bytes)
 }
 
-/// A request with trailers of so many bytes with their empty line.
+/// A request whose trailers have this length with their empty line.
 fn long_trailers(alloc: Global, size: usize) -> Result<Vec<u8>, Memory> {
     let mut bytes = Vec::from_slice(alloc, CHUNKED)?;
     bytes.extend_from_slice(b"0\r\na:")?;
@@ -450,10 +455,10 @@ fn long_trailers(alloc: Global, size: usize) -> Result<Vec<u8>, Memory> {
 /// The head of a request whose body is chunked.
 const CHUNKED: &[u8] = b"PUT /a HTTP/1.1\nTransfer-Encoding: chunked\n\n";
 
-/// What is told of the bytes begins with this, in pieces of each size.
+/// The lines of the bytes begin with this, in pieces of each size.
 fn begins(alloc: Global, bytes: &[u8], want: &[u8]) -> Result<bool, Memory> {
     for size in SIZES {
-        let text = told(alloc, bytes, by(size), by(size))?;
+        let text = report(alloc, bytes, by(size), by(size))?;
         if !text.as_slice().starts_with(want) {
             return Ok(false);
         }

@@ -10,7 +10,7 @@ use Rattle.http_front.specs.declared.routes.Served.{Served}
 use Rattle.http_front.specs.declared.told.Told.{Told}
 use Rattle.http_front.specs.declared.told.Told.TheVariants.{Match}
 use Rattle.http_message.specs.Message.{Message}
-use Rattle.hub_core.specs.Room.{RoomView, IsRoomFor}
+use Rattle.hub_core.specs.PageRoom.{PageRoomView, IsRoomFor}
 use Rattle.hub_desk.specs.Desk.{matching, MatchesAll}
 use Rattle.hub_model.specs.declared.entry.Entry.{Entry}
 use Rattle.hub_model.specs.declared.entry.Matched.{Matched}
@@ -20,7 +20,7 @@ use Rattle.hub_model.specs.Setting.{Setting}
 use Rattle.hub_model.specs.State.{State}
 use Rattle.hub_model.specs.Step.{state_of}
 use Rattle.q_base.specs.declared.memory.Memory.{Memory as NoMemory}
-use Rattle.quaestor_server.specs.Answer.{IsMade, made, wanted, IsAnswer, serves, fails}
+use Rattle.quaestor_server.specs.Answer.{IsMade, made, ran_out, IsAnswer, serves, fails}
 use Rattle.quaestor_server.specs.Ask.{IsFresh}
 use Rattle.quaestor_server.proofs.PrefixLemmas.{learns-makes, learns-learns, fresh_before}
 
@@ -35,7 +35,7 @@ answered_ready g old mid new mine mine_mid mine_new moment asked told page l (ma
       fresh = fresh_before g old mid s.entry l.grew s.fresh;
       told_is = s.told_is;
     })
-answered_ready g old mid new mine mine_mid mine_new moment asked told page l (wanted w f) =
+answered_ready g old mid new mine mine_mid mine_new moment asked told page l (ran_out w f) =
     fails (record { learns = learns-learns g old mid new mine mine_mid mine_new l f.learns; told_is = f.told_is })
 
 -- a desk that is made ready keeps its configuration, and then answers what was read
@@ -46,8 +46,8 @@ answered_then g g' old mid new mine mine_mid mine_new moment read known asked to
     (subst (λ (x : Setting). IsMade x mid new mine_mid mine_new moment asked told page) same
     (subst (λ (a : Result Ask Refused). IsMade g' mid new mine_mid mine_new moment a told page) known_is m))
 
--- an answer leaves a legal history, and the room as it was made
-pub can_still : (g g' : Setting) (old new : List Entry) (mine mine_new : List (ℕ × Entry)) (moment : ℕ) (asked : Result Ask Refused) (told : Told) (page : List ℕ) (room : RoomView) → g' ≡ g → IsLegal g old → IsAnswer g old new mine mine_new moment asked told page → IsRoomFor g room → IsLegal g' new × IsRoomFor g' room
+-- an answer leaves a legal history, and the page buffer as it was made
+pub can_still : (g g' : Setting) (old new : List Entry) (mine mine_new : List (ℕ × Entry)) (moment : ℕ) (asked : Result Ask Refused) (told : Told) (page : List ℕ) (room : PageRoomView) → g' ≡ g → IsLegal g old → IsAnswer g old new mine mine_new moment asked told page → IsRoomFor g room → IsLegal g' new × IsRoomFor g' room
 can_still g g' old new mine mine_new moment asked told page room same legal answer fits =
     let left : IsLegal g new = elim answer [ serves s ↦ s.made.legal | fails f ↦ f.learns.legal legal ] in
     subst (λ (x : Setting). IsLegal x new × IsRoomFor x room) (sym same) (left, fits)

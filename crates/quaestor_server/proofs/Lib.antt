@@ -1,6 +1,6 @@
 mod AnswerLemmas
-mod OneTalkLemmas
+mod ConversationLemmas
+mod DeterminedLemmas
 mod PrefixLemmas
-mod TalkLemmas
 mod TextLemmas
 mod WellLemmas

@@ -23,7 +23,7 @@ prefix_trans {X} xs ys zs p q =
     let second : ys ++ q.0 ≡ zs = q.1 in
     (p.0 ++ q.0, cc)
 
--- what stands before more is a beginning
+-- what precedes more is a prefix
 pub prefix_front : {X : Type 0} (xs ys : List X) → IsPrefix xs (xs ++ ys)
 prefix_front xs ys = (ys, refl)
 

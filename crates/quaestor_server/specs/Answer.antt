@@ -1,23 +1,23 @@
--- How a desk answers one item.
+-- Believed. How a desk answers one item.
 use Rattle.std.specs.Prelude.{◌≡◌, ℕ, Bool, true, false, List, [], ◌++◌, option_map, unwrap_or, Result}
 use Rattle.flat_snapshot.specs.PageText.{page_text}
 use Rattle.http_front.specs.declared.ask.Ask.{Ask}
 use Rattle.http_front.specs.declared.refused.Refused.{Refused}
 use Rattle.http_front.specs.declared.told.Told.{Told}
 use Rattle.http_front.specs.declared.told.Told.TheVariants.{Memory}
-use Rattle.hub_core.specs.Room.{RoomView}
+use Rattle.hub_core.specs.PageRoom.{PageRoomView}
 use Rattle.hub_model.specs.declared.entry.Entry.{Entry}
 use Rattle.hub_model.specs.Desk.{Makes, Learns}
 use Rattle.hub_model.specs.Reply.{Replied}
 use Rattle.hub_model.specs.Setting.{Setting}
 use Rattle.hub_model.specs.Step.{state_of}
-use Rattle.quaestor_server.specs.Ask.{IsEntryOf, IsToldOf, IsFresh, MayWant}
+use Rattle.quaestor_server.specs.Ask.{IsEntryOf, IsToldOf, IsFresh, MayRunOut}
 
--- the bytes that a room gives: the text of the last fetched page, and none before the first
-abbrev pub fetched_bytes : RoomView → List ℕ
+-- the bytes in a page buffer: the text of the last fetched page, and none before the first
+abbrev pub fetched_bytes : PageRoomView → List ℕ
 fetched_bytes room = unwrap_or (option_map page_text room.page) []
 
--- The desk has made the entry that is asked for, and the reply at its place is told, with these bytes of a page.
+-- The desk has made the entry that is asked for, and gives the reply at its position, with these bytes of a page.
 pub record Serves (g : Setting) (old new : List Entry) (mine_old mine_new : List (ℕ × Entry)) (moment : ℕ) (asked : Result Ask Refused) (told : Told) (page : List ℕ) : Type 0 where
   pub entry : Entry
   pub replied : Replied
@@ -26,17 +26,17 @@ pub record Serves (g : Setting) (old new : List Entry) (mine_old mine_new : List
   pub fresh : IsFresh g old entry
   pub told_is : IsToldOf asked replied told page
 
--- For want of memory the desk has made no entry, and that is told.
+-- Memory ran out: the desk has made no entry, and the reply says so.
 pub record Fails (g : Setting) (old new : List Entry) (mine_old mine_new : List (ℕ × Entry)) (told : Told) : Type 0 where
   pub learns : Learns g old new mine_old mine_new
   pub told_is : told ≡ Memory
 
--- How a desk that is ready answers: it serves what is asked, or fails where the entry may want memory.
+-- How a desk that is ready answers: it serves the request, or fails where the entry may run out of memory.
 pub data IsMade (g : Setting) (old new : List Entry) (mine_old mine_new : List (ℕ × Entry)) (moment : ℕ) (asked : Result Ask Refused) (told : Told) (page : List ℕ) : Type 0 where
   made : Serves g old new mine_old mine_new moment asked told page → IsMade g old new mine_old mine_new moment asked told page
-  wanted : MayWant g new asked → Fails g old new mine_old mine_new told → IsMade g old new mine_old mine_new moment asked told page
+  ran_out : MayRunOut g new asked → Fails g old new mine_old mine_new told → IsMade g old new mine_old mine_new moment asked told page
 
--- How a desk answers: it serves what is asked, or fails.
+-- How a desk answers: it serves the request, or fails.
 pub data IsAnswer (g : Setting) (old new : List Entry) (mine_old mine_new : List (ℕ × Entry)) (moment : ℕ) (asked : Result Ask Refused) (told : Told) (page : List ℕ) : Type 0 where
   serves : Serves g old new mine_old mine_new moment asked told page → IsAnswer g old new mine_old mine_new moment asked told page
   fails : Fails g old new mine_old mine_new told → IsAnswer g old new mine_old mine_new moment asked told page

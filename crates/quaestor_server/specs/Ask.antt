@@ -1,15 +1,15 @@
--- What the items of a connection ask of the store, and what they are told.
+-- Believed. What the items of a connection ask of the store, and the replies to them.
 use Rattle.std.specs.Prelude.{◌≡◌, ℕ, ◌≤◌, true, false, List, length, Result, Ok, Err}
 use Rattle.flat_snapshot.specs.PageText.{page_text}
 use Rattle.http_front.specs.Asks.{ask_of, shape_of}
 use Rattle.http_front.specs.Routes.{all_routes}
 use Rattle.http_front.specs.declared.ask.Ask.{Ask}
-use Rattle.http_front.specs.declared.ask.Ask.TheVariants.{Write, Read, MatchAll, Fetch, Stats}
+use Rattle.http_front.specs.declared.ask.Ask.TheVariants.{Write, Read, Query, Purges, MatchAll, Fetch, Stats}
 use Rattle.http_front.specs.declared.refused.Refused.{Refused}
-use Rattle.http_front.specs.declared.refused.Refused.TheVariants.{Framing}
+use Rattle.http_front.specs.declared.refused.Refused.TheVariants.{Framing, NotBuilt}
 use Rattle.http_front.specs.declared.shape.Shape.{Shape}
 use Rattle.http_front.specs.declared.told.Told.{Told}
-use Rattle.http_front.specs.declared.told.Told.TheVariants as tells
+use Rattle.http_front.specs.declared.told.Told.TheVariants as answers
 use Rattle.http_message.specs.Item.{Item, request, unframed}
 use Rattle.hub_desk.specs.Desk.{matching, IsFrontOf}
 use Rattle.hub_model.specs.declared.entry.Entry.{Entry}
@@ -30,23 +30,28 @@ abbrev pub shape_by : Item → Shape
 shape_by (request m) = shape_of m
 shape_by (unframed refused called head) = record { put = false; head = head }
 
--- the entry is the one that is asked for, at this moment, behind a state; a refusal asks for a tick
+-- the entry is the one that is asked for, at this moment, after a state; a refusal asks for a tick, and so
+-- does a query or a list of purges, which is answered as not built
 abbrev pub IsEntryOf : Result Ask Refused → ℕ → State → Entry → Type 0
 IsEntryOf (Ok (Write change condition)) moment s e = e ≡ entries.Write moment change condition
 IsEntryOf (Ok (Read key tags head)) moment s e = (at : ℕ) × (e ≡ entries.Read moment key tags at)
 IsEntryOf (Ok MatchAll) moment s e = e ≡ matching s moment
 IsEntryOf (Ok (Fetch head)) moment s e = e ≡ entries.Fetch moment
+IsEntryOf (Ok (Query collection fields head)) moment s e = e ≡ entries.Tick moment
+IsEntryOf (Ok (Purges fields head)) moment s e = e ≡ entries.Tick moment
 IsEntryOf (Ok (Stats head)) moment s e = e ≡ entries.Tick moment
 IsEntryOf (Err refused) moment s e = e ≡ entries.Tick moment
 
--- what is told, with the bytes of the page where it is one, by the reply to that entry
+-- the reply to the client, with the bytes of the page if it is one, by the reply to that entry
 abbrev pub IsToldOf : Result Ask Refused → Replied → Told → List ℕ → Type 0
-IsToldOf (Ok (Write change condition)) (wrote written) told page = told ≡ tells.Write written
-IsToldOf (Ok (Read key tags head)) (read answer) told page = told ≡ tells.Read answer
-IsToldOf (Ok MatchAll) replied told page = (match : Matched) × IsFrontOf replied match × (told ≡ tells.Match match)
-IsToldOf (Ok (Fetch head)) (fetched p) told page = (told ≡ tells.Page p.moment) × (page ≡ page_text p)
-IsToldOf (Ok (Stats head)) (counted stats) told page = told ≡ tells.Count stats
-IsToldOf (Err refused) (counted stats) told page = told ≡ tells.Refusal refused stats.clock
+IsToldOf (Ok (Write change condition)) (wrote written) told page = told ≡ answers.Write written
+IsToldOf (Ok (Read key tags head)) (read answer) told page = told ≡ answers.Read answer
+IsToldOf (Ok MatchAll) replied told page = (match : Matched) × IsFrontOf replied match × (told ≡ answers.Match match)
+IsToldOf (Ok (Fetch head)) (fetched p) told page = (told ≡ answers.Page p.moment) × (page ≡ page_text p)
+IsToldOf (Ok (Query collection fields head)) (counted stats) told page = told ≡ answers.Refusal NotBuilt stats.clock
+IsToldOf (Ok (Purges fields head)) (counted stats) told page = told ≡ answers.Refusal NotBuilt stats.clock
+IsToldOf (Ok (Stats head)) (counted stats) told page = told ≡ answers.Count stats
+IsToldOf (Err refused) (counted stats) told page = told ≡ answers.Refusal refused stats.clock
 IsToldOf _ _ told page = ⊥
 
 -- a read is not of a commit before those that were known
@@ -54,11 +59,13 @@ abbrev pub IsFresh : Setting → List Entry → Entry → Type 0
 IsFresh g known (entries.Read moment key tags at) = length (state_of g known).journal ≤ at
 IsFresh g known e = Unit {0}
 
--- the entry of this ask may want memory, behind a history: that of a write that would be accepted, of a read or of a match, and no other
-abbrev pub MayWant : Setting → List Entry → Result Ask Refused → Type 0
-MayWant g known (Ok (Write change condition)) = is_accepted g (state_of g known) change condition ≡ true
-MayWant g known (Ok (Read key tags head)) = Unit {0}
-MayWant g known (Ok MatchAll) = Unit {0}
-MayWant g known (Ok (Fetch head)) = ⊥
-MayWant g known (Ok (Stats head)) = ⊥
-MayWant g known (Err refused) = ⊥
+-- the entry of this request may run out of memory after a history: that of a write that would be accepted, of a read or of a match, and no other
+abbrev pub MayRunOut : Setting → List Entry → Result Ask Refused → Type 0
+MayRunOut g known (Ok (Write change condition)) = is_accepted g (state_of g known) change condition ≡ true
+MayRunOut g known (Ok (Read key tags head)) = Unit {0}
+MayRunOut g known (Ok MatchAll) = Unit {0}
+MayRunOut g known (Ok (Fetch head)) = ⊥
+MayRunOut g known (Ok (Query collection fields head)) = ⊥
+MayRunOut g known (Ok (Purges fields head)) = ⊥
+MayRunOut g known (Ok (Stats head)) = ⊥
+MayRunOut g known (Err refused) = ⊥

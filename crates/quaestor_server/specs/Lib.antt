@@ -1,13 +1,13 @@
 pub mod Answer
 pub mod Ask
 pub mod Conversation
-pub mod OneTalk
+pub mod TextsAreDetermined
 pub mod WellServed
 pub use Rattle.dialogue.specs.Dialogue
 pub use Rattle.dialogue.specs.EndLaw
 pub use Rattle.hub_core.specs.Config
-pub use Rattle.hub_core.specs.Room
-pub use Rattle.hub_core.specs.Standing
+pub use Rattle.hub_core.specs.PageRoom
+pub use Rattle.hub_core.specs.HubState
 pub use Rattle.hub_model.specs.Legal
 pub use Rattle.hub_model.specs.Reply
 pub use Rattle.hub_model.specs.Setting

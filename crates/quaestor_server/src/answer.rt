@@ -2,7 +2,7 @@
 ghost use Rattle.std.specs.Prelude.{◌≡◌, IfOk, Result};
 ghost use Rattle.http_front.specs.declared.ask.Ask.{Ask as AnAsk};
 ghost use Rattle.http_front.specs.declared.refused.Refused.{Refused as ARefusal};
-ghost use Rattle.hub_core.specs.Room.{IsRoomFor};
+ghost use Rattle.hub_core.specs.PageRoom.{IsRoomFor};
 ghost use Rattle.quaestor_server.specs.Answer.{IsAnswer, IsMade, fetched_bytes};
 
 use http_front::{Ask, Refused, Told};
@@ -10,8 +10,8 @@ use hub_core::PageRoom;
 use hub_desk::Desk;
 use q_base::{Memory, Moment};
 
-/// Makes the entry that was asked for, where there is memory, and answers what is told. A page is
-/// fetched into the room.
+/// Makes the entry that was asked for, unless memory runs out, and returns the reply. A page is
+/// fetched into the page buffer.
 pub(crate) fn answer<D: Desk>(
     desk: &mut D,
     pages: &mut PageRoom,
@@ -34,7 +34,7 @@ pub(crate) fn answer<D: Desk>(
 }
 
 /// Makes the entry that was asked for at a desk that is ready. A refusal has an entry too, and is
-/// told whatever memory there is.
+/// given whatever memory there is.
 fn make<D: Desk>(
     desk: &mut D,
     pages: &mut PageRoom,
@@ -65,6 +65,8 @@ fn make<D: Desk>(
             desk.fetch(moment, pages);
             Told::Page(pages.moment())
         }
+        Ok(Ask::Query { .. }) => Told::Refusal(Refused::NotBuilt, desk.tick(moment).clock),
+        Ok(Ask::Purges { .. }) => Told::Refusal(Refused::NotBuilt, desk.tick(moment).clock),
         Ok(Ask::Stats { .. }) => Told::Count(desk.tick(moment)),
         Err(refused) => Told::Refusal(refused, desk.tick(moment).clock),
     }

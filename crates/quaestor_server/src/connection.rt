@@ -1,19 +1,19 @@
 //! One connection to a desk: each item is answered by one entry of the desk's history.
 ghost use Rattle.std.specs.Prelude.{◌≡◌, ℕ, List, IfOk};
 ghost use Rattle.http_front.specs.Routes.{all_routes};
-ghost use Rattle.hub_core.specs.Room.{IsRoomFor};
+ghost use Rattle.hub_core.specs.PageRoom.{IsRoomFor};
 ghost use Rattle.hub_model.specs.Legal.{IsLegal};
-ghost use Rattle.q_outside.specs.Told.{Ticks};
+ghost use Rattle.q_outside.specs.Ends.{Ticks};
 ghost use Rattle.quaestor_server.specs.Conversation.{Conversation};
 
-use crate::talker::Talker;
+use crate::responder::Responder;
 use dialogue::hold_dialogue;
 use http_front::{ReplyRoom, Routes};
 use http_message::RequestRoom;
 use hub_core::{Config, PageRoom};
 use hub_desk::Desk;
 use q_base::Memory;
-use q_doc::ReadRoom;
+use q_doc::ReadBuffer;
 use q_outside::{Clock, Served, Sink, Source};
 use std::alloc::Global;
 
@@ -22,9 +22,9 @@ use std::alloc::Global;
 pub struct Room {
     requests: RequestRoom,
     routes: Routes,
-    reading: ReadRoom,
+    documents: ReadBuffer,
     reply: ReplyRoom,
-    /// The room for the pages that are fetched.
+    /// The buffer for the pages that are fetched.
     pub pages: PageRoom,
     ghost all: { routes ≡ all_routes },
 }
@@ -37,7 +37,7 @@ impl Room {
         Ok(Room {
             requests: RequestRoom::new(alloc)?,
             routes: Routes::new(alloc)?,
-            reading: ReadRoom::new(alloc),
+            documents: ReadBuffer::new(alloc),
             reply: ReplyRoom::new(alloc)?,
             pages: PageRoom::new(alloc, config)?,
         })
@@ -57,20 +57,20 @@ pub fn serve_connection<D: Desk, S: Source, K: Sink, C: Clock>(
     requires legal { IsLegal (D.setting desk.old) (D.seen desk.old) }
     requires room { IsRoomFor (D.setting desk.old) room.old.pages }
     ensures legal { IsLegal (D.setting desk.old) (D.seen desk.new) }
-    ensures conversation { Conversation (D.setting desk.old) (λ moments. Ticks C.tells clock.old moments clock.new) (D.seen desk.old) (D.seen desk.new) (D.mine desk.old) (D.mine desk.new)
+    ensures conversation { Conversation (D.setting desk.old) (λ moments. Ticks C.tick clock.old moments clock.new) (D.seen desk.old) (D.seen desk.new) (D.mine desk.old) (D.mine desk.new)
         (record { source = S.at source.old; sink = K.at sink.old }) (record { source = S.at source.new; sink = K.at sink.new }) result }
     ensures room { IsRoomFor (D.setting desk.old) room.new.pages }
     ensures anchor { D.anchor desk.new ≡ D.anchor desk.old }
     ensures setting { D.setting desk.new ≡ D.setting desk.old }
 {
-    let mut talker = Talker {
+    let mut responder = Responder {
         alloc,
         desk,
         clock,
         routes: &room.routes,
-        reading: &mut room.reading,
+        documents: &mut room.documents,
         reply: &mut room.reply,
         pages: &mut room.pages,
     };
-    hold_dialogue(&mut talker, source, sink, &mut room.requests)
+    hold_dialogue(&mut responder, source, sink, &mut room.requests)
 }

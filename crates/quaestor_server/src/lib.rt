@@ -4,11 +4,11 @@
 mod answer;
 mod connection;
 mod laws;
-mod talker;
+mod responder;
 
 pub use connection::{Room, serve_connection};
 pub use dialogue::{
-    REQUEST_LIMIT, bytes_tell_the_items, end_is_told_by_the_bytes, one_end_is_told,
+    REQUEST_LIMIT, bytes_determine_the_items, end_is_determined_by_the_bytes, one_end_is_determined,
 };
 pub use http_front::{Allow, Ask, DocumentReason, Refused, ReplyRoom, Routes, Shape, Told};
 pub use http_message::FramingRefusal;
@@ -18,6 +18,6 @@ pub use hub_model::{
     Answer, Change, Condition, Entry, Found, Matched, Outcome, Stats, Tags, Written,
 };
 pub use laws::{
-    bytes_and_moments_tell_the_texts, own_entries_stand, owned_histories_are_alone,
+    bytes_and_moments_determine_the_texts, own_entries_are_in_place, owned_histories_are_alone,
     well_served_stays,
 };

@@ -9,5 +9,5 @@ invariant-loop-requests g l = record {
   going : Going g.A.Answers.answers l.fn.answerer l.answerer
       (record { source = g.S.Source.at l.fn.source; sink = g.K.Sink.at l.fn.sink })
       (record { source = g.S.Source.at l.source; sink = g.K.Sink.at l.sink })
-      l.room l.requests;
+      l.buffer l.requests;
 }

@@ -4,11 +4,11 @@ use Rattle.std.specs.Option.{option_copied}
 use Rattle.std.specs.Prelude.{IfOk}
 use Rattle.http_front.specs.Answered.{and_then}
 use Rattle.http_front.specs.Asks.{method_in, record_by}
-use Rattle.http_front.specs.Early.{is_bare_put}
 use Rattle.http_front.specs.Routes.{collection_in, id_in}
 use Rattle.http_front.specs.declared.routes.Route.TheVariants.{Record}
 use Rattle.http_front.specs.Target.{local_part}
-use Rattle.http_front.proofs.PlainLemmas.{asked_at, early_at, is_read, record_asked, record_early}
+use Rattle.http_front.proofs.EarlyLemmas.{early_free}
+use Rattle.http_front.proofs.UnescapedLemmas.{asked_at, is_read, record_asked, record_free}
 use Rattle.http_front.proofs.ask.ask_of.Goals as goal
 
 pub returns-then-serve_records-clause-asked : goal.returns-then-serve_records-clause-asked
@@ -39,6 +39,10 @@ returns-then-serve_records-clause-early c =
     let starts = sym c.starts_with.ensures.value ∙ c.if-starts_with.true in
     let served = sym c.serve_records.ensures ∙ c.if-serve_records.true in
     let local_is = ap local_part (sym c.target.ensures) ∙ sym c.local_part.ensures ∙ ap option_copied c.in-Some.is in
-    let early = record_early s m local collection id starts served one two in
-    let whole = early_at s m local (is_bare_put m (method_in m Record)) (cc) local_is early in
-    λ e. c.ask_record.ensures.early (sym whole ∙ e)
+    let free = record_free s m local collection id starts served one two in
+    λ e. c.ask_record.ensures.early (sym free ∙ early_free s m local (cc) local_is e)
+
+pub returns-clause-early : goal.returns-clause-early
+returns-clause-early c =
+    let local_is = ap local_part (sym c.target.ensures) ∙ sym c.local_part.ensures ∙ ap option_copied c.in-Some.is in
+    λ e. c.ask_at.ensures.early (early_free c.args.routes.now c.args.request.now c.in-Some.local.now (cc) local_is e)

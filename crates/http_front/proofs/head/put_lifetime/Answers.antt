@@ -6,4 +6,4 @@ use Rattle.http_front.proofs.head.put_lifetime.Goals as goal
 pub returns-else-ttl-eq0-clause-text : goal.returns-else-ttl-eq0-clause-text
 returns-else-ttl-eq0-clause-text c =
     c.put_field.ensures.text
-    ∙ ap (λ t. take c.args.at c.args.room.now ++ t) (lifetime_line c.args.ttl _ c.if-ttl-eq0.false c.from.ensures)
+    ∙ ap (λ t. take c.args.at c.args.buffer.now ++ t) (lifetime_line c.args.ttl _ c.if-ttl-eq0.false c.from.ensures)

@@ -2,7 +2,7 @@ use Rattle.std.proofs.Common.{get_or, sym, ◌∙◌, codes, ◌||◌, ap₂}
 use Rattle.std.proofs.lemmas.List.{get_or_default}
 use Rattle.httparse.specs.declared.spans.HeaderSpan.{HeaderSpan}
 use Rattle.std.specs.Str.{str_eq_ignore_ascii_case}
-use Rattle.http_message.proofs.FieldLemmas.{any_more, any_kept, any_nil}
+use Rattle.http_message.proofs.FieldLemmas.{any_more, any_last, any_nil}
 use Rattle.http_message.proofs.fields.expects.Goals as goal
 
 pub loop-field-init : goal.loop-field-init
@@ -17,7 +17,7 @@ returns-then-is_expectation c =
     let below = c.loop-field-test.true in
     let more = any_more (λ value. str_eq_ignore_ascii_case value (codes "100-continue")) c.args.text.now (codes "expect") fields i field below
     (get_or_default fields i none field below) in
-    sym (any_kept (λ value. str_eq_ignore_ascii_case value (codes "100-continue")) c.args.text.now (codes "expect") fields _
+    sym (any_last (λ value. str_eq_ignore_ascii_case value (codes "100-continue")) c.args.text.now (codes "expect") fields _
     (more ∙ ap₂ (λ a b. a || b) c.loop-field.invariant (sym c.is_expectation.ensures ∙ c.if-is_expectation.true)))
 
 pub loop-field-preserved : goal.loop-field-preserved

@@ -2,7 +2,7 @@ use Rattle.std.proofs.Common.{get_or, sym, ◌∙◌, ◌||◌, ap₂}
 use Rattle.std.proofs.lemmas.List.{get_or_default}
 use Rattle.httparse.specs.declared.spans.HeaderSpan.{HeaderSpan}
 use Rattle.http_message.specs.Fields.{has_option}
-use Rattle.http_message.proofs.FieldLemmas.{any_more, any_kept, any_nil}
+use Rattle.http_message.proofs.FieldLemmas.{any_more, any_last, any_nil}
 use Rattle.http_message.proofs.fields.lists.Goals as goal
 
 pub loop-field-init : goal.loop-field-init
@@ -17,7 +17,7 @@ returns-then-is_listed c =
     let below = c.loop-field-test.true in
     let more = any_more (has_option c.args.option.now) c.args.text.now c.args.name.now fields i field below
     (get_or_default fields i none field below) in
-    sym (any_kept (has_option c.args.option.now) c.args.text.now c.args.name.now fields _
+    sym (any_last (has_option c.args.option.now) c.args.text.now c.args.name.now fields _
     (more ∙ ap₂ (λ a b. a || b) c.loop-field.invariant (sym c.is_listed.ensures ∙ c.if-is_listed.true)))
 
 pub loop-field-preserved : goal.loop-field-preserved

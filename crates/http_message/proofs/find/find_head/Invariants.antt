@@ -1,7 +1,7 @@
 use Rattle.std.proofs.Common.{◌-◌, length}
-use Rattle.http_message.specs.Found.{IsUnread}
+use Rattle.http_message.specs.HeadFound.{IsUnread}
 use Rattle.http_message.specs.Input.{Grows}
-use Rattle.http_message.specs.Scan.{IsScanned}
+use Rattle.http_message.specs.HeadScan.{IsScanned}
 use Rattle.http_message.specs.Text.{window}
 use Rattle.http_message.specs.Limits.{head_limit}
 use Rattle.http_message.proofs.find.find_head.Given as goal

@@ -1,6 +1,6 @@
 use Rattle.std.proofs.Common.{sym, arith, ◌∙◌}
 use Rattle.std.proofs.lemmas.List.{length-take-le, take_all}
-use Rattle.http_message.proofs.FrontLemmas.{window_is}
+use Rattle.http_message.proofs.BeginningLemmas.{window_is}
 use Rattle.http_message.specs.Limits.{head_limit}
 use Rattle.http_message.proofs.find.window.Goals as goal
 

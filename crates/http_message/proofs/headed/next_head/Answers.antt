@@ -1,15 +1,15 @@
 use Rattle.std.proofs.Common.{◌+◌, arith, lit≤}
 use Rattle.http_message.specs.Limits.{head_limit}
-use Rattle.http_message.proofs.ItemLemmas.{headed_bad, heads_grow, bad_first, item_return, item_large}
+use Rattle.http_message.proofs.ItemLemmas.{headed_bad, heads_grow, bad_first, item_bare_cr, item_large}
 use Rattle.http_message.proofs.headed.next_head.Goals as goal
 
-pub returns-in-Ok-BareReturn : goal.returns-in-Ok-BareReturn
-returns-in-Ok-BareReturn g c =
-    let found = rw c.in-Ok-BareReturn.field-0-is at c.in-Ok-BareReturn.ensures.found in
+pub returns-in-Ok-BareCr : goal.returns-in-Ok-BareCr
+returns-in-Ok-BareCr g c =
+    let found = rw c.in-Ok-BareCr.field-0-is at c.in-Ok-BareCr.ensures.found in
     heads_grow _ _ _ c.find_head.new.input _ _ _ c.find_head.ensures.grows c.refuse.result
     (headed_bad _ _ _ _ c.refuse.result _ _ c.refuse.ensures.is
-    (bad_first c.find_head.new.input c.refuse.new.input _ (c.in-Ok-BareReturn.lead + 2)
-    (item_return c.find_head.new.input c.in-Ok-BareReturn.lead found) c.refuse.ensures.skips (omega arith) found.limit found.within))
+    (bad_first c.find_head.new.input c.refuse.new.input _ (c.in-Ok-BareCr.empty_lines + 2)
+    (item_bare_cr c.find_head.new.input c.in-Ok-BareCr.empty_lines found) c.refuse.ensures.skips (omega arith) found.limit found.within))
 
 pub returns-in-Ok-TooLarge : goal.returns-in-Ok-TooLarge
 returns-in-Ok-TooLarge g c =

@@ -1,6 +1,6 @@
 use Rattle.std.proofs.Common.{sym, ◌∙◌, ap, codes, ℕ, List, inr}
 use Rattle.std.specs.Str.{bytes_eq}
-use Rattle.http_message.proofs.HeadLemmas.{framing_at, calls_at, head_at}
+use Rattle.http_message.proofs.HeadLemmas.{framing_at, expects_at, head_at}
 use Rattle.http_message.proofs.judge.judge_head.Goals as goal
 
 pub returns-in-Ok : goal.returns-in-Ok
@@ -14,8 +14,8 @@ returns-in-Ok c =
       head = head;
       at = at;
       framing_is = framing_at text spans parts head at ∙ sym c.framing_in.ensures ∙ c.in-Ok.is;
-      called_is = c.calls.ensures ∙ sym (calls_at text spans parts head c.in-Ok.framing at);
-      heads_is = c.is_head.ensures ∙ ap (λ (method : List ℕ). bytes_eq method (codes "HEAD")) c.of.ensures
+      expected_is = c.expects_continue.ensures ∙ sym (expects_at text spans parts head c.in-Ok.framing at);
+      heads_is = c.is_head_request.ensures ∙ ap (λ (method : List ℕ). bytes_eq method (codes "HEAD")) c.of.ensures
           ∙ sym (head_at text spans parts head at);
     }
 

@@ -21,7 +21,7 @@ returns-in-Some c =
     let bytes = c.args.bytes.now in
     let at = c.args.passed in
     let found = rw take_rest at c.in-Some.ensures in
-    line_ends bytes (at + c.in-Some.place)
-    (passes_line_run bytes (drop at bytes) at c.in-Some.place refl (omega (arith, found.0.high)) found.0.before c.requires)
+    line_ends bytes (at + c.in-Some.offset)
+    (passes_line_run bytes (drop at bytes) at c.in-Some.offset refl (omega (arith, found.0.high)) found.0.before c.requires)
     (omega (arith, found.0.high, length-drop at bytes))
-    (sym (get_or-drop at bytes c.in-Some.place 0) ∙ eqb-true (get_or (drop at bytes) c.in-Some.place 0) 10 found.1)
+    (sym (get_or-drop at bytes c.in-Some.offset 0) ∙ eqb-true (get_or (drop at bytes) c.in-Some.offset 0) 10 found.1)

@@ -9,7 +9,7 @@ returns-in_err-refused-clause-next g c message =
     let heads = c.in_err-refused.ensures in
     let p = err_from_is_err_and c.from_residual.result c.from_residual.ensures.1 in
     rw (p.1, p.2, ← c.buffers.view_is)
-    (stops_early _ _ c.buffers.inside.input heads.got c.args.place message heads.took _ _ c.in_err-refused.field-0.0 heads.is)
+    (stops_early _ _ c.buffers.inside.input heads.got c.args.offset message heads.took _ _ c.in_err-refused.field-0.0 heads.is)
 
 pub returns-in_err-size-clause-next : goal.returns-in_err-size-clause-next
 returns-in_err-size-clause-next g c message =
@@ -17,7 +17,7 @@ returns-in_err-size-clause-next g c message =
     let body = c.in_err-size.ensures in
     let p = err_from_is_err_and c.from_residual-in_err-size.result c.from_residual-in_err-size.ensures.1 in
     rw (p.1, p.2, ← c.buffers.view_is)
-    (stops_late _ _ c.buffers.inside.input heads.got c.args.place message heads.took _ _ c.next_head.new.input c.next_head.new.text
+    (stops_late _ _ c.buffers.inside.input heads.got c.args.offset message heads.took _ _ c.next_head.new.input c.next_head.new.text
     c.next_head.new.spans c.in-Framed.head heads.is _ body.got body.took c.in_ok-give_continue.ensures.gave _
     c.in_err-size.field-0.0 body.came)
 
@@ -40,7 +40,7 @@ returns-clause-next g c message =
       ← c.buffers.view_is,
     ) (
       (
-        takes_request _ _ inside.input heads.got c.args.place message heads.took _ _ c.next_head.new.input c.next_head.new.text
+        takes_request _ _ inside.input heads.got c.args.offset message heads.took _ _ c.next_head.new.input c.next_head.new.text
             c.next_head.new.spans c.in-Framed.head heads.is _ body.got body.took c.in_ok-give_continue.ensures.gave
             c.take_body.new.input c.take_body.new.body body.came.used c.in-Whole.size c.in-Whole.used _
             body.came.splits body.came.says refl,
@@ -61,13 +61,13 @@ returns-in-Broken-clause-next g c message =
     let inside = c.buffers.inside in
     let heads = rw c.in-Framed.is at c.in_ok-refused.ensures in
     let body = rw c.in-Broken.is at c.in_ok-size.ensures in
-    rw (c.unframed-in-Broken.ensures.taken, c.unframed-in-Broken.ensures.kept, ← c.buffers.view_is) (
+    rw (c.unframed-in-Broken.ensures.taken, c.unframed-in-Broken.ensures.last_request, ← c.buffers.view_is) (
       (
-        c.in-Framed.head.calls,
-        takes_broken _ _ inside.input heads.got c.args.place message heads.took _ _ c.next_head.new.input c.next_head.new.text
+        c.in-Framed.head.expects_continue,
+        takes_broken _ _ inside.input heads.got c.args.offset message heads.took _ _ c.next_head.new.input c.next_head.new.text
             c.next_head.new.spans c.in-Framed.head heads.is _ body.got body.took c.in_ok-give_continue.ensures.gave
             c.take_body.new.input c.take_body.new.body body.came.used c.in-Broken.refused c.in-Broken.used
-            c.unframed-in-Broken.result.place _ body.came.splits body.came.says c.unframed-in-Broken.ensures.place,
+            c.unframed-in-Broken.result.offset _ body.came.splits body.came.says c.unframed-in-Broken.ensures.offset,
         refl,
       ),
       search rules,

@@ -6,16 +6,16 @@ use Rattle.http_message.proofs.request.take_body.Goals as goal
 
 pub returns-in_ok-take_exact-in-Sized : goal.returns-in_ok-take_exact-in-Sized
 returns-in_ok-take_exact-in-Sized g c =
-    let room = rw c.in-Sized.is at c.requires.room in
-    let long = c.take_exact.auto.into ∙ length-take-le c.in-Sized.size c.args.body.now (omega (arith, room, c.requires.body)) in
+    let fits = rw c.in-Sized.is at c.requires.fits in
+    let long = c.take_exact.auto.into ∙ length-take-le c.in-Sized.size c.args.body.now (omega (arith, fits, c.requires.body)) in
     rw c.in-Sized.is
     (sized_reads _ _ _ _ c.take_exact.new.into (drop c.in-Sized.size c.args.body.now) c.in-Sized.size long
-    c.in_ok-take_exact-in-Sized.field-0 room c.in_ok-take_exact-in-Sized.ensures)
+    c.in_ok-take_exact-in-Sized.field-0 fits c.in_ok-take_exact-in-Sized.ensures)
 
 pub returns-in_err-take_exact-in-Sized : goal.returns-in_err-take_exact-in-Sized
 returns-in_err-take_exact-in-Sized g c =
-    let room = rw c.in-Sized.is at c.requires.room in
-    let long = c.take_exact.auto.into ∙ length-take-le c.in-Sized.size c.args.body.now (omega (arith, room, c.requires.body)) in
+    let fits = rw c.in-Sized.is at c.requires.fits in
+    let long = c.take_exact.auto.into ∙ length-take-le c.in-Sized.size c.args.body.now (omega (arith, fits, c.requires.body)) in
     let p = err_from_is_err_and c.from_residual.result c.from_residual.ensures.1 in
     rw (c.in-Sized.is, p.1, p.2)
     (sized_stops _ _ _ _ c.take_exact.new.into (drop c.in-Sized.size c.args.body.now) c.in-Sized.size long

@@ -1,5 +1,5 @@
 use Rattle.std.proofs.Common.{◌-◌, length}
-use Rattle.http_message.specs.Scan.{Passes}
+use Rattle.http_message.specs.HeadScan.{Passes}
 use Rattle.http_message.proofs.scan.find_head_end.Given as goal
 
 abbrev pub invariant-loop-feed : goal.invariant-loop-feed

@@ -14,9 +14,9 @@ pub returns-in_err-size : goal.returns-in_err-size
 returns-in_err-size g c =
     let p = err_from_is_err_and c.from_residual.result c.from_residual.ensures.1 in
     rw (p.1, p.2)
-    (reads_short _ _ _ c.find_text.new.input _ (IsOpenIn Trailers c.room_behind-room.result) (λ (bytes : List ℕ). EndsCoding c.args.coded bytes Unfinished)
+    (reads_short _ _ _ c.find_text.new.input _ (IsOpenIn Trailers c.capacity_behind-capacity.result) (λ (bytes : List ℕ). EndsCoding c.args.coded bytes Unfinished)
     (IsEnding c.args.coded) c.in_err-size.field-0.0 c.find_text.ensures.grows
-    (trailers_short c.args.coded c.room_behind-room.result c.room_behind-room.ensures) c.in_err-size.ensures.found)
+    (trailers_short c.args.coded c.capacity_behind-capacity.result c.capacity_behind-capacity.ensures) c.in_err-size.ensures.found)
 
 pub slice_bounds-are_trailers-end : goal.slice_bounds-are_trailers-end
 slice_bounds-are_trailers-end g c =
@@ -27,7 +27,7 @@ pub overflow_add-coded : goal.overflow_add-coded
 overflow_add-coded g c =
     let found = rw c.in-Whole.is at c.in_ok-size.ensures.found in
     let most = (ends_within _ _ _ _ found).2 in
-    omega (arith, most, c.room_behind-room.ensures, c.requires.coded)
+    omega (arith, most, c.capacity_behind-capacity.ensures, c.requires.coded)
 
 pub skip-requires : goal.skip-requires
 skip-requires g c =
@@ -37,26 +37,26 @@ skip-requires g c =
 pub returns-then-whole : goal.returns-then-whole
 returns-then-whole g c =
     let found = rw c.in-Whole.is at c.in_ok-size.ensures.found in
-    reads_grown _ _ _ c.find_text.new.input _ c.in-Whole.size (IsOpenIn Trailers c.room_behind-room.result) (λ (bytes : List ℕ). EndsCoding c.args.coded bytes Unfinished)
+    reads_grown _ _ _ c.find_text.new.input _ c.in-Whole.size (IsOpenIn Trailers c.capacity_behind-capacity.result) (λ (bytes : List ℕ). EndsCoding c.args.coded bytes Unfinished)
     (IsEnding c.args.coded) _ c.find_text.ensures.grows c.skip.ensures
-    (trailers_short c.args.coded c.room_behind-room.result c.room_behind-room.ensures)
-    (trailers_whole c.args.coded c.room_behind-room.result c.in-Whole.size c.find_text.new.input c.room_behind-room.ensures found
+    (trailers_short c.args.coded c.capacity_behind-capacity.result c.capacity_behind-capacity.ensures)
+    (trailers_whole c.args.coded c.capacity_behind-capacity.result c.in-Whole.size c.find_text.new.input c.capacity_behind-capacity.ensures found
     (ends_within _ _ _ _ found).1 (rw c.bytes.ensures at (c.if-whole.ensures.yes refl)))
 
 pub returns-else-whole : goal.returns-else-whole
 returns-else-whole g c =
     let found = rw c.in-Whole.is at c.in_ok-size.ensures.found in
-    reads_grown _ _ _ c.find_text.new.input _ c.in-Whole.size (IsOpenIn Trailers c.room_behind-room.result) (λ (bytes : List ℕ). EndsCoding c.args.coded bytes Unfinished)
+    reads_grown _ _ _ c.find_text.new.input _ c.in-Whole.size (IsOpenIn Trailers c.capacity_behind-capacity.result) (λ (bytes : List ℕ). EndsCoding c.args.coded bytes Unfinished)
     (IsEnding c.args.coded) _ c.find_text.ensures.grows c.skip.ensures
-    (trailers_short c.args.coded c.room_behind-room.result c.room_behind-room.ensures)
-    (trailers_bad c.args.coded c.room_behind-room.result c.in-Whole.size c.find_text.new.input c.room_behind-room.ensures found
+    (trailers_short c.args.coded c.capacity_behind-capacity.result c.capacity_behind-capacity.ensures)
+    (trailers_bad c.args.coded c.capacity_behind-capacity.result c.in-Whole.size c.find_text.new.input c.capacity_behind-capacity.ensures found
     (ends_within _ _ _ _ found).1 (rw c.bytes.ensures at (c.if-whole.ensures.no refl)))
 
 pub returns-in-Overlong : goal.returns-in-Overlong
 returns-in-Overlong g c =
     let found = rw c.in-Overlong.is at c.in_ok-size.ensures.found in
     rw c.overlong_at.ensures
-    (reads_grown _ _ _ c.find_text.new.input _ c.room_behind-room.result (IsOpenIn Trailers c.room_behind-room.result) (λ (bytes : List ℕ). EndsCoding c.args.coded bytes Unfinished)
+    (reads_grown _ _ _ c.find_text.new.input _ c.capacity_behind-capacity.result (IsOpenIn Trailers c.capacity_behind-capacity.result) (λ (bytes : List ℕ). EndsCoding c.args.coded bytes Unfinished)
     (IsEnding c.args.coded) _ c.find_text.ensures.grows c.skip-in-Overlong.ensures
-    (trailers_short c.args.coded c.room_behind-room.result c.room_behind-room.ensures)
-    (trailers_overlong c.args.coded c.room_behind-room.result c.find_text.new.input c.room_behind-room.ensures found))
+    (trailers_short c.args.coded c.capacity_behind-capacity.result c.capacity_behind-capacity.ensures)
+    (trailers_overlong c.args.coded c.capacity_behind-capacity.result c.find_text.new.input c.capacity_behind-capacity.ensures found))

@@ -1,0 +1,346 @@
+-- Two connections over one history of their own, at the same bytes and moments.
+use Rattle.std.proofs.Common.{◌≡◌, ℕ, ◌+◌, ◌≤◌, ◌++◌, Bool, List, [], ◌∷◌, length, map, Result, Ok, Err, refl, sym, ap, ◌∙◌, subst, arith, append_assoc, append-nil, length-append}
+use Rattle.std.specs.List.{enumerate_from}
+use Rattle.std.proofs.lemmas.List.{append_cancel_left}
+use Rattle.dialogue.specs.Dialogue.{Sides, Exchange, Answered, Dialogue, pieces, is_last}
+use Rattle.dialogue.specs.EndLaw.{SameItems}
+use Rattle.http_front.specs.ReadBack.{RepliesHaveOneText}
+use Rattle.http_front.specs.ReplyText.{body_of}
+use Rattle.http_front.specs.declared.ask.Ask.{Ask}
+use Rattle.http_front.specs.declared.ask.Ask.TheVariants as asks
+use Rattle.http_front.specs.declared.refused.Refused.{Refused}
+use Rattle.http_front.specs.declared.refused.Refused.TheVariants.{NotBuilt}
+use Rattle.http_front.specs.declared.told.Told.{Told}
+use Rattle.http_front.specs.declared.told.Told.TheVariants as answers
+use Rattle.http_message.specs.Item.{Item}
+use Rattle.hub_desk.specs.Desk.{IsFrontOf}
+use Rattle.hub_model.specs.declared.entry.Entry.{Entry}
+use Rattle.hub_model.specs.declared.entry.Entry.TheVariants.{Read}
+use Rattle.hub_model.specs.declared.entry.Matched.{Matched}
+use Rattle.hub_model.specs.declared.entry.Tags.{Tags}
+use Rattle.hub_model.specs.Desk.{IsPrefix, Makes, Learns}
+use Rattle.hub_model.specs.Legal.{MayFollow, IsLegal, IsLegalFrom}
+use Rattle.hub_model.specs.Reply.{Replied, reply, wrote, read, matched, fetched, counted}
+use Rattle.hub_model.specs.Setting.{Setting}
+use Rattle.hub_model.specs.State.{State, start}
+use Rattle.hub_model.specs.Step.{after, after_all, state_of}
+use Rattle.q_outside.specs.declared.served.Served.{Served}
+use Rattle.query_normal.specs.declared.key.KeyShape.{KeyShape}
+use Rattle.quaestor_server.specs.Answer.{Serves, Fails, IsAnswer, serves, fails, has_entry}
+use Rattle.quaestor_server.specs.Ask.{asked_by, shape_by, IsEntryOf, IsToldOf, IsFresh}
+use Rattle.quaestor_server.specs.Conversation.{RepliesAt, ConnectionState, Replies}
+use Rattle.quaestor_server.specs.TextsAreDetermined.{IsAlone}
+use Rattle.quaestor_server.proofs.TextLemmas.{same_text}
+
+-- a list is as long as its numbered elements
+length_numbered : (n : ℕ) (es : List Entry) → length (enumerate_from n es) ≡ length es
+length_numbered n [] = refl
+length_numbered n (e ∷ es) = omega (arith, length_numbered (n + 1) es)
+
+-- a beginning is shorter by what follows it
+length_prefix : (xs ys : List Entry) (p : IsPrefix xs ys) → length ys ≡ length xs + length p.0
+length_prefix xs ys p = ap (λ (l : List Entry). length l) (sym p.1) ∙ length-append xs p.0
+
+-- a list of length zero is empty
+empty_is : (xs : List Entry) → length xs ≡ 0 → xs ≡ []
+empty_is [] h = refl
+empty_is (x ∷ xs) h = absurd (omega (arith, h))
+
+-- a beginning that is as long is the whole
+prefix_whole : (xs ys : List Entry) (p : IsPrefix xs ys) → length p.0 ≡ 0 → ys ≡ xs
+prefix_whole xs ys p none = sym p.1 ∙ ap (λ (l : List Entry). xs ++ l) (empty_is p.0 none) ∙ append-nil xs
+
+-- by how much a call makes the history and the own entries longer
+record IsMore (old new : List Entry) (mine mine_new : List (ℕ × Entry)) (others own : ℕ) : Type 0 where
+  seen_is : length new ≡ length old + others + own
+  mine_is : length mine_new ≡ length mine + own
+
+makes_more : (g : Setting) (old new : List Entry) (mine mine_new : List (ℕ × Entry)) (e : Entry) (told : Replied) (m : Makes g old new mine mine_new e told) → IsMore old new mine mine_new (length m.grew.0) (length m.helps + 1)
+makes_more g old new mine mine_new e told m =
+    let first : length m.before ≡ length old + length m.grew.0 = length_prefix old m.before m.grew in
+    let all : length new ≡ length (m.before ++ m.helps) + 1 = ap (λ (l : List Entry). length l) m.seen ∙ length-append (m.before ++ m.helps) (e ∷ []) in
+    let both : length (m.before ++ m.helps) ≡ length m.before + length m.helps = length-append m.before m.helps in
+    let own : length (m.helps ++ e ∷ []) ≡ length m.helps + 1 = length-append m.helps (e ∷ []) in
+    let placed : length (enumerate_from (length m.before) (m.helps ++ e ∷ [])) ≡ length (m.helps ++ e ∷ []) = length_numbered (length m.before) (m.helps ++ e ∷ []) in
+    let more : length mine_new ≡ length mine + length (enumerate_from (length m.before) (m.helps ++ e ∷ [])) = ap (λ (l : List (ℕ × Entry)). length l) m.mine ∙ length-append mine (enumerate_from (length m.before) (m.helps ++ e ∷ [])) in
+    record { seen_is = omega (arith, first, all, both); mine_is = omega (arith, own, placed, more) }
+
+learns_more : (g : Setting) (old new : List Entry) (mine mine_new : List (ℕ × Entry)) (l : Learns g old new mine mine_new) → IsMore old new mine mine_new (length l.grew.0) 0
+learns_more g old new mine mine_new l =
+    let first : length new ≡ length old + length l.grew.0 = length_prefix old new l.grew in
+    let same : length mine_new ≡ length mine = ap (λ (x : List (ℕ × Entry)). length x) l.mine in
+    record { seen_is = omega (arith, first); mine_is = omega (arith, same) }
+
+-- the history grows by no less than the own entries
+record Grows (a b : ConnectionState) : Type 0 where
+  least : length a.seen + length b.mine ≤ length b.seen + length a.mine
+
+replies_grow : (g : Setting) (a b : ConnectionState) (item : Item) (close : Bool) (text : List ℕ) → Replies g a item close text b → Grows a b
+replies_grow g a b item close text r = elim r.at.answer [
+  | serves s ↦ let m = makes_more g a.seen b.seen a.mine b.mine s.entry s.replied s.made in record { least = omega (arith, m.seen_is, m.mine_is) }
+  | fails f ↦ let m = learns_more g a.seen b.seen a.mine b.mine f.learns in record { least = omega (arith, m.seen_is, m.mine_is) }
+]
+
+answered_grow : (g : Setting) (count : ℕ) (first last : ConnectionState) (xs : List Exchange) → Answered (Replies g) count first xs last → Grows first last
+answered_grow g count first last [] t = subst (λ (s : ConnectionState). Grows first s) t (record { least = omega arith })
+answered_grow g count first last (x ∷ xs) t =
+    let here = replies_grow g first t.0 x.item (is_last count x.item) x.answer t.1 in
+    let rest = answered_grow g (count + 1) t.0 last xs t.2 in
+    record { least = omega (arith, here.least, rest.least) }
+
+-- an entry that is last in a legal history may follow the others
+legal_last : (g : Setting) (s : State) (es : List Entry) (e : Entry) → IsLegalFrom g s (es ++ e ∷ []) → MayFollow g (after_all g s es) e
+legal_last g s [] e l = l.0
+legal_last g s (x ∷ es) e l = legal_last g (after g s x) es e l.1
+
+may_follow : (g : Setting) (history : List Entry) (e : Entry) → IsLegal g (history ++ e ∷ []) → MayFollow g (state_of g history) e
+unfolding IsLegal state_of
+may_follow g history e l = legal_last g start history e l
+
+-- a call that served among no others' entries, said of the history that was known
+record IsPlain (g : Setting) (old new : List Entry) (mine mine_new : List (ℕ × Entry)) (moment : ℕ) (asked : Result Ask Refused) (e : Entry) (replied : Replied) : Type 0 where
+  seen_is : new ≡ old ++ e ∷ []
+  mine_is : mine_new ≡ mine ++ enumerate_from (length old) (e ∷ [])
+  is_of : IsEntryOf asked moment (state_of g old) e
+  may : MayFollow g (state_of g old) e
+  told_is : replied ≡ reply g old e
+
+plain : (g : Setting) (old new : List Entry) (mine mine_new : List (ℕ × Entry)) (moment : ℕ) (asked : Result Ask Refused) (told : Told) (page : List ℕ) (s : Serves g old new mine mine_new moment asked told page) → length new + length mine ≡ length old + length mine_new → IsPlain g old new mine mine_new moment asked s.entry s.replied
+plain g old new mine mine_new moment asked told page s alone =
+    let m = s.made in
+    let more = makes_more g old new mine mine_new s.entry s.replied m in
+    let before : m.before ≡ old = prefix_whole old m.before m.grew (omega (arith, alone, more.seen_is, more.mine_is)) in
+    let helps : m.helps ≡ [] = m.helped in
+    let ahead : m.before ++ m.helps ≡ old = ap (λ (l : List Entry). l ++ m.helps) before ∙ ap (λ (l : List Entry). old ++ l) helps ∙ append-nil old in
+    let whole : new ≡ old ++ s.entry ∷ [] = m.seen ∙ ap (λ (l : List Entry). l ++ s.entry ∷ []) ahead in
+    record {
+      seen_is = whole;
+      mine_is = m.mine ∙ ap (λ (l : List Entry). mine ++ enumerate_from (length l) (m.helps ++ s.entry ∷ [])) before ∙ ap (λ (l : List Entry). mine ++ enumerate_from (length old) (l ++ s.entry ∷ [])) helps;
+      is_of = subst (λ (l : List Entry). IsEntryOf asked moment (state_of g l) s.entry) ahead s.is_of;
+      may = may_follow g old s.entry (subst (λ (l : List Entry). IsLegal g l) whole m.legal);
+      told_is = m.told_is ∙ ap (λ (l : List Entry). reply g l s.entry) ahead;
+    }
+
+-- a read among no others' entries is of the last commit
+read_at : (g : Setting) (known : List Entry) (e : Entry) (moment : ℕ) (key : KeyShape) (tags : Tags) (at : ℕ) → e ≡ Read moment key tags at → IsFresh g known e → MayFollow g (state_of g known) e → at ≡ length (state_of g known).journal
+read_at g known e moment key tags at is fresh may =
+    let low : length (state_of g known).journal ≤ at = subst (λ (x : Entry). IsFresh g known x) is fresh in
+    let high : MayFollow g (state_of g known) (Read moment key tags at) = subst (λ (x : Entry). MayFollow g (state_of g known) x) is may in
+    omega (arith, low, high.1)
+
+-- an ask has one entry there
+same_entry : (g : Setting) (known : List Entry) (asked : Result Ask Refused) (moment : ℕ) (e f : Entry) → IsEntryOf asked moment (state_of g known) e → IsEntryOf asked moment (state_of g known) f → IsFresh g known e → IsFresh g known f → MayFollow g (state_of g known) e → MayFollow g (state_of g known) f → e ≡ f
+same_entry g known (Ok (asks.Write change condition)) moment e f p q fresh again may might = p ∙ sym q
+same_entry g known (Ok (asks.Read key tags head)) moment e f p q fresh again may might =
+    let first = read_at g known e moment key tags p.0 p.1 fresh may in
+    let second = read_at g known f moment key tags q.0 q.1 again might in
+    p.1 ∙ ap (λ (n : ℕ). Read moment key tags n) (first ∙ sym second) ∙ sym q.1
+same_entry g known (Ok asks.MatchAll) moment e f p q fresh again may might = p ∙ sym q
+same_entry g known (Ok (asks.Fetch head)) moment e f p q fresh again may might = p ∙ sym q
+same_entry g known (Ok (asks.Query collection fields head)) moment e f p q fresh again may might = p ∙ sym q
+same_entry g known (Ok (asks.Purges fields head)) moment e f p q fresh again may might = p ∙ sym q
+same_entry g known (Ok (asks.Stats head)) moment e f p q fresh again may might = p ∙ sym q
+same_entry g known (Err refused) moment e f p q fresh again may might = p ∙ sym q
+
+-- a reply has one front
+same_front : (replied : Replied) (m n : Matched) → IsFrontOf replied m → IsFrontOf replied n → m ≡ n
+same_front (wrote written) m n p q = absurd p
+same_front (read answer) m n p q = absurd p
+same_front (matched match) m n p q = p ∙ sym q
+same_front (fetched page) m n p q = absurd p
+same_front (counted stats) m n p q = p ∙ sym q
+
+-- two replies to one entry are equal, and so are their bodies
+record IsSame (told again : Told) (page other : List ℕ) : Type 0 where
+  told_is : told ≡ again
+  body_is : body_of told page ≡ body_of told other
+
+-- a body that is no page has no page in it
+same_body : (told is : Told) (page other : List ℕ) → told ≡ is → body_of is page ≡ body_of is other → body_of told page ≡ body_of told other
+same_body told is page other e h = subst (λ (t : Told). body_of t page ≡ body_of t other) (sym e) h
+
+-- an entry has one reply
+same_told : (asked : Result Ask Refused) (replied : Replied) (told again : Told) (page other : List ℕ) → IsToldOf asked replied told page → IsToldOf asked replied again other → IsSame told again page other
+same_told (Ok (asks.Write change condition)) (wrote written) told again page other p q = record { told_is = p ∙ sym q; body_is = same_body told (answers.Write written) page other p refl }
+same_told (Ok (asks.Read key tags head)) (read answer) told again page other p q = record { told_is = p ∙ sym q; body_is = same_body told (answers.Read answer) page other p refl }
+same_told (Ok asks.MatchAll) replied told again page other p q =
+    record { told_is = p.2 ∙ ap answers.Match (same_front replied p.0 q.0 p.1 q.1) ∙ sym q.2; body_is = same_body told (answers.Match p.0) page other p.2 refl }
+same_told (Ok (asks.Fetch head)) (fetched stored) told again page other p q = record { told_is = p.0 ∙ sym q.0; body_is = same_body told (answers.Page stored.moment) page other p.0 (p.1 ∙ sym q.1) }
+same_told (Ok (asks.Query collection fields head)) (counted stats) told again page other p q = record { told_is = p ∙ sym q; body_is = same_body told (answers.Refusal NotBuilt stats.clock) page other p refl }
+same_told (Ok (asks.Purges fields head)) (counted stats) told again page other p q = record { told_is = p ∙ sym q; body_is = same_body told (answers.Refusal NotBuilt stats.clock) page other p refl }
+same_told (Ok (asks.Stats head)) (counted stats) told again page other p q = record { told_is = p ∙ sym q; body_is = same_body told (answers.Count stats) page other p refl }
+same_told (Err refused) (counted stats) told again page other p q = record { told_is = p ∙ sym q; body_is = same_body told (answers.Refusal refused stats.clock) page other p refl }
+same_told _ _ told again page other p q = absurd p
+
+-- the same entry, or none, and its reply
+record IsOne (new other : List Entry) (mine again : List (ℕ × Entry)) (told once : Told) (page pages : List ℕ) : Type 0 where
+  seen_is : new ≡ other
+  mine_is : mine ≡ again
+  told_is : IsSame told once page pages
+
+-- Two calls at the same desk and the same moment, among no others' entries.
+module _ (g : Setting) (old new other : List Entry) (mine mine_new again : List (ℕ × Entry)) (moment : ℕ) (asked : Result Ask Refused) (told once : Told) (page pages : List ℕ) (alone : length new + length mine ≡ length old + length mine_new) (lone : length other + length mine ≡ length old + length again) where
+  -- they served alike
+  same_served : (s : Serves g old new mine mine_new moment asked told page) (t : Serves g old other mine again moment asked once pages) → IsOne new other mine_new again told once page pages
+  same_served s t =
+      let p = plain g old new mine mine_new moment asked told page s alone in
+      let q = plain g old other mine again moment asked once pages t lone in
+      let e : s.entry ≡ t.entry = same_entry g old asked moment s.entry t.entry p.is_of q.is_of s.fresh t.fresh p.may q.may in
+      let replied : t.replied ≡ s.replied = q.told_is ∙ ap (λ (x : Entry). reply g old x) (sym e) ∙ sym p.told_is in
+      record {
+        seen_is = p.seen_is ∙ ap (λ (x : Entry). old ++ x ∷ []) e ∙ sym q.seen_is;
+        mine_is = p.mine_is ∙ ap (λ (x : Entry). mine ++ enumerate_from (length old) (x ∷ [])) e ∙ sym q.mine_is;
+        told_is = same_told asked s.replied told once page pages s.told_is (subst (λ (r : Replied). IsToldOf asked r once pages) replied t.told_is);
+      }
+
+  -- they failed alike
+  same_failed : Fails g old new mine mine_new told → Fails g old other mine again once → IsOne new other mine_new again told once page pages
+  same_failed f h =
+      let more = learns_more g old new mine mine_new f.learns in
+      let less = learns_more g old other mine again h.learns in
+      let here : new ≡ old = prefix_whole old new f.learns.grew (omega (arith, alone, more.seen_is, more.mine_is)) in
+      let there : other ≡ old = prefix_whole old other h.learns.grew (omega (arith, lone, less.seen_is, less.mine_is)) in
+      record {
+        seen_is = here ∙ sym there;
+        mine_is = f.learns.mine ∙ sym h.learns.mine;
+        told_is = record { told_is = f.told_is ∙ sym h.told_is; body_is = same_body told answers.Memory page pages f.told_is refl };
+      }
+
+  -- so they answered alike
+  same_answer : (x : IsAnswer g old new mine mine_new moment asked told page) (y : IsAnswer g old other mine again moment asked once pages) → has_entry x ≡ has_entry y → IsOne new other mine_new again told once page pages
+  same_answer (serves s) (serves t) same = same_served s t
+  same_answer (serves s) (fails h) same = absurd (cc)
+  same_answer (fails f) (serves t) same = absurd (cc)
+  same_answer (fails f) (fails h) same = same_failed f h
+
+-- two connection states with the same parts are equal
+connection_state_is : (b c : ConnectionState) → b.seen ≡ c.seen → b.mine ≡ c.mine → b.moments ≡ c.moments → b.entered ≡ c.entered → b ≡ c
+connection_state_is b c p q r s =
+    let with_seen : List Entry → ConnectionState = λ l. record { seen = l; mine = b.mine; moments = b.moments; entered = b.entered } in
+    let with_mine : List (ℕ × Entry) → ConnectionState = λ l. record { seen = c.seen; mine = l; moments = b.moments; entered = b.entered } in
+    let with_moments : List ℕ → ConnectionState = λ l. record { seen = c.seen; mine = c.mine; moments = l; entered = b.entered } in
+    let with_entered : List Bool → ConnectionState = λ l. record { seen = c.seen; mine = c.mine; moments = c.moments; entered = l } in
+    ap with_seen p ∙ ap with_mine q ∙ ap with_moments r ∙ ap with_entered s
+
+-- so are two exchanges
+exchange_is : (x y : Exchange) → x.piece ≡ y.piece → x.item ≡ y.item → x.answer ≡ y.answer → x ≡ y
+exchange_is x y p q r =
+    let with_piece : List ℕ → Exchange = λ l. record { piece = l; item = x.item; answer = x.answer } in
+    let with_item : Item → Exchange = λ i. record { piece = y.piece; item = i; answer = x.answer } in
+    let with_answer : List ℕ → Exchange = λ l. record { piece = y.piece; item = y.item; answer = l } in
+    ap with_piece p ∙ ap with_item q ∙ ap with_answer r
+
+-- two replies at one moment, both with an entry or neither
+record IsOneReply (b c : ConnectionState) (text more : List ℕ) : Type 0 where
+  seen_is : b.seen ≡ c.seen
+  mine_is : b.mine ≡ c.mine
+  text_is : text ≡ more
+
+same_at : RepliesHaveOneText → (g : Setting) (a b c : ConnectionState) (item : Item) (close : Bool) (text more : List ℕ) (m n : ℕ) → m ≡ n → IsAlone a b → IsAlone a c → (x : RepliesAt g a.seen b.seen a.mine b.mine m item close text) (y : RepliesAt g a.seen c.seen a.mine c.mine n item close more) → has_entry x.answer ≡ has_entry y.answer → IsOneReply b c text more
+same_at texts g a b c item close text more m n e alone lone x y h =
+    let P : ℕ → Type 0 = λ k. (z : RepliesAt g a.seen c.seen a.mine c.mine k item close more) → has_entry x.answer ≡ has_entry z.answer → IsOneReply b c text more in
+    let here : P m = λ z same.
+    let one = same_answer g a.seen b.seen c.seen a.mine b.mine c.mine m (asked_by item) x.told z.told x.page z.page alone lone x.answer z.answer same in
+    record {
+      seen_is = one.seen_is;
+      mine_is = one.mine_is;
+      text_is = same_text texts (shape_by item) x.told z.told x.page z.page close text more one.told_is.told_is one.told_is.body_is x.text_is z.text_is;
+    } in
+    (subst P e here) y h
+
+-- two replies from one connection state are equal
+record IsOneStep (b c : ConnectionState) (text more : List ℕ) : Type 0 where
+  connection_state : b ≡ c
+  text_is : text ≡ more
+
+same_replies : RepliesHaveOneText → (g : Setting) (a b c : ConnectionState) (item : Item) (close : Bool) (text more : List ℕ) (p : Replies g a item close text b) (q : Replies g a item close more c) → IsAlone a b → IsAlone a c → p.moment ≡ q.moment → has_entry p.at.answer ≡ has_entry q.at.answer → IsOneStep b c text more
+same_replies texts g a b c item close text more p q alone lone moments entries =
+    let one = same_at texts g a b c item close text more p.moment q.moment moments alone lone p.at q.at entries in
+    record {
+      connection_state = connection_state_is b c one.seen_is one.mine_is
+          (p.moments_are ∙ ap (λ (m : ℕ). a.moments ++ m ∷ []) moments ∙ sym q.moments_are)
+          (p.entered_are ∙ ap (λ (v : Bool). a.entered ++ v ∷ []) entries ∙ sym q.entered_are);
+      text_is = one.text_is;
+    }
+
+-- what was added to moments and entries
+record IsAppended (first last : ConnectionState) : Type 0 where
+  moments : List ℕ
+  moments_are : last.moments ≡ first.moments ++ moments
+  entered : List Bool
+  entered_are : last.entered ≡ first.entered ++ entered
+
+appended : (g : Setting) (count : ℕ) (first last : ConnectionState) (xs : List Exchange) → Answered (Replies g) count first xs last → IsAppended first last
+appended g count first last [] t = subst (λ (s : ConnectionState). IsAppended first s) t (record { moments = []; moments_are = sym (append-nil first.moments); entered = []; entered_are = sym (append-nil first.entered) })
+appended g count first last (x ∷ xs) t =
+    let r = t.1 in
+    let rest = appended g (count + 1) t.0 last xs t.2 in
+    record {
+      moments = r.moment ∷ rest.moments;
+      moments_are = rest.moments_are ∙ ap (λ (l : List ℕ). l ++ rest.moments) r.moments_are ∙ append_assoc first.moments (r.moment ∷ []) rest.moments;
+      entered = has_entry r.at.answer ∷ rest.entered;
+      entered_are = rest.entered_are ∙ ap (λ (l : List Bool). l ++ rest.entered) r.entered_are ∙ append_assoc first.entered (has_entry r.at.answer ∷ []) rest.entered;
+    }
+
+-- equal lists have the same element after the same prefix
+same_next : {A : Type 0} (ahead : List A) (x y : A) (xs ys l k n m : List A) → l ≡ n ++ xs → n ≡ ahead ++ x ∷ [] → k ≡ m ++ ys → m ≡ ahead ++ y ∷ [] → l ≡ k → x ≡ y
+same_next {A} ahead x y xs ys l k n m a b c d same =
+    let first : l ≡ ahead ++ x ∷ xs = a ∙ ap (λ (z : List A). z ++ xs) b ∙ append_assoc ahead (x ∷ []) xs in
+    let second : k ≡ ahead ++ y ∷ ys = c ∙ ap (λ (z : List A). z ++ ys) d ∙ append_assoc ahead (y ∷ []) ys in
+    let rest : x ∷ xs ≡ y ∷ ys = append_cancel_left ahead (x ∷ xs) (y ∷ ys) (sym first ∙ same ∙ second) in
+    cc
+
+-- what two connections share
+record IsSameConversation (last other : ConnectionState) (xs ys : List Exchange) : Type 0 where
+  connection_state : last ≡ other
+  exchanges : xs ≡ ys
+
+one_by : RepliesHaveOneText → (g : Setting) (count : ℕ) (first last other : ConnectionState) (xs ys : List Exchange) → Answered (Replies g) count first xs last → Answered (Replies g) count first ys other → map (λ (x : Exchange). x.piece) xs ≡ map (λ (y : Exchange). y.piece) ys → map (λ (x : Exchange). x.item) xs ≡ map (λ (y : Exchange). y.item) ys → IsAlone first last → IsAlone first other → last.moments ≡ other.moments → last.entered ≡ other.entered → IsSameConversation last other xs ys
+one_by texts g count first last other [] [] t u ps is alone lone moments entered = record { connection_state = sym t ∙ u; exchanges = refl }
+one_by texts g count first last other [] (y ∷ ys) t u ps is alone lone moments entered = absurd (cc)
+one_by texts g count first last other (x ∷ xs) [] t u ps is alone lone moments entered = absurd (cc)
+one_by texts g count first last other (x ∷ xs) (y ∷ ys) t u ps is alone lone moments entered =
+    let piece_is : x.piece ≡ y.piece = cc in
+    let item_is : x.item ≡ y.item = cc in
+    let pieces_are : map (λ (x : Exchange). x.piece) xs ≡ map (λ (y : Exchange). y.piece) ys = cc in
+    let items_are : map (λ (x : Exchange). x.item) xs ≡ map (λ (y : Exchange). y.item) ys = cc in
+    let p = t.1 in
+    let q : Replies g first x.item (is_last count x.item) y.answer u.0 = subst (λ (i : Item). Replies g first i (is_last count i) y.answer u.0) (sym item_is) u.1 in
+    let after_p = appended g (count + 1) t.0 last xs t.2 in
+    let after_q = appended g (count + 1) u.0 other ys u.2 in
+    let moment : p.moment ≡ q.moment = same_next first.moments p.moment q.moment after_p.moments after_q.moments last.moments other.moments t.0.moments u.0.moments after_p.moments_are p.moments_are after_q.moments_are q.moments_are moments in
+    let entry : has_entry p.at.answer ≡ has_entry q.at.answer = same_next first.entered (has_entry p.at.answer) (has_entry q.at.answer) after_p.entered after_q.entered last.entered other.entered t.0.entered u.0.entered after_p.entered_are p.entered_are after_q.entered_are q.entered_are entered in
+    let grows_p = replies_grow g first t.0 x.item (is_last count x.item) x.answer p in
+    let grows_q = replies_grow g first u.0 x.item (is_last count x.item) y.answer q in
+    let rest_p = answered_grow g (count + 1) t.0 last xs t.2 in
+    let rest_q = answered_grow g (count + 1) u.0 other ys u.2 in
+    let here = same_replies texts g first t.0 u.0 x.item (is_last count x.item) x.answer y.answer p q (omega (arith, alone, grows_p.least, rest_p.least)) (omega (arith, lone, grows_q.least, rest_q.least)) moment entry in
+    let behind_q : Answered (Replies g) (count + 1) t.0 ys other = subst (λ (s : ConnectionState). Answered (Replies g) (count + 1) s ys other) (sym here.connection_state) u.2 in
+    let lone_behind : IsAlone u.0 other = omega (arith, lone, grows_q.least, rest_q.least) in
+    let rest = one_by texts g (count + 1) t.0 last other xs ys t.2 behind_q pieces_are items_are (omega (arith, alone, grows_p.least, rest_p.least)) (subst (λ (s : ConnectionState). IsAlone s other) (sym here.connection_state) lone_behind) moments entered in
+    let exchange : x ≡ y = exchange_is x y piece_is item_is here.text_is in
+    let exchanges : xs ≡ ys = rest.exchanges in
+    record { connection_state = rest.connection_state; exchanges = cc }
+
+-- there are as many moments as items
+count_moments : (g : Setting) (count : ℕ) (first last : ConnectionState) (xs : List Exchange) → Answered (Replies g) count first xs last → length last.moments ≡ length first.moments + length xs
+count_moments g count first last [] t = let same : length first.moments ≡ length last.moments = ap (λ (s : ConnectionState). length s.moments) t in omega (arith, same)
+count_moments g count first last (x ∷ xs) t =
+    let here : length t.0.moments ≡ length first.moments + 1 = ap (λ (l : List ℕ). length l) t.1.moments_are ∙ length-append first.moments (t.1.moment ∷ []) in
+    omega (arith, here, count_moments g (count + 1) t.0 last xs t.2)
+
+-- two connections over one history of their own
+pub texts_are_determined : SameItems → RepliesHaveOneText → (g : Setting) (first last other : ConnectionState) (a b c d : Sides) (served again : Served) (p : Dialogue (Replies g) first last a b served) (q : Dialogue (Replies g) first other c d again) → IsAlone first last → IsAlone first other → pieces p.passed.exchanges ++ p.passed.rest ≡ pieces q.passed.exchanges ++ q.passed.rest → last.moments ≡ other.moments → last.entered ≡ other.entered → (p.passed.exchanges ≡ q.passed.exchanges) × (last.seen ≡ other.seen) × (last.mine ≡ other.mine)
+texts_are_determined items texts g first last other a b c d served again p q alone lone bytes moments entered =
+    let xs = p.passed.exchanges in
+    let ys = q.passed.exchanges in
+    let here = count_moments g 0 first last xs p.answered in
+    let there = count_moments g 0 first other ys q.answered in
+    let same : length last.moments ≡ length other.moments = ap (λ (l : List ℕ). length l) moments in
+    let shared = items xs ys p.passed.rest q.passed.rest p.passed.progress.items q.passed.progress.items (omega (arith, here, there, same)) bytes in
+    let one = one_by texts g 0 first last other xs ys p.answered q.answered shared.0 shared.1 alone lone moments entered in
+    (one.exchanges, ap (λ (s : ConnectionState). s.seen) one.connection_state, ap (λ (s : ConnectionState). s.mine) one.connection_state)
+
+-- a desk all of whose history is its own is alone
+pub owned_alone : (seen more : List Entry) (moments later : List ℕ) (entered again : List Bool) → IsAlone (record { seen = seen; mine = enumerate_from 0 seen; moments = moments; entered = entered }) (record { seen = more; mine = enumerate_from 0 more; moments = later; entered = again })
+owned_alone seen more moments later entered again = omega (arith, length_numbered 0 seen, length_numbered 0 more)
