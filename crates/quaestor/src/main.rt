@@ -2,13 +2,13 @@
 #![tactic(auto)]
 
 use q_outside::{ReadSource, SystemClock, WriteSink};
-use quaestor_prog::{Status, run};
+use quaestor_prog::{Status, refusal_of, run};
 use std::env;
 use std::io::ErrorKind;
 use std::process::ExitCode;
 use std::rt::Env;
 
-/// The words behind the program's name. Words that are not UTF-8 are no words of a command.
+/// The words behind the program's name. Where one of them is not UTF-8 there are none.
 fn words_of<R: Env + AllocGlobal>(rt: &R) -> Result<Vec<String>, Status> {
     let mut words = Vec::new(rt.alloc());
     match env::args(rt) {
@@ -25,13 +25,24 @@ fn words_of<R: Env + AllocGlobal>(rt: &R) -> Result<Vec<String>, Status> {
     Ok(words)
 }
 
+/// Says on standard error why no command takes the words. A fault there changes nothing.
+fn explain<R: Eprint + AllocGlobal>(rt: &R, words: &[String]) {
+    if let Ok(Some(refusal)) = refusal_of(rt.alloc(), words) {
+        let _ = eprint!(rt; "{refusal}");
+    }
+}
+
 fn main(rt: HostRuntime) -> ExitCode {
     let status = match words_of(&rt) {
         Ok(words) => {
             let mut source = ReadSource::new(rt.stdin());
             let mut sink = WriteSink::new(rt.stdout());
             let mut clock = SystemClock::new(&rt);
-            run(rt.alloc(), &words, &mut source, &mut sink, &mut clock)
+            let status = run(rt.alloc(), &words, &mut source, &mut sink, &mut clock);
+            if status == Status::Words {
+                explain(&rt, &words);
+            }
+            status
         }
         Err(status) => status,
     };

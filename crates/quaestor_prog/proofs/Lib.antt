@@ -1,2 +1,4 @@
+mod CommandLemmas
 mod RunLemmas
+mod Singles
 mod WordLemmas

@@ -1,16 +1,106 @@
--- Lists of few words.
-use Rattle.std.proofs.Common.{◌≡◌, ◌<◌, ◌≤◌, List, [], ◌∷◌, length, map, get_or, sym, ap, arith}
+-- What options show is one configuration and one clock.
+use Rattle.std.proofs.Common.{◌≡◌, ◌||◌, ◌<◌, ◌≤◌, ◌^◌, ℕ, Bool, true, false, List, [], ◌∷◌, Option, Some, None, Result, Ok, Err, nat_lt, if◌then◌else◌, refl, sym, ap, ◌∙◌, subst, arith, decimal}
+use Rattle.std.proofs.lemmas.Fmt.{decimal_injective}
+use Rattle.std.specs.Prelude.{map, slice_get, option_map, codes}
+use Rattle.std.specs.Borrow.{Bor}
+use Rattle.clap.specs.Words.{Row, Text, first_of}
+use Rattle.hub_core.specs.Config.{configured}
+use Rattle.hub_core.specs.declared.config.ConfigRefusal.{ConfigRefusal}
+use Rattle.hub_model.specs.Setting.{Setting, IsWithinLimits}
+use Rattle.quaestor_prog.specs.Words.{IsNumber, IsClock, IsConfiguration, AreOptions, IsPipe}
 
--- a list of one
-pub one_of : {A B : Type 0} (f : A → B) (xs : List A) (x : A) → 1 ≤ length xs → length xs < 2 → x ≡ get_or xs 0 x → map f xs ≡ f x ∷ []
-one_of f [] x some few is = absurd (omega arith)
-one_of f (y ∷ []) x some few is = ap (λ z. f z ∷ []) (sym is)
-one_of f (y ∷ z ∷ zs) x some few is = absurd (omega arith)
+-- the first word, as a text
+pub first_is : {A : Type 0} (f : A → Text) (xs : List A) (x : A) (t : Text) → slice_get xs 0 ≡ Some x → f x ≡ t → slice_get (map f xs) 0 ≡ Some t
+first_is f [] x t h e = absurd cc
+first_is f (y ∷ ys) x t h e = let p : y ≡ x = cc in ap Some (ap f p ∙ e)
 
--- a list of three
-pub three_of : {A B : Type 0} (f : A → B) (xs : List A) (x y z : A) → 3 ≤ length xs → length xs < 4 → x ≡ get_or xs 0 x → y ≡ get_or xs 1 y → z ≡ get_or xs 2 z → map f xs ≡ f x ∷ f y ∷ f z ∷ []
-three_of f [] x y z some few h i j = absurd (omega arith)
-three_of f (a ∷ []) x y z some few h i j = absurd (omega arith)
-three_of f (a ∷ b ∷ []) x y z some few h i j = absurd (omega arith)
-three_of f (a ∷ b ∷ c ∷ []) x y z some few h i j = let p : x ≡ a = h in let q : y ≡ b = i in let r : z ≡ c = j in cc
-three_of f (a ∷ b ∷ c ∷ d ∷ ds) x y z some few h i j = absurd (omega arith)
+-- a text shows one number
+pub same_number : (t : Text) (m n : ℕ) → t ≡ decimal m → t ≡ decimal n → m < 2 ^ 64 → n < 2 ^ 64 → m ≡ n
+same_number t m n p q a b = decimal_injective m n a b (sym p ∙ q)
+
+pub one_number : (given : Option Text) (d m n : ℕ) → IsNumber given d m → IsNumber given d n → m < 2 ^ 64 → n < 2 ^ 64 → m ≡ n
+one_number None d m n p q a b = p ∙ sym q
+one_number (Some text) d m n p q a b = decimal_injective m n a b (sym p ∙ q)
+
+pub one_clock : (given : Option Text) (a b : Option ℕ) → IsClock given a → IsClock given b → a ≡ b
+one_clock None a b p q = p ∙ sym q
+one_clock (Some text) a b p q = p.1 ∙ (ap Some (decimal_injective p.0 q.0 p.2 q.2 (sym p.3 ∙ q.3)) ∙ sym q.1)
+
+-- what was given, of the reference to it
+pub shown : (r : Option (Bor Text)) (f : Bor Text) (given : Option Text) → option_map (λ s. s.now) r ≡ given → r ≡ Some f → given ≡ Some f.now
+shown r f given p e = sym p ∙ ap (option_map (λ s. s.now)) e
+
+pub not_shown : (r : Option (Bor Text)) (given : Option Text) → option_map (λ s. s.now) r ≡ given → r ≡ None → given ≡ None
+not_shown r given p e = sym p ∙ ap (option_map (λ s. s.now)) e
+
+-- the number or the clock of a text, and none of another
+pub number_some : (given : Option Text) (t : Text) (d n : ℕ) → given ≡ Some t → t ≡ decimal n → IsNumber given d n
+number_some given t d n e p = subst (λ o. IsNumber o d n) (sym e) p
+
+pub number_none : (given : Option Text) (d : ℕ) → given ≡ None → IsNumber given d d
+number_none given d e = subst (λ o. IsNumber o d d) (sym e) refl
+
+pub number_is : (given : Option Text) (t : Text) (d n : ℕ) → given ≡ Some t → IsNumber given d n → t ≡ decimal n
+number_is given t d n e p = subst (λ o. IsNumber o d n) e p
+
+pub clock_some : (given : Option Text) (t : Text) (n : ℕ) → given ≡ Some t → t ≡ decimal n → n < 2 ^ 64 → IsClock given (Some n)
+clock_some given t n e p small = subst (λ o. IsClock o (Some n)) (sym e) (n, refl, small, p)
+
+pub clock_none : (given : Option Text) → given ≡ None → IsClock given None
+clock_none given e = subst (λ o. IsClock o None) (sym e) refl
+
+pub clock_is : (given : Option Text) (t : Text) (at : Option ℕ) → given ≡ Some t → IsClock given at → (n : ℕ) × (at ≡ Some n) × (n < 2 ^ 64) × (t ≡ decimal n)
+clock_is given t at e p = subst (λ o. IsClock o at) e p
+
+-- the least lifetime is not above the greatest
+pub crossed : (found : List Row) (g : Setting) (l h : ℕ) → IsNumber (first_of (codes "ttl-low") found) 1 l → IsNumber (first_of (codes "ttl-high") found) 3600 h → l ≤ 31536000 → h ≤ 31536000 → h < l → IsConfiguration found g → ⊥
+crossed found g l h low high lsmall hsmall above p =
+    let order : g.ttl_low ≤ g.ttl_high = p.within.ttl_order in
+    let most : g.ttl_high ≤ 31536000 = p.within.ttl_most in
+    let a : g.ttl_low ≡ l = one_number _ 1 _ _ p.low low (omega (arith, order, most)) (omega (arith, lsmall)) in
+    let b : g.ttl_high ≡ h = one_number _ 3600 _ _ p.high high (omega (arith, most)) (omega (arith, hsmall)) in
+    absurd (omega (arith, a, b, order, above))
+
+same_setting : (g h : Setting) → g.log2_bits ≡ h.log2_bits → g.hashes ≡ h.hashes → g.ttl_low ≡ h.ttl_low → g.ttl_high ≡ h.ttl_high → g.active ≡ h.active → g.capacity ≡ h.capacity → g ≡ h
+same_setting g h a b c d e f = λ i. record { log2_bits = a i; hashes = b i; ttl_low = c i; ttl_high = d i; active = e i; capacity = f i }
+
+pub one_setting : (found : List Row) (g h : Setting) → IsConfiguration found g → IsConfiguration found h → g ≡ h
+one_setting found g h p q =
+    let v = p.within in
+    let w = q.within in
+    let order : g.ttl_low ≤ g.ttl_high = v.ttl_order in
+    let other : h.ttl_low ≤ h.ttl_high = w.ttl_order in
+    let most : g.ttl_high ≤ 31536000 = v.ttl_most in
+    let least : h.ttl_high ≤ 31536000 = w.ttl_most in
+    same_setting g h
+    (one_number _ _ _ _ p.bits q.bits (omega (arith, v.bits_high)) (omega (arith, w.bits_high)))
+    (one_number _ _ _ _ p.hashes q.hashes (omega (arith, v.hashes_high)) (omega (arith, w.hashes_high)))
+    (one_number _ _ _ _ p.low q.low (omega (arith, order, most)) (omega (arith, other, least)))
+    (one_number _ _ _ _ p.high q.high (omega (arith, most)) (omega (arith, least)))
+    (one_number _ _ _ _ p.active q.active (omega (arith, v.active_most)) (omega (arith, w.active_most)))
+    (one_number _ _ _ _ p.bytes q.bytes (omega (arith, v.capacity_high)) (omega (arith, w.capacity_high)))
+
+-- words ask for one configuration and one clock
+pub one_pipe : (words : List Text) (g h : Setting) (a b : Option ℕ) → IsPipe words g a → IsPipe words h b → (g ≡ h) × (a ≡ b)
+one_pipe words g h a b p q = (one_setting _ g h p.options.0 q.options.0, one_clock _ a b p.options.1 q.options.1)
+
+skip : (b : Bool) (e r : Result Setting ConfigRefusal) → b ≡ false → (if b then e else r) ≡ r
+skip true e r is = absurd cc
+skip false e r is = refl
+
+not_less : (m n : ℕ) → n ≤ m → nat_lt m n ≡ false
+not_less m n le = grind (arith, le)
+
+neither : (a b : Bool) → a ≡ false → b ≡ false → (a || b) ≡ false
+neither false false p q = refl
+neither true b p q = absurd cc
+neither false true p q = absurd cc
+
+-- numbers within their limits are a configuration
+pub configured_within : (g : Setting) → IsWithinLimits g → configured g ≡ Ok g
+configured_within g w =
+    skip _ _ _ (neither _ _ (not_less _ _ w.bits_low) (not_less _ _ w.bits_high))
+    ∙ (skip _ _ _ (neither _ _ (not_less _ _ w.hashes_low) (not_less _ _ w.hashes_high))
+    ∙ (skip _ _ _ (neither _ _ (neither _ _ (not_less _ _ w.ttl_some) (not_less _ _ w.ttl_order)) (not_less _ _ w.ttl_most))
+    ∙ (skip _ _ _ (not_less _ _ w.active_most)
+    ∙ skip _ _ _ (neither _ _ (not_less _ _ w.capacity_low) (not_less _ _ w.capacity_high)))))

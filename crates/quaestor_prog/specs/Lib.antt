@@ -1,3 +1,4 @@
+pub mod Commands
 pub mod Run
 pub mod Status
 pub mod Words

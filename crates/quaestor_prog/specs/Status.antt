@@ -1,4 +1,4 @@
--- The exit status of the program.
+-- Believed. The exit status of the program.
 use Rattle.std.specs.Prelude.{ℕ}
 use Rattle.q_outside.specs.declared.served.Why.{Why}
 use Rattle.q_outside.specs.declared.served.Why.TheVariants as ends

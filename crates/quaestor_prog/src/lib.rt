@@ -1,14 +1,19 @@
 //! What the program does with its words, over any source, sink and clock.
 #![tactic(auto)]
 
+mod commands;
 mod program;
+mod refusal;
 mod status;
 #[cfg(test)]
 mod tests;
+#[cfg(test)]
+mod word_tests;
 mod words;
 #[cfg(test)]
 mod worked;
 
-pub use program::run;
+pub use program::{refusal_of, run};
+pub use refusal::{BadValue, Refusal};
 pub use status::Status;
-pub use words::Pipe;
+pub use words::PipeOptions;

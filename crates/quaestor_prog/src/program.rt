@@ -1,13 +1,17 @@
 //! The top call.
-ghost use Rattle.std.specs.Prelude.{ℕ, Option, map, string_bytes};
-ghost use Rattle.q_outside.specs.Told.{Ticks};
-ghost use Rattle.quaestor_prog.specs.Run.{AreTimed, IsRun, IsRefused, IsToldUsage};
+ghost use Rattle.std.specs.Prelude.{◌⊎◌, ℕ, Option, None, IfOk, IfSome, map, string_bytes};
+ghost use Rattle.hub_model.specs.Setting.{Setting};
+ghost use Rattle.q_outside.specs.Ends.{Ticks};
+ghost use Rattle.quaestor_prog.specs.Commands.{AskHelp};
+ghost use Rattle.quaestor_prog.specs.Run.{AreTimed, IsHelped, IsRefused, IsRun, IsText, IsUnbegun, IsUsage};
 ghost use Rattle.quaestor_prog.specs.Words.{IsPipe};
 
+use crate::refusal::Refusal;
 use crate::status::Status;
-use crate::words::read_words;
-use q_base::Moment;
-use q_outside::{Clock, FixedClock, Sink, Source, give_all};
+use crate::words::{Invocation, read_words};
+use clap::Error;
+use q_base::{Memory, Moment};
+use q_outside::{Clock, Failed, FixedClock, Sink, Source, give_all};
 use quaestor_server::{Config, Owned, Room, serve_connection};
 use std::alloc::Global;
 use std::mem::ManuallyDrop;
@@ -15,10 +19,11 @@ use std::mem::ManuallyDrop;
 /// The line that is written for words that no command takes.
 const USAGE: &[u8] = b"usage: quaestor pipe, serve, read or world\n";
 
-/// Does all that the program does with these words, and answers its status.
+/// Does all that the program does with these words, and returns its status.
 ///
-/// `pipe` serves the source and the sink as one connection over a store that begins empty, and asks
-/// the clock; `pipe --clock N` does the same with a clock that stands at N seconds after 1970.
+/// `pipe` serves the source and the sink as one connection over a store that begins empty, in the
+/// configuration that its options ask for. It asks the clock; with `--clock N` it does the same with
+/// a clock that stays at N seconds after 1970. `--help` and `--version` write a text to the sink.
 pub fn run<S: Source, K: Sink, C: Clock>(
     alloc: Global,
     words: &[String],
@@ -26,54 +31,85 @@ pub fn run<S: Source, K: Sink, C: Clock>(
     sink: &mut K,
     clock: &mut C,
 ) -> Status
-    ensures pipe { (at : Option ℕ) → IsPipe (map string_bytes words.now) at
-        → IsRun (record { source = S.at source.old; sink = K.at sink.old })
+    ensures pipe { (g : Setting) (at : Option ℕ) → IsPipe (map string_bytes words.now) g at
+        → IsRun g (record { source = S.at source.old; sink = K.at sink.old })
         (record { source = S.at source.new; sink = K.at sink.new })
-        (AreTimed C.tells clock.old clock.new at) result }
-    ensures usage { ((at : Option ℕ) → IsPipe (map string_bytes words.now) at → ⊥)
+        (AreTimed C.tick clock.old clock.new at) result }
+    ensures help { AskHelp (map string_bytes words.now)
+        → IsHelped (record { source = S.at source.old; sink = K.at sink.old })
+        (record { source = S.at source.new; sink = K.at sink.new })
+        (AreTimed C.tick clock.old clock.new None) result
+        ⊎ IsUnbegun (record { source = S.at source.old; sink = K.at sink.old })
+        (record { source = S.at source.new; sink = K.at sink.new })
+        (AreTimed C.tick clock.old clock.new None) result }
+    ensures usage { ((g : Setting) (at : Option ℕ) → IsPipe (map string_bytes words.now) g at → ⊥)
+        → (AskHelp (map string_bytes words.now) → ⊥)
         → IsRefused (record { source = S.at source.old; sink = K.at sink.old })
         (record { source = S.at source.new; sink = K.at sink.new })
-        (AreTimed C.tells clock.old clock.new None) result }
+        (AreTimed C.tick clock.old clock.new None) result
+        ⊎ IsUnbegun (record { source = S.at source.old; sink = K.at sink.old })
+        (record { source = S.at source.new; sink = K.at sink.new })
+        (AreTimed C.tick clock.old clock.new None) result }
 {
-    match read_words(words) {
-        Some(pipe) => pipe_at(alloc, pipe.clock, source, sink, clock),
-        None => refuse(sink),
+    match read_words(alloc, words) {
+        Ok(Invocation::Pipe(options)) => pipe_at(
+            alloc,
+            options.config,
+            options.clock,
+            source,
+            sink,
+            clock,
+        ),
+        Ok(Invocation::Help(text)) => show(alloc, &text, sink),
+        Ok(Invocation::Invalid(_)) => refuse(sink),
+        Err(_) => Status::Memory,
     }
 }
 
-/// Serves one connection by the given clock, or by one that stands.
+/// Why no command takes the words, for a message. None where one takes them.
+pub fn refusal_of<'a>(alloc: Global, words: &'a [String]) -> Result<Option<Refusal<'a>>, Memory>
+    ensures { IfOk result (λ o. IfSome o (λ _. (g : Setting) (at : Option ℕ) → IsPipe (map string_bytes words.entry.now) g at → ⊥)) }
+{
+    match read_words(alloc, words)? {
+        Invocation::Invalid(refusal) => Ok(Some(refusal)),
+        Invocation::Pipe(_) | Invocation::Help(_) => Ok(None),
+    }
+}
+
+/// Serves one connection by the given clock, or by one that stays at a moment.
 fn pipe_at<S: Source, K: Sink, C: Clock>(
     alloc: Global,
+    config: Config,
     at: Option<u64>,
     source: &mut S,
     sink: &mut K,
     clock: &mut C,
 ) -> Status
-    ensures { IsRun (record { source = S.at source.old; sink = K.at sink.old })
+    ensures { IsRun config (record { source = S.at source.old; sink = K.at sink.old })
         (record { source = S.at source.new; sink = K.at sink.new })
-        (AreTimed C.tells clock.old clock.new at) result }
+        (AreTimed C.tick clock.old clock.new at) result }
 {
     match at {
         Some(at) => {
-            let mut standing = FixedClock { at: Moment::of(at) };
-            pipe(alloc, source, sink, &mut standing)
+            let mut fixed = FixedClock { at: Moment::of(at) };
+            pipe(alloc, config, source, sink, &mut fixed)
         }
-        None => pipe(alloc, source, sink, clock),
+        None => pipe(alloc, config, source, sink, clock),
     }
 }
 
 /// Serves one connection over a store that begins empty, and ends the sink.
 fn pipe<S: Source, K: Sink, C: Clock>(
     alloc: Global,
+    config: Config,
     source: &mut S,
     sink: &mut K,
     clock: &mut C,
 ) -> Status
-    ensures { IsRun (record { source = S.at source.old; sink = K.at sink.old })
+    ensures { IsRun config (record { source = S.at source.old; sink = K.at sink.old })
         (record { source = S.at source.new; sink = K.at sink.new })
-        (λ ms. Ticks C.tells clock.old ms clock.new) result }
+        (λ ms. Ticks C.tick clock.old ms clock.new) result }
 {
-    let config = Config::default();
     let mut room = match Room::new(alloc, &config) {
         Ok(room) => room,
         Err(_) => return Status::Memory,
@@ -84,19 +120,34 @@ fn pipe<S: Source, K: Sink, C: Clock>(
     };
     let served = serve_connection(alloc, &mut desk, source, sink, clock, &mut room);
     sink.end();
-    // The process ends next, and gives the store's memory back at once.
+    // The process ends next, which returns the store's memory at once.
     let _left = ManuallyDrop::new(desk);
     Status::of(served.why)
 }
 
 /// Writes the usage line, and ends the sink.
 fn refuse<K: Sink>(sink: &mut K) -> Status
-    ensures { IsToldUsage (K.at sink.old) (K.at sink.new) result }
+    ensures { IsUsage (K.at sink.old) (K.at sink.new) result }
 {
     let given = give_all(sink, USAGE);
     sink.end();
     match given {
         Ok(()) => Status::Words,
         Err(_) => Status::WriteFault,
+    }
+}
+
+/// Writes the text of the help or of the version, and ends the sink.
+fn show<K: Sink>(alloc: Global, text: &Error, sink: &mut K) -> Status
+    ensures { IsText (K.at sink.old) (K.at sink.new) result }
+{
+    let Ok(line) = format!(in alloc; "{text}") else {
+        return Status::Memory;
+    };
+    let given = give_all(sink, line.as_bytes());
+    sink.end();
+    match given {
+        Ok(()) => Status::Done,
+        Err(Failed) => Status::WriteFault,
     }
 }

@@ -15,7 +15,7 @@ pub enum Status {
     ReadFault,
     /// The sink failed.
     WriteFault,
-    /// There was no memory outside of a connection.
+    /// There was no memory before a connection began, or for a text of the help.
     Memory,
     /// The input ended inside a request, or its framing was refused.
     BadInput,

@@ -1,4 +1,4 @@
-//! Worked requests, and the texts that they are told.
+//! Worked requests, and their replies.
 
 /// A document is put.
 pub const PUT: &[u8] =
@@ -15,7 +15,7 @@ pub const STORED: &[u8] =
 pub const FOUND: &[u8] =
     b"HTTP/1.1 200 OK\r\nDate: Thu, 01 Jan 1970 00:01:40 GMT\r\nContent-Type: application/json\r\nContent-Length: 7\r\nETag: \"1\"\r\nCache-Control: max-age=3600\r\nQuaestor-Commit: 1\r\nQuaestor-Version: 1\r\nQuaestor-Until: 3700\r\n\r\n{\"a\":1}";
 
-/// Another document is put in its place.
+/// Another document is put under its name.
 pub const PUT_AGAIN: &[u8] =
     b"PUT /v1/d/shop/p1 HTTP/1.1\r\nHost: a\r\nContent-Length: 7\r\n\r\n{\"a\":2}";
 
@@ -61,11 +61,11 @@ pub const LAST: &[u8] =
 /// What is written for words that no command takes.
 pub const USAGE: &[u8] = b"usage: quaestor pipe, serve, read or world\n";
 
-/// A document is put, and its body is sent once it is called for.
+/// A document is put, and its client expects `100 Continue` before it sends the body.
 pub const PUT_EXPECTING: &[u8] =
     b"PUT /v1/d/shop/p1 HTTP/1.1\r\nHost: a\r\nExpect: 100-continue\r\nContent-Length: 7\r\n\r\n{\"a\":1}";
 
-/// It is called for.
+/// The client may send the body.
 pub const CONTINUE: &[u8] = b"HTTP/1.1 100 Continue\r\n\r\n";
 
 /// Fields of a reply that is not kept, and of the last one of a connection.

@@ -1,0 +1,22 @@
+-- clap's answer, of the command that it read
+use Rattle.std.proofs.Common.{refl, sym, subst}
+use Rattle.quaestor_prog.specs.Commands.{pipe_app}
+use Rattle.quaestor_prog.specs.Words.{AreOptions}
+use Rattle.quaestor_prog.proofs.CommandLemmas.{rows_are, taken_are, kinds_are, taken_no_help, asks_pipe}
+use Rattle.quaestor_prog.proofs.words.read_pipe.Goals as goal
+
+pub returns-in-Ok-pipe_options : goal.returns-in-Ok-pipe_options
+returns-in-Ok-pipe_options c = record {
+  named = c.requires;
+  taken = taken_are _ pipe_app _ c.in_ok-pipe_command.ensures refl c.in-Ok.ensures.kinds;
+  options = subst (λ rows. AreOptions rows c.in-Ok-pipe_options.options.config c.in-Ok-pipe_options.options.clock) (rows_are _ pipe_app _ _ c.in_ok-pipe_command.ensures refl c.in-Ok.ensures.matches) c.in-Ok-pipe_options.ensures.ok;
+}
+
+pub returns-in-Ok : goal.returns-in-Ok
+returns-in-Ok c = (
+  (λ g at p. c.in-Err-pipe_options.ensures.err g at (subst (λ rows. AreOptions rows g at) (sym (rows_are _ pipe_app _ _ c.in_ok-pipe_command.ensures refl c.in-Ok.ensures.matches)) p.options)),
+  taken_no_help _ c.requires (taken_are _ pipe_app _ c.in_ok-pipe_command.ensures refl c.in-Ok.ensures.kinds),
+)
+
+pub returns : goal.returns
+returns c = asks_pipe _ _ _ c.requires (kinds_are _ pipe_app _ _ c.in_ok-pipe_command.ensures refl c.in-Err.ensures.kinds) c.answer_of.ensures
