@@ -7,8 +7,8 @@ check: ## proves what changed, every crate, lowest first
 	rt all check
 fmt: ## lays out every crate
 	@for crate in $(CRATES); do (cd crates/$$crate && rt fmt) || exit 1; done
-lint: ## tests the style that rt does not, and that what the documents name is there
-	@sh tools/lint.sh && sh tools/words.sh
+lint: ## tests the style that rt does not, the marks of what must be believed, the claims and the map
+	@status=0; for test in lint words claims map believe; do sh tools/$$test.sh || status=1; done; exit $$status
 edits: ## tries the must-fail edits; CRATE=name for one crate
 	rt must-fail $(CRATE)
 plant: named ## lists wrong bodies that the contracts of CRATE=name let through

@@ -15,7 +15,7 @@ found=$({
     done
 
     # A module begins with its `//!` line. A line aims at 100 columns and ends by 110; imports,
-    # clauses and literals stand on one line, however long.
+    # clauses and literals are on one line, however long.
     files 'crates/*/src/*.rt' | while read -r file; do
         awk -v file="$file" '
             NR == 1 && !/^\/\/!/ { print file ":1: no //! line at the head of the module" }
@@ -24,34 +24,40 @@ found=$({
             END { if (NR > 800) print file ": over 800 lines" }' "$file"
     done
 
-    # Each crate has its README and its place on the map, and stands on crates that are listed above it.
+    # Each crate has its README.
     for crate in $crates; do
         [ -f "crates/$crate/README.md" ] || echo "crates/$crate: no README.md"
-        grep -qw "$crate" docs/ARCHITECTURE.md || echo "docs/ARCHITECTURE.md: no word of $crate"
     done
-    sed 's/#.*//' crates.txt | awk -F ':' -v all="$crates" '
-        BEGIN { split(all, names, "\n"); for (i in names) own[names[i]] = 1 }
-        NF > 1 { split($1, head, " "); count = split($2, below, " ")
-            for (i = 1; i <= count; i++) if (below[i] in own && !(below[i] in seen)) print "crates.txt: " head[1] " stands above " below[i]
-            seen[head[1]] = 1 }'
 
     # A function that a document names is declared.
-    grep -ohE '`[A-Za-z]+::[a-z_]+`' README.md docs/*.md crates/*/README.md | tr -d '`' | sort -u | while read -r name; do
-        grep -rqE "(fn|mod) ${name##*::}[^a-z_]" crates/*/src || echo "no function $name, which a document names"
-    done
+    {
+        find crates -name out -prune -o -path '*/src/*.rt' -exec cat {} + | grep -oE '(fn|mod) [A-Za-z_0-9]+'
+        grep -ohE '`[A-Za-z]+::[a-z_]+`' README.md docs/*.md crates/*/README.md
+    } | awk '/^(fn|mod) / { known[$2] = 1; next }
+        { gsub(/`/, ""); name = $0; sub(/.*::/, "", name); if (!(name in known) && !seen[$0]++) print "no function " $0 ", which a document names" }'
 
     # Each rule has its own plain words, and no number of an outside document.
     grep -rnE --exclude-dir=out '(^|[^A-Za-z0-9_/.{"-])[DTWRL][0-9]+(\.[0-9]+)?([^A-Za-z0-9_]|$)' crates docs ./*.md
 
-    # The text that a must-fail edit takes away stands exactly once in its file.
-    files 'crates/*/must-fail/*.edit' | while read -r edit; do
-        crate=${edit%/must-fail/*}
-        file=$(sed -n 's/^file: *//p' "$edit" | head -n 1)
-        [ -f "$crate/$file" ] || { echo "$edit: there is no $crate/$file"; continue; }
-        old=$(sed -n 's/^old: //p' "$edit" | head -n 1)
-        count=$(OLD=$old awk 'BEGIN { old = ENVIRON["OLD"] } { rest = $0; while (at = index(rest, old)) { n++; rest = substr(rest, at + length(old)) } } END { print n + 0 }' "$crate/$file")
-        [ "$count" = 1 ] || echo "$edit: its text stands $count times in $file: $old"
-    done
+    # Each text that a must-fail edit takes away is exactly once in its file.
+    files 'crates/*/must-fail/*.edit' | xargs awk '
+        function close_edit(    i) {
+            for (i = 1; i <= texts; i++) if (count[i] != 1) print edit ": its text is " count[i] + 0 " times in " file ": " old[i]
+        }
+        FNR == 1 { close_edit(); texts = 0; edit = FILENAME; crate = edit; sub(/\/must-fail\/.*/, "", crate); file = "" }
+        /^file: / && file == "" {
+            file = $0; sub(/^file: */, "", file); path = crate "/" file
+            if (!(path in lines)) { lines[path] = 0; while ((getline line < path) > 0) text[path, ++lines[path]] = line; close(path) }
+            if (!lines[path]) print edit ": there is no " path
+        }
+        /^old: / {
+            old[++texts] = substr($0, 6); count[texts] = 0
+            for (n = 1; n <= lines[path]; n++) {
+                rest = text[path, n]
+                while (at = index(rest, old[texts])) { count[texts]++; rest = substr(rest, at + length(old[texts])) }
+            }
+        }
+        END { close_edit() }'
 } 2>&1)
 
 [ -z "$found" ] && exit 0

@@ -1,8 +1,8 @@
 #!/bin/sh
 # Shows that calls take no memory: `sh tools/no_memory.sh CRATE TEST`. The test does all that may
 # take memory with `?`, then the calls, and ends with an allocation of which it asserts that it
-# succeeds. Of all allocations in turn one is refused. The last that ends the test with want of
-# memory is sought; were the calls to take none, the next refused one is that of the assertion.
+# succeeds. Each run refuses one allocation. The script finds the last one whose refusal ends the test
+# as out of memory. If the calls take none, the next refusal is that of the assertion.
 crate=${1:?a crate}
 name=${2:?a test}
 cd "$(dirname "$0")/../crates/$crate" || exit 2
