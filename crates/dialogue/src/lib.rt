@@ -5,8 +5,6 @@ mod answers;
 mod dialogue;
 mod laws;
 mod round_result;
-#[cfg(test)]
-mod tests;
 
 pub use answers::Answers;
 pub use dialogue::{REQUEST_LIMIT, hold_dialogue};

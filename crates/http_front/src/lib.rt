@@ -2,8 +2,6 @@
 #![tactic(auto)]
 
 mod ask;
-#[cfg(test)]
-mod ask_tests;
 mod body;
 mod cut;
 mod date;
@@ -18,8 +16,6 @@ mod put;
 mod query;
 mod refused;
 mod reply;
-#[cfg(test)]
-mod reply_tests;
 mod routes;
 mod shape;
 mod status;

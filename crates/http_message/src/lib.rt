@@ -25,8 +25,6 @@ mod request;
 mod room;
 mod scan;
 mod taken;
-#[cfg(test)]
-mod tests;
 mod trailers;
 
 pub use fields::Named;

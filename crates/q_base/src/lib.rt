@@ -6,8 +6,6 @@ mod moment;
 mod name;
 mod positions;
 mod shared_text;
-#[cfg(test)]
-mod tests;
 mod text;
 
 pub use memory::Memory;

@@ -14,8 +14,6 @@ mod print;
 mod print_length;
 mod reading;
 mod refusal;
-#[cfg(test)]
-mod tests;
 mod text;
 
 pub use doc::{Doc, MAX_DEPTH, MAX_LENGTH};

@@ -5,13 +5,7 @@ mod commands;
 mod program;
 mod refusal;
 mod status;
-#[cfg(test)]
-mod tests;
-#[cfg(test)]
-mod word_tests;
 mod words;
-#[cfg(test)]
-mod worked;
 
 pub use program::{refusal_of, run};
 pub use refusal::{BadValue, Refusal};

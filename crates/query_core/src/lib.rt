@@ -10,8 +10,6 @@ mod meaning;
 mod print;
 mod query;
 mod rows;
-#[cfg(test)]
-mod tests;
 mod windows;
 mod words;
 

@@ -14,8 +14,6 @@ mod quoted;
 mod reading;
 mod refusal;
 mod segments;
-#[cfg(test)]
-mod tests;
 mod token;
 
 pub use laws::{

@@ -8,6 +8,3 @@ mod laws;
 
 pub use key::{Key, KeyShape};
 pub use laws::{keys_are_equal_where_their_texts_are, same_key_is_equality};
-
-#[cfg(test)]
-mod tests;

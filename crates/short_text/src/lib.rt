@@ -4,6 +4,3 @@
 mod text;
 
 pub use text::ShortText;
-
-#[cfg(test)]
-mod tests;

@@ -1,0 +1,318 @@
+//! Each end of a connection, and that the source waits for nothing before what is due was given.
+ghost use Rattle.std.specs.Prelude.{◌≡◌, ◌<◌, None, codes, if◌then◌else◌};
+ghost use Rattle.q_outside.specs.Ends.{Gave};
+
+use dialogue::{Answers, hold_dialogue};
+use http_message::{FramingRefusal, Request, RequestRoom};
+use q_base::Memory;
+use q_outside::{Failed, ListSink, ListSource, Script, Served, Sink, Source, Why, give_all};
+use std::alloc::Global;
+use std::cell::Cell;
+use std::marker::Brand;
+use std::process::Abort;
+use std::sync::ledger::{Blank, Ledger};
+use std::test::Fail;
+
+/// A request that asks for nothing more.
+const GET: &[u8] = b"GET / HTTP/1.1\r\nHost: a\r\n\r\n";
+
+/// One that asks for the end of the connection.
+const CLOSING: &[u8] = b"GET / HTTP/1.1\r\nHost: a\r\nConnection: close\r\n\r\n";
+
+/// The head of one that waits for `100 Continue`, and its body.
+const EXPECTING: &[u8] =
+    b"PUT / HTTP/1.1\r\nHost: a\r\nExpect: 100-continue\r\nContent-Length: 2\r\n\r\n";
+
+const BODY: &[u8] = b"{}";
+
+/// What it waits for (RFC 9110, section 15.2.1).
+const CONTINUE: &[u8] = b"HTTP/1.1 100 Continue\r\n\r\n";
+
+/// What has no head.
+const UNFRAMED: &[u8] = b"x\r\n\r\n";
+
+/// The replies here: the last of a connection is another one.
+const NEXT: &[u8] = b"next;";
+
+const LAST: &[u8] = b"last;";
+
+/// Who answers each item by one of these replies, and counts the calls.
+#[derive(Drop)]
+struct Counter {
+    answered: u64,
+}
+
+impl Answers for Counter {
+    ghost can = { λ _. Unit {0} };
+
+    ghost answers = { λ _ _ close text _. text ≡ (if close then codes "last;" else codes "next;") };
+
+    ghost keeps = { λ _ _. Unit {0} };
+
+    fn answer<K: Sink>(
+        &mut self,
+        sink: &mut K,
+        _request: &Request<'_>,
+        close: bool,
+    ) -> Result<(), Failed> {
+        self.answered = self.answered.saturating_add(1);
+        reply(sink, close)
+    }
+
+    fn refuse<K: Sink>(
+        &mut self,
+        sink: &mut K,
+        _refused: FramingRefusal,
+        _head: bool,
+    ) -> Result<(), Failed> {
+        self.answered = self.answered.saturating_add(1);
+        reply(sink, true)
+    }
+
+    ghost kept = { λ _. tt };
+
+    ghost kept_on = { λ _ _ _ _ _. tt };
+}
+
+/// Gives a reply.
+fn reply<K: Sink>(sink: &mut K, close: bool) -> Result<(), Failed>
+    ensures { Gave (K.at sink.old) (K.at sink.new) (if close then codes "last;" else codes "next;") result }
+{
+    if close {
+        return give_all(sink, LAST);
+    }
+    give_all(sink, NEXT)
+}
+
+/// How a connection went: how it ended, what was given, and how many items were answered.
+#[derive(Debug, Drop)]
+struct Outcome {
+    served: Served,
+    written: Vec<u8>,
+    answered: u64,
+}
+
+/// Holds a dialogue over a sink whose faults are counted by this ledger.
+fn hold_counted<L: Ledger>(
+    alloc: Global,
+    source: &mut ListSource,
+    script: Script,
+    blank: Blank,
+) -> Result<Outcome, Memory>
+    requires name { blank.name ≡ L.name }
+    requires parts { blank.parts ≡ L.parts }
+    requires some { 0 < L.parts }
+{
+    let mut sink = ListSink::<L>::new(alloc, 100_000, script, blank)?;
+    let mut buffer = RequestRoom::new(alloc)?;
+    let mut counter = Counter { answered: 0 };
+    let served = hold_dialogue(&mut counter, source, &mut sink, &mut buffer);
+    Ok(Outcome {
+        served,
+        written: sink.bytes,
+        answered: counter.answered,
+    })
+}
+
+/// A script of which this call fails, and whose others move at most `size` bytes.
+fn script_of(alloc: Global, failing: Option<u64>, size: usize) -> Result<Script, Memory> {
+    let mut calls = Vec::new(alloc);
+    if let Some(call) = failing {
+        calls.push(call)?;
+    }
+    let sizes = vec![in alloc; size]?;
+    Ok(Script::of(calls, sizes))
+}
+
+/// Holds a dialogue over these texts, one after another.
+fn hold(
+    alloc: Global,
+    texts: &[&[u8]],
+    takes: Option<u64>,
+    gives: Option<u64>,
+    size: usize,
+) -> Result<Outcome, Memory> {
+    let bytes = all_of(alloc, texts)?;
+    let mut source = ListSource::of(bytes, script_of(alloc, takes, 100_000)?);
+    let script = script_of(alloc, gives, size)?;
+    hold_counted::<Brand>(alloc, &mut source, script, Blank::new(1))
+}
+
+/// Texts, one after another.
+fn all_of(alloc: Global, texts: &[&[u8]]) -> Result<Vec<u8>, Memory> {
+    let mut all = Vec::new(alloc);
+    for text in texts {
+        all.extend_from_slice(text)?;
+    }
+    Ok(all)
+}
+
+/// The outcome is this one.
+fn assert_outcome(
+    rt: &impl Abort,
+    outcome: &Outcome,
+    requests: u64,
+    why: Why,
+    written: &[u8],
+    at: usize,
+) {
+    assert_eq!(rt; outcome.served, Served { requests, why }, "at {at}");
+    assert_eq!(rt; outcome.answered, requests, "at {at}");
+    assert_eq!(rt; outcome.written.as_slice(), written, "at {at}");
+}
+
+#[test]
+fn a_connection_ends_in_each_way(rt: HostRuntime) -> Result<(), Fail> {
+    let rows: [(&[&[u8]], Option<u64>, u64, Why, &[&[u8]]); 9] = [
+        (&[], None, 0, Why::InputEnd, &[]),
+        (&[GET, b"\r\n"], None, 1, Why::InputEnd, &[NEXT]),
+        (&[GET, b"GET"], None, 1, Why::Truncated, &[NEXT]),
+        (
+            &[GET, EXPECTING, b"{"],
+            None,
+            1,
+            Why::Truncated,
+            &[NEXT, CONTINUE],
+        ),
+        (
+            &[UNFRAMED, GET],
+            None,
+            1,
+            Why::BadFraming { place: 0 },
+            &[LAST],
+        ),
+        (
+            &[GET, UNFRAMED],
+            None,
+            2,
+            Why::BadFraming { place: 27 },
+            &[NEXT, LAST],
+        ),
+        (
+            &[GET, CLOSING, GET],
+            None,
+            2,
+            Why::CloseAsked,
+            &[NEXT, LAST],
+        ),
+        (&[GET], Some(0), 0, Why::ReadFault, &[]),
+        (&[GET], Some(1), 1, Why::ReadFault, &[NEXT]),
+    ];
+    for (at, (texts, fails, requests, why, written)) in rows.into_iter().enumerate() {
+        let outcome = hold(rt.alloc(), texts, fails, None, 100_000)?;
+        let written = all_of(rt.alloc(), written)?;
+        assert_outcome(&rt, &outcome, requests, why, &written, at);
+    }
+    Ok(())
+}
+
+#[test]
+fn the_last_of_ten_thousand_replies_says_so(rt: HostRuntime) -> Result<(), Fail> {
+    let mut input = Vec::new(rt.alloc());
+    let mut replies = Vec::new(rt.alloc());
+    for request in 0..10_001 {
+        input.extend_from_slice(GET)?;
+        if request < 9_999 {
+            replies.extend_from_slice(NEXT)?;
+        }
+    }
+    replies.extend_from_slice(LAST)?;
+    let outcome = hold(rt.alloc(), &[&input], None, None, 100_000)?;
+    assert_outcome(&rt, &outcome, 10_000, Why::RequestLimit, &replies, 0);
+    Ok(())
+}
+
+#[test]
+fn an_item_whose_continue_failed_is_not_answered(rt: HostRuntime) -> Result<(), Fail> {
+    // in pieces of 5 bytes: five calls for `100 Continue`, and one for each reply
+    let replies = all_of(rt.alloc(), &[CONTINUE, NEXT, NEXT])?;
+    for call in 0..8_u64 {
+        let outcome = hold(rt.alloc(), &[EXPECTING, BODY, GET], None, Some(call), 5)?;
+        let (requests, why) = match call {
+            0..=4 => (0, Why::WriteFault),
+            5 => (1, Why::WriteFault),
+            6 => (2, Why::WriteFault),
+            _ => (2, Why::InputEnd),
+        };
+        let given = (call.min(7) * 5) as usize;
+        let written = replies.get(..given).unwrap_or(&replies);
+        assert_outcome(&rt, &outcome, requests, why, written, given);
+    }
+    Ok(())
+}
+
+/// A sink that shows how many bytes it was given.
+#[derive(Drop)]
+struct Shown<'a> {
+    count: &'a Cell<usize>,
+}
+
+impl Sink for Shown<'_> {
+    ghost at = { λ _. record { bytes = None; faults = 0 } };
+
+    fn give(&mut self, bytes: &[u8]) -> Result<usize, Failed> {
+        self.count.set(self.count.get().saturating_add(bytes.len()));
+        Ok(bytes.len())
+    }
+
+    fn end(&mut self) {}
+}
+
+/// A source of pieces that fails where it is asked for one before the due number of bytes was given.
+#[derive(Drop)]
+struct Patient<'a> {
+    pieces: &'a [(&'a [u8], usize)],
+    at: usize,
+    given: &'a Cell<usize>,
+    faults: u64,
+}
+
+impl Source for Patient<'_> {
+    ghost at = { λ s. record { bytes = None; faults = s.faults } };
+
+    fn take(&mut self, into: &mut [u8]) -> Result<usize, Failed> {
+        let Some((piece, due)) = self.pieces.get(self.at) else {
+            return Ok(0);
+        };
+        if self.given.get() != *due && self.faults < u64::MAX {
+            self.faults += 1;
+            return Err(Failed);
+        }
+        self.at = self.at.saturating_add(1);
+        let count = piece.len().min(into.len());
+        into[..count].copy_from_slice(&piece[..count]);
+        Ok(count)
+    }
+}
+
+#[test]
+fn nothing_is_taken_before_what_is_due_was_given(rt: HostRuntime) -> Result<(), Fail> {
+    let both = all_of(rt.alloc(), &[GET, GET, EXPECTING])?;
+    let pieces: [(&[u8], usize); 5] = [
+        (&both, 0),
+        (BODY, 10 + 25),
+        (&GET[..9], 15 + 25),
+        (&GET[9..], 15 + 25),
+        (CLOSING, 20 + 25),
+    ];
+    let given = Cell::new(0);
+    let mut source = Patient {
+        pieces: &pieces,
+        at: 0,
+        given: &given,
+        faults: 0,
+    };
+    let mut sink = Shown { count: &given };
+    let mut buffer = RequestRoom::new(rt.alloc())?;
+    let mut counter = Counter { answered: 0 };
+    let served = hold_dialogue(&mut counter, &mut source, &mut sink, &mut buffer);
+    assert_eq!(rt;
+        served,
+        Served {
+            requests: 5,
+            why: Why::CloseAsked
+        }
+    );
+    assert_eq!(rt; given.get(), 25 + 25);
+    Ok(())
+}

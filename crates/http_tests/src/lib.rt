@@ -1,0 +1,11 @@
+//! Tests of requests, dialogues, asks and replies.
+#![tactic(auto)]
+
+#[cfg(test)]
+mod asks;
+#[cfg(test)]
+mod dialogues;
+#[cfg(test)]
+mod replies;
+#[cfg(test)]
+mod requests;

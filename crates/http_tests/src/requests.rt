@@ -1,0 +1,532 @@
+//! Requests and what is none, in pieces of several sizes, at the limits, and where the outside fails.
+ghost use Rattle.std.specs.Prelude.{◌≡◌, ◌<◌};
+
+use http_message::{FramingRefusal, Request, RequestRoom, Taken, next_request};
+use q_base::Memory;
+use q_outside::{ListSink, ListSource, Script};
+use std::alloc::Global;
+use std::marker::Brand;
+use std::sync::ledger::{Blank, Ledger};
+use std::test::Fail;
+
+/// The sizes of the pieces in which the bytes come.
+const SIZES: [usize; 4] = [1, 2, 7, 1_000_000];
+
+/// How the bytes are taken: in pieces of this size, and the call of this number fails.
+#[derive(Clone, Copy)]
+struct Way {
+    size: usize,
+    failing: Option<u64>,
+}
+
+/// No call fails.
+const fn by(size: usize) -> Way {
+    Way {
+        size,
+        failing: None,
+    }
+}
+
+/// What the calls do.
+fn script_of(alloc: Global, way: Way) -> Result<Script, Memory> {
+    let mut failing = Vec::new(alloc);
+    if let Some(call) = way.failing {
+        failing.push(call)?;
+    }
+    let sizes = vec![in alloc; way.size]?;
+    Ok(Script::of(failing, sizes))
+}
+
+/// A line for each item of the bytes, and then what the sink was given.
+fn report(alloc: Global, bytes: &[u8], takes: Way, gives: Way) -> Result<Vec<u8>, Memory> {
+    report_counted::<Brand>(alloc, bytes, takes, gives, Blank::new(1))
+}
+
+/// The same, over a sink whose faults are counted by this ledger.
+fn report_counted<L: Ledger>(
+    alloc: Global,
+    bytes: &[u8],
+    takes: Way,
+    gives: Way,
+    blank: Blank,
+) -> Result<Vec<u8>, Memory>
+    requires name { blank.name ≡ L.name }
+    requires parts { blank.parts ≡ L.parts }
+    requires some { 0 < L.parts }
+{
+    let mut source = ListSource::of(Vec::from_slice(alloc, bytes)?, script_of(alloc, takes)?);
+    let mut sink = ListSink::<L>::new(alloc, 1_000, script_of(alloc, gives)?, blank)?;
+    let mut buffer = RequestRoom::new(alloc)?;
+    let mut text = Vec::new(alloc);
+    for _turn in 0..9_usize {
+        match next_request(&mut source, &mut sink, &mut buffer) {
+            Taken::Request { place } => report_request(alloc, &mut text, place, &buffer.request())?,
+            Taken::Framing {
+                refused,
+                place,
+                head,
+            } => {
+                report_refusal(alloc, &mut text, refused, place, head)?;
+                break;
+            }
+            Taken::InputEnd => {
+                text.extend_from_slice(b"end\n")?;
+                break;
+            }
+            Taken::Truncated => {
+                text.extend_from_slice(b"truncated\n")?;
+                break;
+            }
+            Taken::ReadFault => {
+                text.extend_from_slice(b"read fault\n")?;
+                break;
+            }
+            Taken::WriteFault => {
+                text.extend_from_slice(b"write fault\n")?;
+                break;
+            }
+        }
+    }
+    text.extend_from_slice(&sink.bytes)?;
+    Ok(text)
+}
+
+/// Adds the line of a request.
+fn report_request(
+    alloc: Global,
+    text: &mut Vec<u8>,
+    place: usize,
+    request: &Request,
+) -> Result<(), Memory> {
+    text.extend_from_slice(format!(in alloc; "{place} ")?.as_bytes())?;
+    text.extend_from_slice(request.method())?;
+    text.push(b' ')?;
+    text.extend_from_slice(request.target())?;
+    let minor = request.minor();
+    let fields = request.field_count();
+    let closes = request.closes();
+    text.extend_from_slice(format!(in alloc; " {minor} {fields} {closes}: ")?.as_bytes())?;
+    text.extend_from_slice(request.body())?;
+    text.push(b'\n')?;
+    Ok(())
+}
+
+/// Adds the line of a refusal.
+fn report_refusal(
+    alloc: Global,
+    text: &mut Vec<u8>,
+    refused: FramingRefusal,
+    place: usize,
+    head: bool,
+) -> Result<(), Memory> {
+    let word = match refused {
+        FramingRefusal::BadHead => "bad_head",
+        FramingRefusal::HeadTooLarge => "head_too_large",
+        FramingRefusal::BadLength => "bad_length",
+        FramingRefusal::BadCoding => "bad_coding",
+        FramingRefusal::BodyTooLarge => "body_too_large",
+    };
+    text.extend_from_slice(format!(in alloc; "{place} {word} {head}\n")?.as_bytes())?;
+    Ok(())
+}
+
+#[test]
+fn items_are_those_of_the_bytes_in_whatever_pieces(rt: HostRuntime) -> Result<(), Fail> {
+    let rows: [(&[u8], &[u8]); 47] = [
+        (
+            b"\r\n\nGET /a HTTP/1.1\r\nHost: h\r\n\r\nHEAD /b HTTP/1.0\n\nPUT /c HTTP/1.1\nHost: h\nContent-Length: 03\n\nabc\r\n",
+            b"0 GET /a 1 1 false: \n31 HEAD /b 0 0 true: \n49 PUT /c 1 2 false: abc\nend\n",
+        ),
+        (
+            b"POST /d HTTP/1.1\r\nHost: h\r\nTransfer-Encoding: Chunked\r\n\r\n4\r\nWiki\r\n05;x=y\r\npedia\r\n0\r\nA: b\r\n\r\nGET /a HTTP/1.1\r\nHost: h\r\n\r\n",
+            b"0 POST /d 1 2 false: Wikipedia\n92 GET /a 1 1 false: \nend\n",
+        ),
+        (
+            b"POST /d HTTP/1.1\nTransfer-Encoding: chunked\n\n0\r\n\r\nPOST /d HTTP/1.1\nTransfer-Encoding: chunked\n\n0\r\n\n",
+            b"0 POST /d 1 1 false: \n50 POST /d 1 1 false: \nend\n",
+        ),
+        (
+            b"GET /a HTTP/1.1\r\nHost: a\r\nHost: b\r\nConnection: x, Close\r\n\r\nGET /a HTTP/1.1\r\nHost: h\r\n\r\n",
+            b"0 GET /a 1 3 true: \n59 GET /a 1 1 false: \nend\n",
+        ),
+        (
+            b"PUT /f HTTP/1.1\r\nExpect: 100-Continue\r\nContent-Length: 2\r\n\r\nabPUT /f HTTP/1.1\nexpect: 100-continue\nContent-Length: 0\n\nPUT /f HTTP/1.0\nExpect: 100-continue\nContent-Length: 1\n\nxPUT /f HTTP/1.1\nExpect: 100-continue, y\nContent-Length: 1\n\nxPUT /f HTTP/1.1\nExpect: 100-continue\nTransfer-Encoding: chunked\n\n0\r\n\r\n",
+            b"0 PUT /f 1 2 false: ab\n62 PUT /f 1 2 false: \n118 PUT /f 0 2 true: x\n175 PUT /f 1 2 false: x\n235 PUT /f 1 2 false: \nend\nHTTP/1.1 100 Continue\r\n\r\nHTTP/1.1 100 Continue\r\n\r\n",
+        ),
+        (b"", b"end\n"),
+        (b"\r\n\n\r", b"end\n"),
+        (b"\n", b"end\n"),
+        (b"x", b"truncated\n"),
+        (b"GET / HTTP/1.1\r\nHost: a\r\n\r", b"truncated\n"),
+        (b"PUT / HTTP/1.1\nContent-Length: 3\n\nab", b"truncated\n"),
+        (b"\n\nG", b"truncated\n"),
+        (
+            b"PUT / HTTP/1.1\nExpect: 100-continue\nContent-Length: 3\n\nab",
+            b"truncated\nHTTP/1.1 100 Continue\r\n\r\n",
+        ),
+        (
+            b"PUT / HTTP/1.1\nExpect: 100-continue\nContent-Length: 3\n\n",
+            b"truncated\nHTTP/1.1 100 Continue\r\n\r\n",
+        ),
+        (b"\rx", b"0 bad_head false\n"),
+        (
+            b"GET /a HTTP/1.1\r\nHost: h\r\n\r\n\n\r\rx",
+            b"0 GET /a 1 1 false: \n28 bad_head false\n",
+        ),
+        (b"x\n\n", b"0 bad_head false\n"),
+        (b"\nx\r\n\r\n", b"0 bad_head false\n"),
+        (b"GET /a HTTP/1.2\r\n\r\n", b"0 bad_head false\n"),
+        (b"GET /a\rb HTTP/1.1\n\n", b"0 bad_head false\n"),
+        (
+            b"PUT /a HTTP/1.1\nContent-Length: +1\n\nx",
+            b"0 bad_length false\n",
+        ),
+        (
+            b"PUT /a HTTP/1.1\nContent-Length: \n\nx",
+            b"0 bad_length false\n",
+        ),
+        (
+            b"PUT /a HTTP/1.1\nContent-Length: 1\nContent-Length: 1\n\nx",
+            b"0 bad_length false\n",
+        ),
+        (
+            b"PUT /a HTTP/1.1\nContent-Length: 00000000000000000001\n\nx",
+            b"0 bad_length false\n",
+        ),
+        (
+            b"PUT /a HTTP/1.1\nContent-Length: 1, 1\n\nx",
+            b"0 bad_length false\n",
+        ),
+        (
+            b"PUT /a HTTP/1.1\nContent-Length: 1\nTransfer-Encoding: chunked\n\nx",
+            b"0 bad_length false\n",
+        ),
+        (
+            b"PUT /a HTTP/1.0\nTransfer-Encoding: chunked\n\n0\r\n\r\n",
+            b"0 bad_length false\n",
+        ),
+        (
+            b"PUT /a HTTP/1.1\nExpect: 100-continue\nContent-Length: x\n\n",
+            b"0 bad_length false\n",
+        ),
+        (
+            b"PUT /a HTTP/1.1\nTransfer-Encoding: gzip\n\n0\r\n\r\n",
+            b"0 bad_coding false\n",
+        ),
+        (
+            b"PUT /a HTTP/1.1\nTransfer-Encoding: gzip, chunked\n\n0\r\n\r\n",
+            b"0 bad_coding false\n",
+        ),
+        (
+            b"PUT /a HTTP/1.1\nTransfer-Encoding: chunked\nTransfer-Encoding: chunked\n\n0\r\n\r\n",
+            b"0 bad_coding false\n",
+        ),
+        (
+            b"PUT /a HTTP/1.1\nContent-Length: 65537\n\n",
+            b"0 body_too_large false\n",
+        ),
+        (
+            b"PUT /a HTTP/1.1\nContent-Length: 9999999999999999999\n\n",
+            b"0 body_too_large false\n",
+        ),
+        (
+            b"PUT /a HTTP/1.1\nTransfer-Encoding: chunked\n\nzz\r\n",
+            b"0 bad_length false\n",
+        ),
+        (
+            b"PUT /a HTTP/1.1\nTransfer-Encoding: chunked\n\n1\nx\r\n",
+            b"0 bad_length false\n",
+        ),
+        (
+            b"PUT /a HTTP/1.1\nTransfer-Encoding: chunked\n\n\r\n",
+            b"0 bad_length false\n",
+        ),
+        (
+            b"PUT /a HTTP/1.1\nTransfer-Encoding: chunked\n\n1\r\nxyz",
+            b"0 bad_length false\n",
+        ),
+        (
+            b"PUT /a HTTP/1.1\nTransfer-Encoding: chunked\n\n1\r\nx\n0\r\n",
+            b"0 bad_length false\n",
+        ),
+        (
+            b"PUT /a HTTP/1.1\nTransfer-Encoding: chunked\n\n1\r\nx\r\r",
+            b"0 bad_length false\n",
+        ),
+        (
+            b"PUT /a HTTP/1.1\nTransfer-Encoding: chunked\n\n0\r\nA\r\n\r\n",
+            b"0 bad_length false\n",
+        ),
+        (
+            b"PUT /a HTTP/1.1\nTransfer-Encoding: chunked\n\n0\r\n: b\n\n",
+            b"0 bad_length false\n",
+        ),
+        (
+            b"PUT /a HTTP/1.1\nTransfer-Encoding: chunked\n\n11111111111111111\r\n",
+            b"0 bad_length false\n",
+        ),
+        (
+            b"PUT /a HTTP/1.1\nTransfer-Encoding: chunked\n\n10001\r\n",
+            b"0 body_too_large false\n",
+        ),
+        (
+            b"PUT /a HTTP/1.1\nTransfer-Encoding: chunked\n\nffffffffffffffff\r\n",
+            b"0 body_too_large false\n",
+        ),
+        (
+            b"PUT /a HTTP/1.1\nTransfer-Encoding: chunked\n\n1\r\nx\r\n10000\r\n",
+            b"0 body_too_large false\n",
+        ),
+        (
+            b"HEAD /a HTTP/1.1\nExpect: 100-continue\nTransfer-Encoding: chunked\n\nq\r\n",
+            b"0 bad_length true\nHTTP/1.1 100 Continue\r\n\r\n",
+        ),
+        (
+            b"HEAD /a HTTP/1.1\nTransfer-Encoding: x\n\n",
+            b"0 bad_coding false\n",
+        ),
+    ];
+
+    for (bytes, want) in rows {
+        for size in SIZES {
+            let text = report(rt.alloc(), bytes, by(size), by(size))?;
+            assert_eq!(rt; text.as_slice(), want, "pieces of {size}");
+        }
+    }
+    Ok(())
+}
+
+/// Empty lines, a request with a body, and one whose body is chunked.
+const FIRST: &[u8] = b"\r\n\nPUT /a HTTP/1.1\r\nContent-Length: 2\r\n\r\nhi";
+
+const SECOND: &[u8] =
+    b"POST /b HTTP/1.1\nExpect: 100-continue\nTransfer-Encoding: chunked\n\n2\r\nok\r\n0\r\nA: b\r\n\r\n";
+
+/// The length of the second's head.
+const SECOND_HEAD: usize = 66;
+
+/// The lines of their items.
+const TOLD: [&[u8]; 2] = [b"0 PUT /a 1 1 false: hi\n", b"43 POST /b 1 2 false: ok\n"];
+
+/// Both, with an empty line after them.
+fn script_bytes(alloc: Global) -> Result<Vec<u8>, Memory> {
+    let mut bytes = Vec::from_slice(alloc, FIRST)?;
+    bytes.extend_from_slice(SECOND)?;
+    bytes.push(b'\n')?;
+    Ok(bytes)
+}
+
+/// The lines of these first bytes, and of their end.
+fn expected_of(alloc: Global, size: usize) -> Result<Vec<u8>, Memory> {
+    let both = FIRST.len() + SECOND.len();
+    let mut want = Vec::new(alloc);
+    if size >= FIRST.len() {
+        want.extend_from_slice(TOLD[0])?;
+    }
+    if size >= both {
+        want.extend_from_slice(TOLD[1])?;
+    }
+    let clean = size <= 3 || size == FIRST.len() || size >= both;
+    want.extend_from_slice(if clean {
+        b"end\n".as_slice()
+    } else {
+        b"truncated\n"
+    })?;
+    if size >= FIRST.len() + SECOND_HEAD {
+        want.extend_from_slice(b"HTTP/1.1 100 Continue\r\n\r\n")?;
+    }
+    Ok(want)
+}
+
+#[test]
+fn a_stream_ends_behind_each_of_its_bytes(rt: HostRuntime) -> Result<(), Fail> {
+    let bytes = script_bytes(rt.alloc())?;
+    for size in 0..=bytes.len() {
+        let want = expected_of(rt.alloc(), size)?;
+        for piece in SIZES {
+            let text = report(rt.alloc(), &bytes[..size], by(piece), by(piece))?;
+            assert_eq!(rt;
+                text.as_slice(),
+                want.as_slice(),
+                "{size} bytes, pieces of {piece}"
+            );
+        }
+    }
+    Ok(())
+}
+
+#[test]
+fn a_source_and_a_sink_fail_at_each_call(rt: HostRuntime) -> Result<(), Fail> {
+    let bytes = script_bytes(rt.alloc())?;
+    let whole = expected_of(rt.alloc(), bytes.len())?;
+    for call in 0..200 {
+        let takes = Way {
+            size: 1,
+            failing: Some(call),
+        };
+        let text = report(rt.alloc(), &bytes, takes, by(1))?;
+        let taken = call as usize;
+        if taken > bytes.len() {
+            assert_eq!(rt; text.as_slice(), whole.as_slice(), "take {call}");
+            continue;
+        }
+        let mut want = Vec::new(rt.alloc());
+        if taken >= FIRST.len() {
+            want.extend_from_slice(TOLD[0])?;
+        }
+        if taken >= FIRST.len() + SECOND.len() {
+            want.extend_from_slice(TOLD[1])?;
+        }
+        want.extend_from_slice(b"read fault\n")?;
+        if taken >= FIRST.len() + SECOND_HEAD {
+            want.extend_from_slice(b"HTTP/1.1 100 Continue\r\n\r\n")?;
+        }
+        assert_eq!(rt; text.as_slice(), want.as_slice(), "take {call}");
+    }
+    for call in 0..25 {
+        let gives = Way {
+            size: 1,
+            failing: Some(call),
+        };
+        let text = report(rt.alloc(), &bytes, by(7), gives)?;
+        let mut want = Vec::from_slice(rt.alloc(), TOLD[0])?;
+        want.extend_from_slice(b"write fault\n")?;
+        want.extend_from_slice(&b"HTTP/1.1 100 Continue\r\n\r\n"[..call as usize])?;
+        assert_eq!(rt; text.as_slice(), want.as_slice(), "give {call}");
+    }
+    Ok(())
+}
+
+/// Adds as many of a byte.
+fn fill(text: &mut Vec<u8>, byte: u8, count: usize) -> Result<(), Memory> {
+    for _ in 0..count {
+        text.push(byte)?;
+    }
+    Ok(())
+}
+
+/// A head of this length, after a number of empty lines.
+fn long_head(alloc: Global, blank: usize, size: usize) -> Result<Vec<u8>, Memory> {
+    let mut bytes = Vec::new(alloc);
+    fill(&mut bytes, b'\n', blank)?;
+    bytes.extend_from_slice(b"GET /a HTTP/1.1\r\nHost: ")?;
+    fill(
+        &mut bytes,
+        b'a',
+        size.saturating_sub(27).saturating_sub(blank),
+    )?;
+    bytes.extend_from_slice(b"\r\n\r\n")?;
+    Ok(bytes)
+}
+
+/// A head with this number of fields.
+fn wide_head(alloc: Global, fields: usize) -> Result<Vec<u8>, Memory> {
+    let mut bytes = Vec::from_slice(alloc, b"GET /a HTTP/1.1\n")?;
+    for _ in 0..fields {
+        bytes.extend_from_slice(b"a:\n")?;
+    }
+    bytes.push(b'\n')?;
+    Ok(bytes)
+}
+
+/// A request with a number of chunks of one byte, whose lines have these lengths.
+fn long_coding(alloc: Global, lines: usize, last: usize) -> Result<Vec<u8>, Memory> {
+    let mut bytes = Vec::from_slice(alloc, CHUNKED)?;
+    for line in 0..=lines {
+        bytes.extend_from_slice(b"1;")?;
+        let size = if line == lines { last } else { 4_096 };
+        fill(&mut bytes, b'e', size.saturating_sub(4))?;
+        bytes.extend_from_slice(b"\r\nx\r\n")?;
+    }
+    bytes.extend_from_slice(b"0\r\n\r\n")?;
+    Ok(bytes)
+}
+
+/// A request whose trailers have this length with their empty line.
+fn long_trailers(alloc: Global, size: usize) -> Result<Vec<u8>, Memory> {
+    let mut bytes = Vec::from_slice(alloc, CHUNKED)?;
+    bytes.extend_from_slice(b"0\r\na:")?;
+    fill(&mut bytes, b'b', size.saturating_sub(6))?;
+    bytes.extend_from_slice(b"\r\n\r\n")?;
+    Ok(bytes)
+}
+
+/// The head of a request whose body is chunked.
+const CHUNKED: &[u8] = b"PUT /a HTTP/1.1\nTransfer-Encoding: chunked\n\n";
+
+/// The lines of the bytes begin with this, in pieces of each size.
+fn begins(alloc: Global, bytes: &[u8], want: &[u8]) -> Result<bool, Memory> {
+    for size in SIZES {
+        let text = report(alloc, bytes, by(size), by(size))?;
+        if !text.as_slice().starts_with(want) {
+            return Ok(false);
+        }
+    }
+    Ok(true)
+}
+
+#[test]
+fn limits_are_kept_at_their_edge_and_one_above(rt: HostRuntime) -> Result<(), Fail> {
+    let alloc = rt.alloc();
+    let request = b"0 GET /a 1 1 false: \nend\n".as_slice();
+    let large = b"0 head_too_large false\n".as_slice();
+    assert!(rt; begins(alloc, &long_head(alloc, 0, 16_384)?, request)?);
+    assert!(rt; begins(alloc, &long_head(alloc, 0, 16_385)?, large)?);
+    assert!(rt; begins(alloc, &long_head(alloc, 9, 16_384)?, request)?);
+    assert!(rt; begins(alloc, &long_head(alloc, 9, 16_385)?, large)?);
+    assert!(rt; begins(alloc, &vec![in alloc; b'\n'; 16_383]?, b"end\n")?);
+    assert!(rt; begins(alloc, &vec![in alloc; b'\n'; 16_384]?, large)?);
+    assert!(rt;
+        begins(
+            alloc,
+            &wide_head(alloc, 64)?,
+            b"0 GET /a 1 64 false: \nend\n"
+        )?
+    );
+    assert!(rt; begins(alloc, &wide_head(alloc, 65)?, large)?);
+    let mut sized = Vec::from_slice(alloc, b"PUT /a HTTP/1.1\nContent-Length: 65536\n\n")?;
+    fill(&mut sized, b'x', 65_536)?;
+    assert!(rt; begins(alloc, &sized, b"0 PUT /a 1 1 false: xxx")?);
+    Ok(())
+}
+
+#[test]
+fn limits_of_chunks_are_kept_at_their_edge_and_one_above(rt: HostRuntime) -> Result<(), Fail> {
+    let alloc = rt.alloc();
+    let large = b"0 body_too_large false\n".as_slice();
+    let bad = b"0 bad_length false\n".as_slice();
+    let mut chunked = Vec::from_slice(alloc, CHUNKED)?;
+    chunked.extend_from_slice(b"ffff\r\n")?;
+    fill(&mut chunked, b'x', 65_535)?;
+    chunked.extend_from_slice(b"\r\n1\r\nx\r\n")?;
+    let mut above = Vec::from_slice(alloc, &chunked)?;
+    chunked.extend_from_slice(b"0\r\n\r\n")?;
+    above.extend_from_slice(b"1\r\n")?;
+    assert!(rt; begins(alloc, &chunked, b"0 PUT /a 1 1 false: xxx")?);
+    assert!(rt; begins(alloc, &above, large)?);
+    assert!(rt;
+        begins(
+            alloc,
+            &long_coding(alloc, 0, 4_096)?,
+            b"0 PUT /a 1 1 false: x\n"
+        )?
+    );
+    assert!(rt; begins(alloc, &long_coding(alloc, 0, 4_097)?, bad)?);
+    assert!(rt;
+        begins(
+            alloc,
+            &long_trailers(alloc, 4_096)?,
+            b"0 PUT /a 1 1 false: \nend\n"
+        )?
+    );
+    assert!(rt; begins(alloc, &long_trailers(alloc, 4_097)?, bad)?);
+    assert!(rt;
+        begins(
+            alloc,
+            &long_coding(alloc, 127, 3_707)?,
+            b"0 PUT /a 1 1 false: xxx"
+        )?
+    );
+    assert!(rt; begins(alloc, &long_coding(alloc, 127, 3_708)?, large)?);
+    Ok(())
+}

@@ -1,0 +1,130 @@
+//! The words of a command line: which are taken, and what the others are answered.
+
+use crate::runs::{AMPLE, Outcome, WHOLE, assert_run, calls_of, joined, run_over, words_of};
+use crate::worked::{FOUND, GET, LAST, PUT, STORED, USAGE};
+use quaestor_prog::{Status, refusal_of};
+use q_base::Memory;
+use std::alloc::Global;
+use std::test::Fail;
+
+#[test]
+fn words_are_taken_or_refused(rt: HostRuntime) -> Result<(), Fail> {
+    let input = joined(rt.alloc(), PUT, GET)?;
+    let replies = joined(rt.alloc(), STORED, FOUND)?;
+    let rows: [(&[&str], Status, &[u8]); 12] = [
+        (&["pipe", "--clock", "100"], Status::Done, &replies),
+        (
+            &["pipe", "--clock", "18446744073709551615"],
+            Status::Done,
+            LAST,
+        ),
+        (&["pipe"], Status::Done, LAST),
+        (&["pipe", "--clock", "01"], Status::Words, USAGE),
+        (&["pipe", "--clock", "-1"], Status::Words, USAGE),
+        (&["pipe", "--clock", "+1"], Status::Words, USAGE),
+        (
+            &["pipe", "--clock", "18446744073709551616"],
+            Status::Words,
+            USAGE,
+        ),
+        (
+            &["pipe", "--clock", "1", "--clock", "2"],
+            Status::Words,
+            USAGE,
+        ),
+        (&["pipe", "--clock"], Status::Words, USAGE),
+        (&["pipe", "--clock", ""], Status::Words, USAGE),
+        (&["serve"], Status::Words, USAGE),
+        (&[], Status::Words, USAGE),
+    ];
+    for (at, (line, status, written)) in rows.into_iter().enumerate() {
+        let outcome = run_over(
+            rt.alloc(),
+            line,
+            &input,
+            calls_of(WHOLE),
+            AMPLE,
+            calls_of(WHOLE),
+        )?;
+        assert_run(&rt, &outcome, status, written, at);
+    }
+    Ok(())
+}
+
+/// Runs the program with the words of this line over a document that is put and read.
+fn run_line(alloc: Global, line: &str) -> Result<Outcome, Memory> {
+    let mut words = Vec::new(alloc);
+    for word in line.split(' ') {
+        words.push(word)?;
+    }
+    let input = joined(alloc, PUT, GET)?;
+    run_over(
+        alloc,
+        &words,
+        &input,
+        calls_of(WHOLE),
+        AMPLE,
+        calls_of(WHOLE),
+    )
+}
+
+#[test]
+fn options_are_numbers_within_their_limits(rt: HostRuntime) -> Result<(), Fail> {
+    let rows = [
+        ("pipe --bits 9", Status::Words),
+        ("pipe --bits=10 --hashes 16", Status::Done),
+        ("pipe --bits 23", Status::Words),
+        ("pipe --hashes 0", Status::Words),
+        ("pipe --hashes 17", Status::Words),
+        ("pipe --ttl-low 0", Status::Words),
+        ("pipe --ttl-low 61 --ttl-high 60", Status::Words),
+        ("pipe --ttl-low=60 --ttl-high 60", Status::Done),
+        ("pipe --ttl-low 3601", Status::Words),
+        ("pipe --ttl-high 31536001", Status::Words),
+        ("pipe --active 0", Status::Done),
+        ("pipe --active 1000001", Status::Words),
+        ("pipe --active +5", Status::Words),
+        ("pipe --bytes 65791", Status::Words),
+        ("pipe --bytes 65792 --clock=5", Status::Done),
+        ("pipe --bytes 134217729", Status::Words),
+        ("pipe x", Status::Words),
+        ("pipe --frobnicate 1", Status::Words),
+        ("world 7 0", Status::Words),
+    ];
+    for (at, (line, status)) in rows.into_iter().enumerate() {
+        let outcome = run_line(rt.alloc(), line)?;
+        assert_eq!(rt; outcome.status, status, "at {at}");
+        if status == Status::Words {
+            assert_eq!(rt; outcome.written.as_slice(), USAGE, "at {at}");
+        }
+    }
+    Ok(())
+}
+
+#[test]
+fn help_and_version_are_written(rt: HostRuntime) -> Result<(), Fail> {
+    for line in ["--help", "-h", "pipe --help", "pipe -h"] {
+        let outcome = run_line(rt.alloc(), line)?;
+        assert_eq!(rt; outcome.status, Status::Done, "of {line}");
+        assert!(rt; outcome.written.len() > USAGE.len(), "of {line}");
+    }
+    for line in ["--version", "-V", "pipe --version"] {
+        let outcome = run_line(rt.alloc(), line)?;
+        assert_run(&rt, &outcome, Status::Done, b"quaestor 0.1.0\n", 0);
+    }
+    Ok(())
+}
+
+#[test]
+fn a_refused_value_is_named_with_its_limits(rt: HostRuntime) -> Result<(), Fail> {
+    let words = words_of(rt.alloc(), &["pipe", "--bits", "9"])?;
+    let Some(refusal) = refusal_of(rt.alloc(), &words)? else {
+        return Err(Fail::from("the value is taken"));
+    };
+    let text = format!(in rt.alloc(); "{refusal}")?;
+    assert_eq!(rt;
+        text.as_str(),
+        "error: --bits is a decimal number from 10 to 22, not '9'\n"
+    );
+    Ok(())
+}

@@ -1,0 +1,9 @@
+//! Tests of keys, queries and the query language.
+#![tactic(auto)]
+
+#[cfg(test)]
+mod keys;
+#[cfg(test)]
+mod language;
+#[cfg(test)]
+mod queries;
