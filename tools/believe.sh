@@ -18,7 +18,7 @@ reached=$(mktemp) || exit 2
 trap 'rm -f "$reached" "$reached.line"' EXIT
 
 specs() { find crates -name out -prune -o -path '*/specs/*.antt' ! -name Lib.antt -print | sort; }
-sources() { find crates -name out -prune -o -path '*/src/*.rt' ! -name tests.rt ! -path '*/tests/*' -print | sort; }
+sources() { find crates -name out -prune -o -path '*/src/*.rt' ! -name tests.rt ! -path '*_tests/*' -print | sort; }
 
 # Prints a line for each file that is reached, with the names; for the kit's crates, `kit NAME`.
 closure() {

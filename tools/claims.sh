@@ -15,7 +15,7 @@ known=$(mktemp) || exit 2
 trap 'rm -f "$known"' EXIT
 
 # Functions: `C::f`, `C::T::f`; their clauses: `C::f.clause`; those with a clause without a name: `C::f.`
-sources() { find crates -name out -prune -o -path '*/src/*.rt' ! -name tests.rt ! -path '*/tests/*' -print | sort; }
+sources() { find crates -name out -prune -o -path '*/src/*.rt' ! -name tests.rt ! -path '*_tests/*' -print | sort; }
 specs() { find crates -name out -prune -o -path '*/specs/*.antt' ! -name Lib.antt -print | sort; }
 {
     awk '
