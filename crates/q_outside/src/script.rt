@@ -1,5 +1,6 @@
 //! Which calls of a source or sink in memory fail, and how many bytes the others move.
-ghost use Rattle.std.specs.Prelude.{◌<◌};
+ghost use Rattle.std.specs.Prelude.{◌≡◌, ◌<◌};
+ghost use Rattle.q_outside.specs.Scripts.{most_of};
 
 /// What the calls of a source or sink in memory do. It has the numbers of the calls that fail, counted
 /// from 0 and rising, and the limits for the others, one a call. The last limit holds for all later
@@ -23,9 +24,11 @@ pub enum ScriptStep {
 }
 
 impl ScriptStep {
-    /// The most bytes that it moves, at least one.
+    /// The most bytes that it moves, at least one. One that fails has no limit: its source fails at
+    /// most as often as it can count.
     pub fn most(self) -> usize
-        ensures { 0 < result }
+        ensures some { 0 < result }
+        ensures most { result ≡ most_of self }
     {
         match self {
             ScriptStep::Fails => usize::MAX,
