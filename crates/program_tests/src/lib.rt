@@ -2,7 +2,17 @@
 #![tactic(auto)]
 
 #[cfg(test)]
-mod runs;
+mod calls;
+#[cfg(test)]
+mod conversations;
+#[cfg(test)]
+mod documents;
+#[cfg(test)]
+mod ends;
+#[cfg(test)]
+mod faults;
+#[cfg(test)]
+mod texts;
 #[cfg(test)]
 mod words;
 #[cfg(test)]

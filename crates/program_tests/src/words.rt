@@ -1,9 +1,10 @@
 //! The words of a command line: which are taken, and what the others are answered.
 
-use crate::runs::{AMPLE, Outcome, WHOLE, assert_run, calls_of, joined, run_over, words_of};
+use crate::calls::{AMPLE, Outcome, WHOLE, assert_run, calls_of, run_over, words_of};
+use crate::texts::joined;
 use crate::worked::{FOUND, GET, LAST, PUT, STORED, USAGE};
-use quaestor_prog::{Status, refusal_of};
 use q_base::Memory;
+use quaestor_prog::{Status, refusal_of};
 use std::alloc::Global;
 use std::test::Fail;
 
