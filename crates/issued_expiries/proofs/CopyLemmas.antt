@@ -163,36 +163,6 @@ max_of_bounds new old more bounds =
     let whole = (bounds (max old more)).1 (omega arith) (omega arith) in
     omega (arith, parts.0, parts.1, whole)
 
--- the copy at a commit took the later until
-pub raised : (commits tree after : List ℕ) (capacity index commit until : ℕ) → IsOver capacity commits tree → index < length commits → get_or commits index 0 ≡ commit →
-    get_or after (capacity + index) 0 ≡ max (get_or tree (capacity + index) 0) until →
-    ((i : ℕ) → length tree ≤ 2 * i → (i ≡ capacity + index → ⊥) → get_or after i 0 ≡ get_or tree i 0) →
-    (test : ℕ → Bool) → greatest test (paired commits after capacity) ≡ max (greatest test (paired commits tree capacity)) (counted (test commit) until)
-raised commits tree after capacity index commit until over within here written others test =
-    max_of_bounds (greatest test (paired commits after capacity)) (greatest test (paired commits tree capacity)) (counted (test commit) until) (λ n. (
-      λ most. (
-          let all = within_greatest test commits after capacity n most in (
-            greatest_within test commits tree capacity n (λ i low passes. (
-                let now = all i low passes in
-                elim (cases_eq i index) [
-                  | inl same ↦ (let w = subst (λ (k : ℕ). get_or after (capacity + k) 0 ≡ max (get_or tree (capacity + k) 0) until) (sym same) written in omega (arith, w, now))
-                  | inr other ↦ (let s = over.sized in let o = others (capacity + i) (omega (arith, s)) (λ e. other (omega (arith, e))) in omega (arith, o, now))
-                ])),
-            counted_most (test commit) until n (λ passes. (
-                let now = all index within (ap test here ∙ passes) in
-                omega (arith, written, now))),
-          )),
-      λ old more. greatest_within test commits after capacity n (λ i low passes. (
-          let was = within_greatest test commits tree capacity n old i low passes in
-          elim (cases_eq i index) [
-            | inl same ↦ (
-                let w = subst (λ (k : ℕ). get_or after (capacity + k) 0 ≡ max (get_or tree (capacity + k) 0) until) (sym same) written in
-                let u = most_counted (test commit) until n more (ap test (sym here ∙ ap (λ (k : ℕ). get_or commits k 0) (sym same)) ∙ passes) in
-                omega (arith, w, was, u))
-            | inr other ↦ (let s = over.sized in let o = others (capacity + i) (omega (arith, s)) (λ e. other (omega (arith, e))) in omega (arith, o, was))
-          ])),
-    ))
-
 -- an index compared with one that was inserted
 three_ways : (index j : ℕ) → (j < index) ⊎ ((j ≡ index) ⊎ ((i : ℕ) × (j ≡ i + 1) × (index ≤ i)))
 three_ways index j =
@@ -204,56 +174,88 @@ three_ways index j =
       ])
     ]
 
--- a copy at a new commit is among the others
-pub inserted : (commits tree after : List ℕ) (capacity index commit until : ℕ) → IsOver capacity commits tree → index ≤ length commits →
-    get_or after (capacity + index) 0 ≡ until →
-    ((i : ℕ) → capacity + index ≤ i → i < capacity + length commits → get_or after (i + 1) 0 ≡ get_or tree i 0) →
-    ((i : ℕ) → length tree ≤ 2 * i → i < capacity + index → get_or after i 0 ≡ get_or tree i 0) →
-    (test : ℕ → Bool) → greatest test (paired (insert commits index commit) after capacity) ≡ max (greatest test (paired commits tree capacity)) (counted (test commit) until)
-inserted commits tree after capacity index commit until over within written moved before test =
-    let s = over.sized in
-    let long = length-insert commits index commit within in
-    max_of_bounds (greatest test (paired (insert commits index commit) after capacity)) (greatest test (paired commits tree capacity)) (counted (test commit) until) (λ n. (
-      λ most. (
-          let all = within_greatest test (insert commits index commit) after capacity n most in (
-            greatest_within test commits tree capacity n (λ i low passes. elim (cases_lt i index) [
-              | inl early ↦ (
-                  let at = get_or-insert_below commits index commit 0 i early within in
-                  let b = before (capacity + i) (omega (arith, s)) (omega (arith, early)) in
-                  let now = all i (omega (arith, long, low)) (ap test at ∙ passes) in
-                  omega (arith, b, now))
-              | inr late ↦ (
-                  let at = get_or-insert_above commits index commit 0 i late within in
-                  let m = moved (capacity + i) (omega (arith, late)) (omega (arith, low)) in
-                  let now = subst (λ (k : ℕ). get_or after k 0 ≤ n) (omega arith) (all (i + 1) (omega (arith, long, low)) (ap test at ∙ passes)) in
-                  let there : get_or after (capacity + i + 1) 0 ≤ n = now in
-                  omega (arith, m, there))
-            ]),
-            counted_most (test commit) until n (λ passes. (
-                let at = get_or-insert_at commits index commit 0 within in
-                let now = all index (omega (arith, long, within)) (ap test at ∙ passes) in
-                omega (arith, written, now))),
-          )),
-      λ old more. greatest_within test (insert commits index commit) after capacity n (λ j low passes. elim (three_ways index j) [
-        | inl early ↦ (
-            let at = get_or-insert_below commits index commit 0 j early within in
-            let b = before (capacity + j) (omega (arith, s)) (omega (arith, early)) in
-            let was = within_greatest test commits tree capacity n old j (omega (arith, early, within)) (ap test (sym at) ∙ passes) in
-            omega (arith, b, was))
-        | inr (inl same) ↦ (
-            let at = get_or-insert_at commits index commit 0 within in
-            let p : test (get_or (insert commits index commit) index 0) ≡ true = subst (λ (k : ℕ). test (get_or (insert commits index commit) k 0) ≡ true) same passes in
-            let u = most_counted (test commit) until n more (ap test (sym at) ∙ p) in
-            subst (λ (k : ℕ). get_or after (capacity + k) 0 ≤ n) (sym same) (omega (arith, written, u)))
-        | inr (inr (i, is, late)) ↦ (
-            let at = get_or-insert_above commits index commit 0 i late within in
-            let p : test (get_or (insert commits index commit) (i + 1) 0) ≡ true = subst (λ (k : ℕ). test (get_or (insert commits index commit) k 0) ≡ true) is passes in
-            let inside : i < length commits = omega (arith, long, low, is) in
-            let m = moved (capacity + i) (omega (arith, late)) (omega (arith, inside)) in
-            let was = within_greatest test commits tree capacity n old i inside (ap test (sym at) ∙ p) in
-            subst (λ (k : ℕ). get_or after k 0 ≤ n) (omega (arith, is)) (let there : get_or after (capacity + i + 1) 0 ≤ n = omega (arith, m, was) in there))
-      ]),
-    ))
+-- A copy more.
+module _ (commits tree after : List ℕ) (capacity index commit until : ℕ) (over : IsOver capacity commits tree) where
+  -- the copy at a commit took the later until
+  raised : index < length commits → get_or commits index 0 ≡ commit →
+      get_or after (capacity + index) 0 ≡ max (get_or tree (capacity + index) 0) until →
+      ((i : ℕ) → length tree ≤ 2 * i → (i ≡ capacity + index → ⊥) → get_or after i 0 ≡ get_or tree i 0) →
+      (test : ℕ → Bool) → greatest test (paired commits after capacity) ≡ max (greatest test (paired commits tree capacity)) (counted (test commit) until)
+  raised within here written others test =
+      max_of_bounds (greatest test (paired commits after capacity)) (greatest test (paired commits tree capacity)) (counted (test commit) until) (λ n. (
+        λ most. (
+            let all = within_greatest test commits after capacity n most in (
+              greatest_within test commits tree capacity n (λ i low passes. (
+                  let now = all i low passes in
+                  elim (cases_eq i index) [
+                    | inl same ↦ (let w = subst (λ (k : ℕ). get_or after (capacity + k) 0 ≡ max (get_or tree (capacity + k) 0) until) (sym same) written in omega (arith, w, now))
+                    | inr other ↦ (let s = over.sized in let o = others (capacity + i) (omega (arith, s)) (λ e. other (omega (arith, e))) in omega (arith, o, now))
+                  ])),
+              counted_most (test commit) until n (λ passes. (
+                  let now = all index within (ap test here ∙ passes) in
+                  omega (arith, written, now))),
+            )),
+        λ old more. greatest_within test commits after capacity n (λ i low passes. (
+            let was = within_greatest test commits tree capacity n old i low passes in
+            elim (cases_eq i index) [
+              | inl same ↦ (
+                  let w = subst (λ (k : ℕ). get_or after (capacity + k) 0 ≡ max (get_or tree (capacity + k) 0) until) (sym same) written in
+                  let u = most_counted (test commit) until n more (ap test (sym here ∙ ap (λ (k : ℕ). get_or commits k 0) (sym same)) ∙ passes) in
+                  omega (arith, w, was, u))
+              | inr other ↦ (let s = over.sized in let o = others (capacity + i) (omega (arith, s)) (λ e. other (omega (arith, e))) in omega (arith, o, was))
+            ])),
+      ))
+
+  -- a copy at a new commit is among the others
+  inserted : index ≤ length commits →
+      get_or after (capacity + index) 0 ≡ until →
+      ((i : ℕ) → capacity + index ≤ i → i < capacity + length commits → get_or after (i + 1) 0 ≡ get_or tree i 0) →
+      ((i : ℕ) → length tree ≤ 2 * i → i < capacity + index → get_or after i 0 ≡ get_or tree i 0) →
+      (test : ℕ → Bool) → greatest test (paired (insert commits index commit) after capacity) ≡ max (greatest test (paired commits tree capacity)) (counted (test commit) until)
+  inserted within written moved before test =
+      let s = over.sized in
+      let long = length-insert commits index commit within in
+      max_of_bounds (greatest test (paired (insert commits index commit) after capacity)) (greatest test (paired commits tree capacity)) (counted (test commit) until) (λ n. (
+        λ most. (
+            let all = within_greatest test (insert commits index commit) after capacity n most in (
+              greatest_within test commits tree capacity n (λ i low passes. elim (cases_lt i index) [
+                | inl early ↦ (
+                    let at = get_or-insert_below commits index commit 0 i early within in
+                    let b = before (capacity + i) (omega (arith, s)) (omega (arith, early)) in
+                    let now = all i (omega (arith, long, low)) (ap test at ∙ passes) in
+                    omega (arith, b, now))
+                | inr late ↦ (
+                    let at = get_or-insert_above commits index commit 0 i late within in
+                    let m = moved (capacity + i) (omega (arith, late)) (omega (arith, low)) in
+                    let now = subst (λ (k : ℕ). get_or after k 0 ≤ n) (omega arith) (all (i + 1) (omega (arith, long, low)) (ap test at ∙ passes)) in
+                    let there : get_or after (capacity + i + 1) 0 ≤ n = now in
+                    omega (arith, m, there))
+              ]),
+              counted_most (test commit) until n (λ passes. (
+                  let at = get_or-insert_at commits index commit 0 within in
+                  let now = all index (omega (arith, long, within)) (ap test at ∙ passes) in
+                  omega (arith, written, now))),
+            )),
+        λ old more. greatest_within test (insert commits index commit) after capacity n (λ j low passes. elim (three_ways index j) [
+          | inl early ↦ (
+              let at = get_or-insert_below commits index commit 0 j early within in
+              let b = before (capacity + j) (omega (arith, s)) (omega (arith, early)) in
+              let was = within_greatest test commits tree capacity n old j (omega (arith, early, within)) (ap test (sym at) ∙ passes) in
+              omega (arith, b, was))
+          | inr (inl same) ↦ (
+              let at = get_or-insert_at commits index commit 0 within in
+              let p : test (get_or (insert commits index commit) index 0) ≡ true = subst (λ (k : ℕ). test (get_or (insert commits index commit) k 0) ≡ true) same passes in
+              let u = most_counted (test commit) until n more (ap test (sym at) ∙ p) in
+              subst (λ (k : ℕ). get_or after (capacity + k) 0 ≤ n) (sym same) (omega (arith, written, u)))
+          | inr (inr (i, is, late)) ↦ (
+              let at = get_or-insert_above commits index commit 0 i late within in
+              let p : test (get_or (insert commits index commit) (i + 1) 0) ≡ true = subst (λ (k : ℕ). test (get_or (insert commits index commit) k 0) ≡ true) is passes in
+              let inside : i < length commits = omega (arith, long, low, is) in
+              let m = moved (capacity + i) (omega (arith, late)) (omega (arith, inside)) in
+              let was = within_greatest test commits tree capacity n old i inside (ap test (sym at) ∙ p) in
+              subst (λ (k : ℕ). get_or after k 0 ≤ n) (omega (arith, is)) (let there : get_or after (capacity + i + 1) 0 ≤ n = omega (arith, m, was) in there))
+        ]),
+      ))
 
 -- commits rise with one more at its index
 pub rising_with : (commits : List ℕ) (index commit : ℕ) → IsRising commits → IsIndexFor commit commits index → IsRising (insert commits index commit)
@@ -298,74 +300,73 @@ rising_with commits index commit rising fits i j order low =
           ])
     ]
 
--- the same of a vector that was lent and written as a whole
-pub raised_written : (commits tree lent after : List ℕ) (len capacity index commit until before now : ℕ) → IsOver capacity commits tree →
-    lent ≡ tree → length lent ≡ len → length after ≡ length lent → index < length commits → get_or commits index 0 ≡ commit →
-    before ≡ get_or tree (capacity + index) before → now ≡ max before until → get_or after (capacity + index) 0 ≡ now →
-    ((i : ℕ) → length lent ≤ 2 * i → (i ≡ capacity + index → ⊥) → get_or after i 0 ≡ get_or lent i 0) →
-    (test : ℕ → Bool) → greatest test (paired commits (take len (after ++ drop (length after) tree)) capacity) ≡ max (greatest test (paired commits tree capacity)) (counted (test commit) until)
-raised_written commits tree lent after len capacity index commit until before now over value long same within here was is written others test =
-    let whole = whole_written after tree len (same ∙ ap length value) (sym long ∙ ap length value) in
-    ap (λ (xs : List ℕ). greatest test (paired commits xs capacity)) whole
-    ∙ raised commits tree after capacity index commit until over within here (written ∙ is ∙ ap (λ (n : ℕ). max n until) (was ∙ get_or_default tree (capacity + index) before 0 (let s = over.sized in let f = over.fits in omega (arith, s, f, within))))
-    (subst (λ (xs : List ℕ). (i : ℕ) → length xs ≤ 2 * i → (i ≡ capacity + index → ⊥) → get_or after i 0 ≡ get_or xs i 0) value others) test
+-- The same of a vector that was lent and written as a whole.
+module _ (commits tree lent after : List ℕ) (len capacity index commit : ℕ) (over : IsOver capacity commits tree)
+    (value : lent ≡ tree) (long : length lent ≡ len) (same : length after ≡ length lent) where
+  whole : take len (after ++ drop (length after) tree) ≡ after
+  whole = whole_written after tree len (same ∙ ap length value) (sym long ∙ ap length value)
 
-pub inserted_written : (commits commits_after tree lent after : List ℕ) (len capacity index commit until end : ℕ) → IsOver capacity commits tree →
-    lent ≡ tree → length lent ≡ len → length after ≡ length lent → IsIndexFor commit commits index → end ≡ capacity + length commits → commits_after ≡ insert commits index commit →
-    get_or after (capacity + index) 0 ≡ until →
-    ((i : ℕ) → capacity + index ≤ i → i < end → get_or after (i + 1) 0 ≡ get_or lent i 0) →
-    ((i : ℕ) → length lent ≤ 2 * i → i < capacity + index → get_or after i 0 ≡ get_or lent i 0) →
-    (test : ℕ → Bool) → greatest test (paired commits_after (take len (after ++ drop (length after) tree)) capacity) ≡ max (greatest test (paired commits tree capacity)) (counted (test commit) until)
-inserted_written commits commits_after tree lent after len capacity index commit until end over value long same fits end_is put written moved before test =
-    let whole = whole_written after tree len (same ∙ ap length value) (sym long ∙ ap length value) in
-    ap (λ (xs : List ℕ). greatest test (paired commits_after xs capacity)) whole
-    ∙ ap (λ (cs : List ℕ). greatest test (paired cs after capacity)) put
-    ∙ inserted commits tree after capacity index commit until over fits.within written
-    (subst (λ (xs : List ℕ). (i : ℕ) → capacity + index ≤ i → i < capacity + length commits → get_or after (i + 1) 0 ≡ get_or xs i 0) value
-    (subst (λ (m : ℕ). (i : ℕ) → capacity + index ≤ i → i < m → get_or after (i + 1) 0 ≡ get_or lent i 0) end_is moved))
-    (subst (λ (xs : List ℕ). (i : ℕ) → length xs ≤ 2 * i → i < capacity + index → get_or after i 0 ≡ get_or xs i 0) value before) test
+  pub raised_written : (until before now : ℕ) → index < length commits → get_or commits index 0 ≡ commit →
+      before ≡ get_or tree (capacity + index) before → now ≡ max before until → get_or after (capacity + index) 0 ≡ now →
+      ((i : ℕ) → length lent ≤ 2 * i → (i ≡ capacity + index → ⊥) → get_or after i 0 ≡ get_or lent i 0) →
+      (test : ℕ → Bool) → greatest test (paired commits (take len (after ++ drop (length after) tree)) capacity) ≡ max (greatest test (paired commits tree capacity)) (counted (test commit) until)
+  raised_written until before now within here was is written others test =
+      ap (λ (xs : List ℕ). greatest test (paired commits xs capacity)) whole
+      ∙ raised commits tree after capacity index commit until over within here (written ∙ is ∙ ap (λ (n : ℕ). max n until) (was ∙ get_or_default tree (capacity + index) before 0 (let s = over.sized in let f = over.fits in omega (arith, s, f, within))))
+      (subst (λ (xs : List ℕ). (i : ℕ) → length xs ≤ 2 * i → (i ≡ capacity + index → ⊥) → get_or after i 0 ≡ get_or xs i 0) value others) test
 
--- the commits still have their numbers in the row
-pub over_inserted : (commits commits_after tree lent after : List ℕ) (len capacity index commit : ℕ) → IsOver capacity commits tree → length commits < capacity →
-    lent ≡ tree → length lent ≡ len → length after ≡ length lent → IsIndexFor commit commits index → commits_after ≡ insert commits index commit → IsMaxima after →
-    IsOver capacity commits_after (take len (after ++ drop (length after) tree))
-over_inserted commits commits_after tree lent after len capacity index commit over space value long same fits put maxima =
-    let whole = whole_written after tree len (same ∙ ap length value) (sym long ∙ ap length value) in
-    let all : IsOver capacity (insert commits index commit) after = record {
-      maxima = maxima;
-      sized = same ∙ ap length value ∙ over.sized;
-      rising = rising_with commits index commit over.rising fits;
-      fits = (let n = length-insert commits index commit fits.within in omega (arith, n, space));
-    } in
-    subst (λ (cs : List ℕ). IsOver capacity cs (take len (after ++ drop (length after) tree))) (sym put)
-    (subst (λ (xs : List ℕ). IsOver capacity (insert commits index commit) xs) (sym whole) all)
+  -- at a new commit
+  module _ (commits_after : List ℕ) (fits : IsIndexFor commit commits index) (put : commits_after ≡ insert commits index commit) where
+    pub inserted_written : (until end : ℕ) → end ≡ capacity + length commits → get_or after (capacity + index) 0 ≡ until →
+        ((i : ℕ) → capacity + index ≤ i → i < end → get_or after (i + 1) 0 ≡ get_or lent i 0) →
+        ((i : ℕ) → length lent ≤ 2 * i → i < capacity + index → get_or after i 0 ≡ get_or lent i 0) →
+        (test : ℕ → Bool) → greatest test (paired commits_after (take len (after ++ drop (length after) tree)) capacity) ≡ max (greatest test (paired commits tree capacity)) (counted (test commit) until)
+    inserted_written until end end_is written moved before test =
+        ap (λ (xs : List ℕ). greatest test (paired commits_after xs capacity)) whole
+        ∙ ap (λ (cs : List ℕ). greatest test (paired cs after capacity)) put
+        ∙ inserted commits tree after capacity index commit until over fits.within written
+        (subst (λ (xs : List ℕ). (i : ℕ) → capacity + index ≤ i → i < capacity + length commits → get_or after (i + 1) 0 ≡ get_or xs i 0) value
+        (subst (λ (m : ℕ). (i : ℕ) → capacity + index ≤ i → i < m → get_or after (i + 1) 0 ≡ get_or lent i 0) end_is moved))
+        (subst (λ (xs : List ℕ). (i : ℕ) → length xs ≤ 2 * i → i < capacity + index → get_or after i 0 ≡ get_or xs i 0) value before) test
 
--- space for copies is space for commits
-pub space_of : (commits tree : List ℕ) (capacity : ℕ) (kept : KeptCopies) → record { copies = paired commits tree capacity; capacity = capacity } ≡ kept → HasSpace kept → length commits < capacity
-space_of commits tree capacity kept is space =
-    let long = length-paired commits tree capacity in
-    let here = subst (λ (k : KeptCopies). HasSpace k) (sym is) space in
-    omega (arith, long, here)
+    -- the commits still have their numbers in the row
+    pub over_inserted : length commits < capacity → IsMaxima after → IsOver capacity commits_after (take len (after ++ drop (length after) tree))
+    over_inserted space maxima =
+        let all : IsOver capacity (insert commits index commit) after = record {
+          maxima = maxima;
+          sized = same ∙ ap length value ∙ over.sized;
+          rising = rising_with commits index commit over.rising fits;
+          fits = (let n = length-insert commits index commit fits.within in omega (arith, n, space));
+        } in
+        subst (λ (cs : List ℕ). IsOver capacity cs (take len (after ++ drop (length after) tree))) (sym put)
+        (subst (λ (xs : List ℕ). IsOver capacity (insert commits index commit) xs) (sym whole) all)
 
--- as many copies as before
-pub as_many : (commits tree after : List ℕ) (capacity : ℕ) (kept : KeptCopies) → record { copies = paired commits tree capacity; capacity = capacity } ≡ kept →
-    length (paired commits after capacity) ≤ length kept.copies + 1
-as_many commits tree after capacity kept is =
-    let new = length-paired commits after capacity in
-    let old = length-paired commits tree capacity in
-    let view = ap (λ (k : KeptCopies). length k.copies) is in
-    omega (arith, new, old, view)
+-- What the copies of commits say of these.
+module _ (commits tree : List ℕ) (capacity : ℕ) (kept : KeptCopies) (is : record { copies = paired commits tree capacity; capacity = capacity } ≡ kept) where
+  as_kept : length commits ≡ length kept.copies
+  as_kept =
+      let long = length-paired commits tree capacity in
+      let view = ap (λ (k : KeptCopies). length k.copies) is in
+      omega (arith, long, view)
 
--- one more
-pub one_more : (commits commits_after tree after : List ℕ) (capacity index commit : ℕ) (kept : KeptCopies) → record { copies = paired commits tree capacity; capacity = capacity } ≡ kept →
-    index ≤ length commits → commits_after ≡ insert commits index commit → length (paired commits_after after capacity) ≤ length kept.copies + 1
-one_more commits commits_after tree after capacity index commit kept is within put =
-    let new = length-paired commits_after after capacity in
-    let old = length-paired commits tree capacity in
-    let more = length-insert commits index commit within in
-    let put_len = ap length put in
-    let view = ap (λ (k : KeptCopies). length k.copies) is in
-    omega (arith, new, old, more, put_len, view)
+  -- space for copies is space for commits
+  pub space_of : HasSpace kept → length commits < capacity
+  space_of space =
+      let long = length-paired commits tree capacity in
+      let here = subst (λ (k : KeptCopies). HasSpace k) (sym is) space in
+      omega (arith, long, here)
+
+  -- as many copies as before
+  pub as_many : (after : List ℕ) → length (paired commits after capacity) ≤ length kept.copies + 1
+  as_many after = let new = length-paired commits after capacity in omega (arith, new, as_kept)
+
+  -- one more
+  pub one_more : (commits_after after : List ℕ) (index commit : ℕ) → index ≤ length commits → commits_after ≡ insert commits index commit → length (paired commits_after after capacity) ≤ length kept.copies + 1
+  one_more commits_after after index commit within put =
+      let new = length-paired commits_after after capacity in
+      let more = length-insert commits index commit within in
+      let put_len = ap length put in
+      omega (arith, new, as_kept, more, put_len)
 
 -- ---- what expires later than a clock
 

@@ -202,25 +202,6 @@ puts_new entries after key commit until kept absent is one = record {
     by true = (let e : max until 0 ≡ max 0 until = omega arith in e)
     by false = (let e : 0 ≡ max 0 0 = omega arith in e)
 
--- what a look-up finds where the copies of a key are replaced
-kept_set : (entries : Entries) (key asked : KeyShape) (old new : KeptCopies) → kept_of key entries ≡ Some old → kept_of asked (set_value (same_key key) entries new) ≡ cond (same_key key asked) (Some new) (kept_of asked entries)
-kept_set entries key asked old new found = lookup-set_value same_key_equiv (same_key key) (same_key_equiv.congr key) asked new entries (subst (λ (o : Option KeptCopies). IsSome o) (sym found) refl)
-
-pub puts_again : (entries after : Entries) (key : KeyShape) (commit until : ℕ) (old new : KeptCopies) → kept_of key entries ≡ Some old → after ≡ set_value (same_key key) entries new →
-    ((test : ℕ → Bool) → greatest test new.copies ≡ max (greatest test old.copies) (cond (test commit) until 0)) → Puts key commit until entries after
-puts_again entries after key commit until old new found is put = record {
-  copies = λ test.
-      ap (λ (es : Entries). greatest_in test (kept_of key es)) is
-      ∙ ap (greatest_in test) (kept_set entries key key old new found)
-      ∙ ap (λ (b : Bool). greatest_in test (cond b (Some new) (kept_of key entries))) ((same_key-Decides key key).1 refl)
-      ∙ put test
-      ∙ sym (ap (λ (o : Option KeptCopies). max (greatest_in test o) (cond (test commit) until 0)) found);
-  others = λ other miss.
-      ap (λ (es : Entries). kept_of other es) is
-      ∙ kept_set entries key other old new found
-      ∙ ap (λ (b : Bool). cond b (Some new) (kept_of other entries)) miss;
-}
-
 -- the copies after a put at the index of a key
 pub put_shown : (held after : HeldKeys) (key : KeyShape) (index until : ℕ) (new : KeptCopies) → index ≡ position_or_len (same_key key) (keys_of held) → after ≡ extended_at (with_value_at held index new) index until →
     copies_in after ≡ set_value (same_key key) (copies_in held) new
@@ -255,28 +236,37 @@ held_same clock (e ∷ held) key old new found same =
       | inr other ↦ rw other (ap (λ (copies : List Copy). map (λ copy. (e.0, copy.0, copy.1)) (filter (is_later clock) e.1.copies) ++ copies) (held_same clock held key old new (rw other at found) same))
     ]
 
--- the copies of a key after a trim
-pub trimmed : (clock : ℕ) (entries after : Entries) (key : KeyShape) (old new : KeptCopies) → kept_of key entries ≡ Some old → after ≡ set_value (same_key key) entries new →
-    filter (is_later clock) new.copies ≡ filter (is_later clock) old.copies → last_until new ≡ last_until old → Trims clock key entries after
-trimmed clock entries after key old new found is later last = record {
-  keys = ap (λ (es : Entries). keys_of es) is ∙ keys_set entries key new;
-  held = ap (held_of clock) is ∙ held_same clock entries key old new found later;
-  last =
-      ap (λ (es : Entries). greatest_in (λ _. true) (kept_of key es)) is
-      ∙ ap (greatest_in (λ _. true)) (kept_set entries key key old new found)
-      ∙ ap (λ (b : Bool). greatest_in (λ _. true) (cond b (Some new) (kept_of key entries))) ((same_key-Decides key key).1 refl)
-      ∙ last
-      ∙ sym (ap (greatest_in (λ _. true)) found);
-  others = λ other miss.
-      ap (λ (es : Entries). kept_of other es) is
-      ∙ kept_set entries key other old new found
-      ∙ ap (λ (b : Bool). cond b (Some new) (kept_of other entries)) miss;
-}
+-- The copies of a key are replaced.
+module _ (entries after : Entries) (key : KeyShape) (old new : KeptCopies) (found : kept_of key entries ≡ Some old) (is : after ≡ set_value (same_key key) entries new) where
+  -- what a look-up finds
+  kept_set : (asked : KeyShape) → kept_of asked after ≡ cond (same_key key asked) (Some new) (kept_of asked entries)
+  kept_set asked =
+      ap (λ (es : Entries). kept_of asked es) is
+      ∙ lookup-set_value same_key_equiv (same_key key) (same_key_equiv.congr key) asked new entries (subst (λ (o : Option KeptCopies). IsSome o) (sym found) refl)
 
-pub space_set : (entries after : Entries) (key : KeyShape) (old new : KeptCopies) → kept_of key entries ≡ Some old → after ≡ set_value (same_key key) entries new → HasSpace new → IfSome (kept_of key after) HasSpace
-space_set entries after key old new found is space =
-    subst (λ (o : Option KeptCopies). IfSome o HasSpace)
-    (sym (ap (λ (es : Entries). kept_of key es) is ∙ kept_set entries key key old new found ∙ ap (λ (b : Bool). cond b (Some new) (kept_of key entries)) ((same_key-Decides key key).1 refl))) space
+  own : kept_of key after ≡ Some new
+  own = kept_set key ∙ ap (λ (b : Bool). cond b (Some new) (kept_of key entries)) ((same_key-Decides key key).1 refl)
+
+  others : (other : KeyShape) → same_key key other ≡ false → kept_of other after ≡ kept_of other entries
+  others other miss = kept_set other ∙ ap (λ (b : Bool). cond b (Some new) (kept_of other entries)) miss
+
+  pub puts_again : (commit until : ℕ) → ((test : ℕ → Bool) → greatest test new.copies ≡ max (greatest test old.copies) (cond (test commit) until 0)) → Puts key commit until entries after
+  puts_again commit until put = record {
+    copies = λ test. ap (greatest_in test) own ∙ put test ∙ sym (ap (λ (o : Option KeptCopies). max (greatest_in test o) (cond (test commit) until 0)) found);
+    others = others;
+  }
+
+  -- the copies of a key after a trim
+  pub trimmed : (clock : ℕ) → filter (is_later clock) new.copies ≡ filter (is_later clock) old.copies → last_until new ≡ last_until old → Trims clock key entries after
+  trimmed clock later last = record {
+    keys = ap (λ (es : Entries). keys_of es) is ∙ keys_set entries key new;
+    held = ap (held_of clock) is ∙ held_same clock entries key old new found later;
+    last = ap (greatest_in (λ _. true)) own ∙ last ∙ sym (ap (greatest_in (λ _. true)) found);
+    others = others;
+  }
+
+  pub space_set : HasSpace new → IfSome (kept_of key after) HasSpace
+  space_set space = subst (λ (o : Option KeptCopies). IfSome o HasSpace) (sym own) space
 
 -- ---- what a moment does
 
@@ -287,45 +277,52 @@ ages_then moment first second third a b c (inl before) (inr (kept, is, past, gon
 ages_then moment first second third a b c (inr (kept, is, past, gone, idle)) (inl after) = inr (kept, is, past, after.0 ∙ gone, after.1 ∙ idle)
 ages_then moment first second third a b c (inr (kept, is, past, gone, idle)) (inr (other, other_is, other_past, other_gone, other_idle)) = inr (kept, is, past, other_gone, other_idle)
 
--- the key whose last copy expired was removed, and no other
-pub ages_expired : (moment : ℕ) (key : KeyShape) (value : KeptCopies) (held rest : HeldKeys) (idle after : List KeyShape) → AreTied held → IsDistinct same_key (keys_of (copies_in held)) → Expires moment key value held rest →
-    ((q : KeyShape) → list_any (same_key q) after ≡ (same_key key q || list_any (same_key q) idle)) →
-    (asked : KeyShape) → Ages moment (kept_of asked (copies_in held)) (kept_of asked (copies_in rest)) (list_any (same_key asked) idle) (list_any (same_key asked) after)
-ages_expired moment key value held rest idle after tied distinct expires with_key asked =
-    let perm : IsPermutation (copies_in held) ((key, value) ∷ copies_in rest) =
-    IsPermutation-map (λ (e : KeyShape × Timed KeptCopies). (e.0, e.1.value)) held ((key, record { until = expires.until; value = value }) ∷ rest) expires.removed.parted in
-    let found : kept_of asked (copies_in held) ≡ kept_of asked ((key, value) ∷ copies_in rest) =
-    lookup_permutation same_key_equiv ((key, value) ∷ copies_in rest) (copies_in held) (IsPermutation-sym (copies_in held) ((key, value) ∷ copies_in rest) perm) distinct (same_key asked) (same_key_equiv.congr asked) in
-    elim (cases_Bool (same_key key asked)) [
-      | inl same ↦ (
-          let is : key ≡ asked = (same_key-Decides key asked).0 same in
-          let own : same_key asked key ≡ true = (same_key-Decides asked key).1 (sym is) in
-          let all = All-permutation (λ (e : KeyShape × Timed KeptCopies). e.1.until ≡ last_until e.1.value) held ((key, record { until = expires.until; value = value }) ∷ rest) expires.removed.parted tied in
-          let last : expires.until ≡ last_until value = all 0 (key, record { until = expires.until; value = value }) (omega arith) in
-          let past = expires.past in
-          inr (
-            value,
-            found ∙ (rw own refl),
-            omega (arith, last, past),
-            ap (λ (k : KeyShape). kept_of k (copies_in rest)) (sym is) ∙ none_shown rest key expires.removed.absent,
-            with_key asked ∙ ap (λ (b : Bool). b || list_any (same_key asked) idle) same,
-          ))
-      | inr other ↦ (
-          let miss : same_key asked key ≡ false = other_way key asked other in
-          inl (
-            sym (found ∙ (rw miss refl)),
-            with_key asked ∙ ap (λ (b : Bool). b || list_any (same_key asked) idle) other,
-          ))
-    ]
+-- A key expired, and its entry was removed.
+module _ {moment : ℕ} {key : KeyShape} {value : KeptCopies} {held rest : HeldKeys} (expires : Expires moment key value held rest) where
+  abbrev removed : KeyShape × Timed KeptCopies
+  removed = (key, record { until = expires.until; value = value })
 
-pub tied_rest : (moment : ℕ) (key : KeyShape) (value : KeptCopies) (held rest : HeldKeys) → Expires moment key value held rest → AreTied held → AreTied rest
-tied_rest moment key value held rest expires tied k d low =
-    All-permutation (λ (e : KeyShape × Timed KeptCopies). e.1.until ≡ last_until e.1.value) held ((key, record { until = expires.until; value = value }) ∷ rest) expires.removed.parted tied (suc k) d (omega (arith, low))
+  parted : IsPermutation held (removed ∷ rest)
+  parted = expires.removed.parted
 
-pub fewer : (moment : ℕ) (key : KeyShape) (value : KeptCopies) (held rest : HeldKeys) → Expires moment key value held rest → length held ≡ length rest + 1
-fewer moment key value held rest expires =
-    let size = length_permutation held ((key, record { until = expires.until; value = value }) ∷ rest) expires.removed.parted in
-    omega (arith, size)
+  -- it and the others are tied
+  tied_all : AreTied held → AreTied (removed ∷ rest)
+  tied_all tied = All-permutation (λ (e : KeyShape × Timed KeptCopies). e.1.until ≡ last_until e.1.value) held (removed ∷ rest) parted tied
+
+  -- its last copy expired, and no other key was removed
+  pub ages_expired : (idle after : List KeyShape) → AreTied held → IsDistinct same_key (keys_of (copies_in held)) →
+      ((q : KeyShape) → list_any (same_key q) after ≡ (same_key key q || list_any (same_key q) idle)) →
+      (asked : KeyShape) → Ages moment (kept_of asked (copies_in held)) (kept_of asked (copies_in rest)) (list_any (same_key asked) idle) (list_any (same_key asked) after)
+  ages_expired idle after tied distinct with_key asked =
+      let perm : IsPermutation (copies_in held) ((key, value) ∷ copies_in rest) = IsPermutation-map (λ (e : KeyShape × Timed KeptCopies). (e.0, e.1.value)) held (removed ∷ rest) parted in
+      let found : kept_of asked (copies_in held) ≡ kept_of asked ((key, value) ∷ copies_in rest) =
+      lookup_permutation same_key_equiv ((key, value) ∷ copies_in rest) (copies_in held) (IsPermutation-sym (copies_in held) ((key, value) ∷ copies_in rest) perm) distinct (same_key asked) (same_key_equiv.congr asked) in
+      elim (cases_Bool (same_key key asked)) [
+        | inl same ↦ (
+            let is : key ≡ asked = (same_key-Decides key asked).0 same in
+            let own : same_key asked key ≡ true = (same_key-Decides asked key).1 (sym is) in
+            let last : expires.until ≡ last_until value = tied_all tied 0 removed (omega arith) in
+            let past = expires.past in
+            inr (
+              value,
+              found ∙ (rw own refl),
+              omega (arith, last, past),
+              ap (λ (k : KeyShape). kept_of k (copies_in rest)) (sym is) ∙ none_shown rest key expires.removed.absent,
+              with_key asked ∙ ap (λ (b : Bool). b || list_any (same_key asked) idle) same,
+            ))
+        | inr other ↦ (
+            let miss : same_key asked key ≡ false = other_way key asked other in
+            inl (
+              sym (found ∙ (rw miss refl)),
+              with_key asked ∙ ap (λ (b : Bool). b || list_any (same_key asked) idle) other,
+            ))
+      ]
+
+  pub tied_rest : AreTied held → AreTied rest
+  tied_rest tied k d low = tied_all tied (suc k) d (omega (arith, low))
+
+  pub fewer : length held ≡ length rest + 1
+  fewer = let size = length_permutation held (removed ∷ rest) parted in omega (arith, size)
 
 -- where no key leaves, none is past the moment
 pub unexpired_all : (moment : ℕ) (held : HeldKeys) → AreTied held → All (λ (e : KeyShape × Timed KeptCopies). moment < e.1.until) held → AreUnexpired moment (copies_in held)

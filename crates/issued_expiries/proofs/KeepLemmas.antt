@@ -1,5 +1,5 @@
 -- The copies that are kept when the expired ones are dropped.
-use Rattle.std.proofs.Common.{◌≡◌, ◌⊎◌, zero, suc, ℕ, ◌+◌, ◌-◌, ◌*◌, ◌<◌, ◌≤◌, cond, ltb, Bool, List, [], ◌∷◌, ◌++◌, length, take, drop, set, get_or, filter, count_by, refl, sym, ap, ◌∙◌, subst, arith, inl, inr, length-append, append-nil}
+use Rattle.std.proofs.Common.{◌≡◌, ◌⊎◌, zero, suc, ℕ, ◌+◌, ◌-◌, ◌*◌, ◌<◌, ◌≤◌, cond, ltb, Bool, true, false, List, [], ◌∷◌, ◌++◌, length, take, drop, set, get_or, filter, count_by, refl, sym, ap, ◌∙◌, subst, arith, inl, inr, length-append, append-nil}
 use Rattle.std.proofs.lemmas.Bool.{cases_Bool, cases_lt, lt-ltb, le-ltb}
 use Rattle.std.proofs.lemmas.List.{get_or-set_same, get_or-set_other, get_or_append_left, take_all, get_or-take, get_or-drop}
 use Rattle.std.proofs.lemmas.List.Elements.{filter_more}
@@ -50,22 +50,6 @@ pub record IsKeptUpto (clock : ℕ) (commits untils : List ℕ) (i : ℕ) (kept 
   pub rising : IsRising kept
   pub below : (k j : ℕ) → k < length kept → i ≤ j → j < length commits → get_or kept k 0 < get_or commits j 0
 
--- the test of a copy at an index
-later_at : (clock : ℕ) (commits untils : List ℕ) (i : ℕ) → i < length commits → (d : ℕ × ℕ) → is_later clock (get_or (paired commits untils 0) i d) ≡ ltb clock (get_or untils i 0)
-later_at clock commits untils i low d =
-    ap (is_later clock) (get_or-paired commits untils 0 i d low) ∙ ap (λ (k : ℕ). ltb clock (get_or untils k 0)) (let e : 0 + i ≡ i = omega arith in e)
-
--- there is space for one more
-pub kept_space : (clock : ℕ) (commits untils : List ℕ) (i : ℕ) (kept tree : List ℕ) (start : ℕ) → IsKeptUpto clock commits untils i kept tree start → i < length commits → clock < get_or untils i 0 →
-    length kept < count_by (is_later clock) (paired commits untils 0)
-kept_space clock commits untils i kept tree start so_far low late =
-    let long = length-paired commits untils 0 in
-    let yes = later_at clock commits untils i low (0, 0) ∙ lt-ltb clock (get_or untils i 0) late in
-    let more = count_by_more_yes (is_later clock) (paired commits untils 0) i (0, 0) (omega (arith, long, low)) yes in
-    let most = sum_by-take-le (λ (x : ℕ × ℕ). cond (is_later clock x) 1 0) (paired commits untils 0) (i + 1) in
-    let now = so_far.count in
-    omega (arith, more, most, now)
-
 -- an element of a list with one more behind it
 pushed_at : (xs : List ℕ) (x k : ℕ) → k < length (xs ++ x ∷ []) → ((k < length xs) × (get_or (xs ++ x ∷ []) k 0 ≡ get_or xs k 0)) ⊎ ((k ≡ length xs) × (get_or (xs ++ x ∷ []) k 0 ≡ x))
 pushed_at xs x k low =
@@ -89,46 +73,6 @@ rising_push xs x rising above i j order low =
       | inr (i_end, i_is) ↦ absurd (omega (arith, i_end, order, low, long))
     ]
 
--- a copy that expires later is kept
-pub keeps_one : (clock : ℕ) (commits untils : List ℕ) (i : ℕ) (kept tree : List ℕ) (start : ℕ) → IsKeptUpto clock commits untils i kept tree start → IsRising commits → i < length commits → clock < get_or untils i 0 →
-    start + length kept < length tree → IsKeptUpto clock commits untils (i + 1) (kept ++ get_or commits i 0 ∷ []) (set tree (start + length kept) (get_or untils i 0)) start
-keeps_one clock commits untils i kept tree start so_far rising low late within =
-    let long = length-paired commits untils 0 in
-    let yes = later_at clock commits untils i low (0, 0) ∙ lt-ltb clock (get_or untils i 0) late in
-    let at : get_or (paired commits untils 0) i (0, 0) ≡ (get_or commits i 0, get_or untils i 0) =
-    get_or-paired commits untils 0 i (0, 0) low ∙ ap (λ (k : ℕ). (get_or commits i 0, get_or untils k 0)) (let e : 0 + i ≡ i = omega arith in e) in
-    let inside : i < length (paired commits untils 0) = omega (arith, long, low) in
-    record {
-      copies =
-          kept_push kept tree start (get_or commits i 0) (get_or untils i 0) within
-          ∙ ap (λ (ps : List (ℕ × ℕ)). ps ++ (get_or commits i 0, get_or untils i 0) ∷ []) so_far.copies
-          ∙ ap (λ (x : ℕ × ℕ). filter (is_later clock) (take i (paired commits untils 0)) ++ x ∷ []) (sym at)
-          ∙ sym (filter_more (is_later clock) (paired commits untils 0) i (0, 0) inside
-          ∙ ap (λ (b : Bool). filter (is_later clock) (take i (paired commits untils 0)) ++ cond b (get_or (paired commits untils 0) i (0, 0) ∷ []) []) yes);
-      count = (let n = length-append kept (get_or commits i 0 ∷ []) in let m = count_by_more_yes (is_later clock) (paired commits untils 0) i (0, 0) inside yes in let now = so_far.count in omega (arith, n, m, now));
-      rising = rising_push kept (get_or commits i 0) so_far.rising (λ k k_in. so_far.below k i k_in (omega arith) low);
-      below = λ k j k_low from j_low. elim (pushed_at kept (get_or commits i 0) k k_low) [
-        | inl (k_in, k_is) ↦ (let b = so_far.below k j k_in (omega (arith, from)) j_low in omega (arith, k_is, b))
-        | inr (k_end, k_is) ↦ (let r = rising i j (omega (arith, from)) j_low in omega (arith, k_is, r))
-      ];
-    }
-
--- one that is expired is not
-pub keeps_none : (clock : ℕ) (commits untils : List ℕ) (i : ℕ) (kept tree : List ℕ) (start : ℕ) → IsKeptUpto clock commits untils i kept tree start → i < length commits → get_or untils i 0 ≤ clock →
-    IsKeptUpto clock commits untils (i + 1) kept tree start
-keeps_none clock commits untils i kept tree start so_far low past =
-    let long = length-paired commits untils 0 in
-    let inside : i < length (paired commits untils 0) = omega (arith, long, low) in
-    let no_more = later_at clock commits untils i low (0, 0) ∙ le-ltb clock (get_or untils i 0) past in
-    record {
-      copies = so_far.copies ∙ sym (filter_more (is_later clock) (paired commits untils 0) i (0, 0) inside
-          ∙ ap (λ (b : Bool). filter (is_later clock) (take i (paired commits untils 0)) ++ cond b (get_or (paired commits untils 0) i (0, 0) ∷ []) []) no_more
-          ∙ append-nil (filter (is_later clock) (take i (paired commits untils 0))));
-      count = so_far.count ∙ sym (count_by_more_no (is_later clock) (paired commits untils 0) i (0, 0) inside no_more);
-      rising = so_far.rising;
-      below = λ k j k_low from j_low. so_far.below k j k_low (omega (arith, from)) j_low;
-    }
-
 -- nothing is kept at first
 pub kept_first : (clock : ℕ) (commits untils kept tree : List ℕ) (start : ℕ) → kept ≡ [] → IsKeptUpto clock commits untils 0 kept tree start
 kept_first clock commits untils kept tree start empty = subst (λ (xs : List ℕ). IsKeptUpto clock commits untils 0 xs tree start) (sym empty) (record {
@@ -138,27 +82,83 @@ kept_first clock commits untils kept tree start empty = subst (λ (xs : List ℕ
   below = λ k j k_low from j_low. absurd (omega (arith, k_low));
 })
 
--- all of them
-pub kept_last : (clock : ℕ) (commits untils : List ℕ) (i : ℕ) (kept tree : List ℕ) (start : ℕ) → IsKeptUpto clock commits untils i kept tree start → length commits ≤ i →
-    paired kept tree start ≡ filter (is_later clock) (paired commits untils 0)
-kept_last clock commits untils i kept tree start so_far past =
-    let long = length-paired commits untils 0 in
-    so_far.copies ∙ ap (filter (is_later clock)) (take_all i (paired commits untils 0) (omega (arith, long, past)))
+-- What becomes of the copies kept so far.
+module _ {clock : ℕ} {commits untils : List ℕ} {i : ℕ} {kept tree : List ℕ} {start : ℕ} (so_far : IsKeptUpto clock commits untils i kept tree start) where
+  abbrev all : List (ℕ × ℕ)
+  all = paired commits untils 0
 
--- the same, as the code leaves it
-pub kept_one : (clock : ℕ) (commits untils : List ℕ) (i : ℕ) (kept tree : List ℕ) (start : ℕ) (kept_after tree_after : List ℕ) (len : ℕ) → IsKeptUpto clock commits untils i kept tree start → IsRising commits → i < length commits → clock < get_or untils i 0 →
-    start + length kept < length tree → len ≡ length kept → kept_after ≡ kept ++ get_or commits i 0 ∷ [] → tree_after ≡ set tree (start + len) (get_or untils i 0) → IsKeptUpto clock commits untils (i + 1) kept_after tree_after start
-kept_one clock commits untils i kept tree start kept_after tree_after len so_far rising low late within len_is kept_is tree_is =
-    subst (λ (xs : List ℕ). IsKeptUpto clock commits untils (i + 1) xs tree_after start) (sym kept_is)
-    (subst (λ (xs : List ℕ). IsKeptUpto clock commits untils (i + 1) (kept ++ get_or commits i 0 ∷ []) xs start) (sym (tree_is ∙ ap (λ (n : ℕ). set tree (start + n) (get_or untils i 0)) len_is))
-    (keeps_one clock commits untils i kept tree start so_far rising low late within))
+  -- the next copy
+  next_is : i < length commits → get_or all i (0, 0) ≡ (get_or commits i 0, get_or untils i 0)
+  next_is low = get_or-paired commits untils 0 i (0, 0) low ∙ ap (λ (k : ℕ). (get_or commits i 0, get_or untils k 0)) (let e : 0 + i ≡ i = omega arith in e)
 
-pub kept_none : (clock : ℕ) (commits untils : List ℕ) (i : ℕ) (kept tree : List ℕ) (start : ℕ) (kept_after tree_after : List ℕ) → IsKeptUpto clock commits untils i kept tree start → i < length commits → get_or untils i 0 ≤ clock →
-    kept_after ≡ kept → tree_after ≡ tree → IsKeptUpto clock commits untils (i + 1) kept_after tree_after start
-kept_none clock commits untils i kept tree start kept_after tree_after so_far low past kept_is tree_is =
-    subst (λ (xs : List ℕ). IsKeptUpto clock commits untils (i + 1) xs tree_after start) (sym kept_is)
-    (subst (λ (xs : List ℕ). IsKeptUpto clock commits untils (i + 1) kept xs start) (sym tree_is)
-    (keeps_none clock commits untils i kept tree start so_far low past))
+  next_within : i < length commits → i < length all
+  next_within low = let long = length-paired commits untils 0 in omega (arith, long, low)
+
+  next_late : i < length commits → clock < get_or untils i 0 → is_later clock (get_or all i (0, 0)) ≡ true
+  next_late low late = ap (is_later clock) (next_is low) ∙ lt-ltb clock (get_or untils i 0) late
+
+  next_past : i < length commits → get_or untils i 0 ≤ clock → is_later clock (get_or all i (0, 0)) ≡ false
+  next_past low past = ap (is_later clock) (next_is low) ∙ le-ltb clock (get_or untils i 0) past
+
+  -- there is space for one more
+  pub kept_space : i < length commits → clock < get_or untils i 0 → length kept < count_by (is_later clock) (paired commits untils 0)
+  kept_space low late =
+      let more = count_by_more_yes (is_later clock) all i (0, 0) (next_within low) (next_late low late) in
+      let most = sum_by-take-le (λ (x : ℕ × ℕ). cond (is_later clock x) 1 0) all (i + 1) in
+      let now = so_far.count in
+      omega (arith, more, most, now)
+
+  -- a copy that expires later is kept
+  keeps_one : IsRising commits → i < length commits → clock < get_or untils i 0 → start + length kept < length tree →
+      IsKeptUpto clock commits untils (i + 1) (kept ++ get_or commits i 0 ∷ []) (set tree (start + length kept) (get_or untils i 0)) start
+  keeps_one rising low late within = record {
+    copies =
+        kept_push kept tree start (get_or commits i 0) (get_or untils i 0) within
+        ∙ ap (λ (ps : List (ℕ × ℕ)). ps ++ (get_or commits i 0, get_or untils i 0) ∷ []) so_far.copies
+        ∙ ap (λ (x : ℕ × ℕ). filter (is_later clock) (take i all) ++ x ∷ []) (sym (next_is low))
+        ∙ sym (filter_more (is_later clock) all i (0, 0) (next_within low)
+        ∙ ap (λ (b : Bool). filter (is_later clock) (take i all) ++ cond b (get_or all i (0, 0) ∷ []) []) (next_late low late));
+    count = (let n = length-append kept (get_or commits i 0 ∷ []) in let m = count_by_more_yes (is_later clock) all i (0, 0) (next_within low) (next_late low late) in let now = so_far.count in omega (arith, n, m, now));
+    rising = rising_push kept (get_or commits i 0) so_far.rising (λ k k_in. so_far.below k i k_in (omega arith) low);
+    below = λ k j k_low from j_low. elim (pushed_at kept (get_or commits i 0) k k_low) [
+      | inl (k_in, k_is) ↦ (let b = so_far.below k j k_in (omega (arith, from)) j_low in omega (arith, k_is, b))
+      | inr (k_end, k_is) ↦ (let r = rising i j (omega (arith, from)) j_low in omega (arith, k_is, r))
+    ];
+  }
+
+  -- one that is expired is not
+  keeps_none : i < length commits → get_or untils i 0 ≤ clock → IsKeptUpto clock commits untils (i + 1) kept tree start
+  keeps_none low past = record {
+    copies = so_far.copies ∙ sym (filter_more (is_later clock) all i (0, 0) (next_within low)
+        ∙ ap (λ (b : Bool). filter (is_later clock) (take i all) ++ cond b (get_or all i (0, 0) ∷ []) []) (next_past low past)
+        ∙ append-nil (filter (is_later clock) (take i all)));
+    count = so_far.count ∙ sym (count_by_more_no (is_later clock) all i (0, 0) (next_within low) (next_past low past));
+    rising = so_far.rising;
+    below = λ k j k_low from j_low. so_far.below k j k_low (omega (arith, from)) j_low;
+  }
+
+  -- the same, as the code leaves it
+  pub kept_one : {kept_after tree_after : List ℕ} (len : ℕ) → IsRising commits → i < length commits → clock < get_or untils i 0 → start + length kept < length tree →
+      len ≡ length kept → kept_after ≡ kept ++ get_or commits i 0 ∷ [] → tree_after ≡ set tree (start + len) (get_or untils i 0) → IsKeptUpto clock commits untils (i + 1) kept_after tree_after start
+  kept_one {kept_after} {tree_after} len rising low late within len_is kept_is tree_is =
+      subst (λ (xs : List ℕ). IsKeptUpto clock commits untils (i + 1) xs tree_after start) (sym kept_is)
+      (subst (λ (xs : List ℕ). IsKeptUpto clock commits untils (i + 1) (kept ++ get_or commits i 0 ∷ []) xs start) (sym (tree_is ∙ ap (λ (n : ℕ). set tree (start + n) (get_or untils i 0)) len_is))
+      (keeps_one rising low late within))
+
+  pub kept_none : {kept_after tree_after : List ℕ} → i < length commits → get_or untils i 0 ≤ clock → kept_after ≡ kept → tree_after ≡ tree → IsKeptUpto clock commits untils (i + 1) kept_after tree_after start
+  kept_none {kept_after} {tree_after} low past kept_is tree_is =
+      subst (λ (xs : List ℕ). IsKeptUpto clock commits untils (i + 1) xs tree_after start) (sym kept_is)
+      (subst (λ (xs : List ℕ). IsKeptUpto clock commits untils (i + 1) kept xs start) (sym tree_is) (keeps_none low past))
+
+  -- all of them
+  taken : length commits ≤ i → take i all ≡ all
+  taken past = let long = length-paired commits untils 0 in take_all i all (omega (arith, long, past))
+
+  pub kept_last : length commits ≤ i → paired kept tree start ≡ filter (is_later clock) (paired commits untils 0)
+  kept_last past = so_far.copies ∙ ap (filter (is_later clock)) (taken past)
+
+  pub kept_count : length commits ≤ i → length kept ≡ count_by (is_later clock) (paired commits untils 0)
+  kept_count past = so_far.count ∙ ap (count_by (is_later clock)) (taken past)
 
 -- as many copies expire later as untils are later
 pub count_paired : (clock : ℕ) (commits untils numbers : List ℕ) (start : ℕ) → length commits ≡ length untils → ((i : ℕ) → i < length untils → get_or numbers (start + i) 0 ≡ get_or untils i 0) →
@@ -209,12 +209,6 @@ filter_twice {X} p (x ∷ xs) =
 
 pub filter_again : {X : Type 0} (p : X → Bool) (new old : List X) → new ≡ filter p old → filter p new ≡ filter p old
 filter_again p new old is = ap (filter p) is ∙ filter_twice p old
-
-pub kept_count : (clock : ℕ) (commits untils : List ℕ) (i : ℕ) (kept tree : List ℕ) (start : ℕ) → IsKeptUpto clock commits untils i kept tree start → length commits ≤ i →
-    length kept ≡ count_by (is_later clock) (paired commits untils 0)
-kept_count clock commits untils i kept tree start so_far past =
-    let long = length-paired commits untils 0 in
-    so_far.count ∙ ap (count_by (is_later clock)) (take_all i (paired commits untils 0) (omega (arith, long, past)))
 
 -- what was filled, in a vector that was written as a whole
 pub filled : (kept filled_tree items tree commits lent lent_commits : List ℕ) (len capacity start commits_len clock : ℕ) (copies : List (ℕ × ℕ)) → length filled_tree ≡ length items → len ≡ length items →

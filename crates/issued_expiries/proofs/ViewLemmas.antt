@@ -54,53 +54,9 @@ later_join u None b = refl
 later_join u (Some v) None = refl
 later_join u (Some v) (Some w) = ap (λ (n : ℕ). Some n) (let e : max u (max v w) ≡ max (max u v) w = omega arith in e)
 
-latest-append : (key : KeyShape) (test : ℕ → Bool) (some others : List Copy) → latest_where key test (some ++ others) ≡ join (latest_where key test some) (latest_where key test others)
-latest-append key test [] others = refl
-latest-append key test (x ∷ some) others =
-    elim (cases_Bool (same_key key x.0 && test x.1)) [
-      | inl passes ↦ (rw passes (ap (λ (o : Option ℕ). Some (later_of x.2 o)) (latest-append key test some others) ∙ later_join x.2 (latest_where key test some) (latest_where key test others)))
-      | inr fails ↦ (rw fails (latest-append key test some others))
-    ]
-
 -- the copies of one key, as the list of all shows them
 abbrev pub shown : ℕ → KeyShape → List (ℕ × ℕ) → List Copy
 shown clock key copies = map (λ copy. (key, copy.0, copy.1)) (filter (is_later clock) copies)
-
-latest_own : (clock : ℕ) (key own : KeyShape) (test : ℕ → Bool) → same_key key own ≡ true → (copies : List (ℕ × ℕ)) → latest_where key test (shown clock own copies) ≡ if_above clock (greatest test copies)
-latest_own clock key own test same [] = sym (above_nothing clock 0 (omega arith))
-latest_own clock key own test same (x ∷ xs) =
-    elim (cases_lt clock x.1) [
-      | inl late ↦ (rw (lt-ltb clock x.1 late) (rw same (elim (cases_Bool (test x.0)) [
-        | inl passes ↦ (rw passes (ap (λ (o : Option ℕ). Some (later_of x.1 o)) (latest_own clock key own test same xs) ∙ later_above clock x.1 (greatest test xs) late))
-        | inr fails ↦ (rw fails (latest_own clock key own test same xs))
-      ])))
-      | inr past ↦ (rw (le-ltb clock x.1 past) (elim (cases_Bool (test x.0)) [
-        | inl passes ↦ (rw passes (latest_own clock key own test same xs ∙ past_above clock x.1 (greatest test xs) past))
-        | inr fails ↦ (rw fails (latest_own clock key own test same xs))
-      ]))
-    ]
-
-latest_other : (clock : ℕ) (key own : KeyShape) (test : ℕ → Bool) → same_key key own ≡ false → (copies : List (ℕ × ℕ)) → latest_where key test (shown clock own copies) ≡ None
-latest_other clock key own test other [] = refl
-latest_other clock key own test other (x ∷ xs) =
-    elim (cases_lt clock x.1) [
-      | inl late ↦ (rw (lt-ltb clock x.1 late) (rw other (latest_other clock key own test other xs)))
-      | inr past ↦ (rw (le-ltb clock x.1 past) (latest_other clock key own test other xs))
-    ]
-
--- ---- entries
-
--- nothing is shown of a key that is not kept
-latest_absent : (clock : ℕ) (key : KeyShape) (test : ℕ → Bool) (entries : Entries) → kept_of key entries ≡ None → latest_where key test (held_of clock entries) ≡ None
-latest_absent clock key test [] absent = refl
-latest_absent clock key test (e ∷ entries) absent =
-    elim (cases_Bool (same_key key e.0)) [
-      | inl hit ↦ absurd (let first : Some e.1 ≡ None = rw hit at absent in cc)
-      | inr other ↦ (
-          latest-append key test (shown clock e.0 e.1.copies) (held_of clock entries)
-          ∙ ap (λ (o : Option ℕ). join o (latest_where key test (held_of clock entries))) (latest_other clock key e.0 test other e.1.copies)
-          ∙ latest_absent clock key test entries (rw other at absent))
-    ]
 
 join_none : (o : Option ℕ) → join o None ≡ o
 join_none None = refl
@@ -110,26 +66,67 @@ distinct_rest : (e : KeyShape × KeptCopies) (entries : Entries) → IsDistinct 
 unfolding IsDistinct
 distinct_rest e entries distinct = distinct.1
 
--- what is shown of a key is what is kept of it
-pub latest_kept : (clock : ℕ) (key : KeyShape) (test : ℕ → Bool) (entries : Entries) → IsDistinct same_key (keys_of entries) → latest_where key test (held_of clock entries) ≡ if_above clock (greatest_in test (kept_of key entries))
-latest_kept clock key test [] distinct = sym (above_nothing clock 0 (omega arith))
-latest_kept clock key test (e ∷ entries) distinct =
-    elim (cases_Bool (same_key key e.0)) [
-      | inl hit ↦ (
-          latest-append key test (shown clock e.0 e.1.copies) (held_of clock entries)
-          ∙ ap (λ (o : Option ℕ). join (latest_where key test (shown clock e.0 e.1.copies)) o) (latest_absent clock key test entries (absent_past key e entries distinct hit))
-          ∙ join_none (latest_where key test (shown clock e.0 e.1.copies))
-          ∙ latest_own clock key e.0 test hit e.1.copies
-          ∙ (rw hit refl))
-      | inr other ↦ (
-          latest-append key test (shown clock e.0 e.1.copies) (held_of clock entries)
-          ∙ ap (λ (o : Option ℕ). join o (latest_where key test (held_of clock entries))) (latest_other clock key e.0 test other e.1.copies)
-          ∙ latest_kept clock key test entries (distinct_rest e entries distinct)
-          ∙ (rw other refl))
-    ]
-  where
-    absent_past : (key : KeyShape) (e : KeyShape × KeptCopies) (entries : Entries) → IsDistinct same_key (keys_of (e ∷ entries)) → same_key key e.0 ≡ true → kept_of key entries ≡ None
-    absent_past key e entries distinct hit = lookup-none (same_key key) entries (none_past_head same_key_equiv key e entries distinct hit)
+-- Of a list of copies, what is shown of a key.
+module _ (clock : ℕ) (key : KeyShape) (test : ℕ → Bool) where
+  latest-append : (some others : List Copy) → latest_where key test (some ++ others) ≡ join (latest_where key test some) (latest_where key test others)
+  latest-append [] others = refl
+  latest-append (x ∷ some) others =
+      elim (cases_Bool (same_key key x.0 && test x.1)) [
+        | inl passes ↦ (rw passes (ap (λ (o : Option ℕ). Some (later_of x.2 o)) (latest-append some others) ∙ later_join x.2 (latest_where key test some) (latest_where key test others)))
+        | inr fails ↦ (rw fails (latest-append some others))
+      ]
+
+  latest_own : (own : KeyShape) → same_key key own ≡ true → (copies : List (ℕ × ℕ)) → latest_where key test (shown clock own copies) ≡ if_above clock (greatest test copies)
+  latest_own own same [] = sym (above_nothing clock 0 (omega arith))
+  latest_own own same (x ∷ xs) =
+      elim (cases_lt clock x.1) [
+        | inl late ↦ (rw (lt-ltb clock x.1 late) (rw same (elim (cases_Bool (test x.0)) [
+          | inl passes ↦ (rw passes (ap (λ (o : Option ℕ). Some (later_of x.1 o)) (latest_own own same xs) ∙ later_above clock x.1 (greatest test xs) late))
+          | inr fails ↦ (rw fails (latest_own own same xs))
+        ])))
+        | inr past ↦ (rw (le-ltb clock x.1 past) (elim (cases_Bool (test x.0)) [
+          | inl passes ↦ (rw passes (latest_own own same xs ∙ past_above clock x.1 (greatest test xs) past))
+          | inr fails ↦ (rw fails (latest_own own same xs))
+        ]))
+      ]
+
+  latest_other : (own : KeyShape) → same_key key own ≡ false → (copies : List (ℕ × ℕ)) → latest_where key test (shown clock own copies) ≡ None
+  latest_other own other [] = refl
+  latest_other own other (x ∷ xs) =
+      elim (cases_lt clock x.1) [
+        | inl late ↦ (rw (lt-ltb clock x.1 late) (rw other (latest_other own other xs)))
+        | inr past ↦ (rw (le-ltb clock x.1 past) (latest_other own other xs))
+      ]
+
+  -- nothing is shown of a key that is not kept
+  latest_absent : (entries : Entries) → kept_of key entries ≡ None → latest_where key test (held_of clock entries) ≡ None
+  latest_absent [] absent = refl
+  latest_absent (e ∷ entries) absent =
+      elim (cases_Bool (same_key key e.0)) [
+        | inl hit ↦ absurd (let first : Some e.1 ≡ None = rw hit at absent in cc)
+        | inr other ↦ (
+            latest-append (shown clock e.0 e.1.copies) (held_of clock entries)
+            ∙ ap (λ (o : Option ℕ). join o (latest_where key test (held_of clock entries))) (latest_other e.0 other e.1.copies)
+            ∙ latest_absent entries (rw other at absent))
+      ]
+
+  -- what is shown of a key is what is kept of it
+  pub latest_kept : (entries : Entries) → IsDistinct same_key (keys_of entries) → latest_where key test (held_of clock entries) ≡ if_above clock (greatest_in test (kept_of key entries))
+  latest_kept [] distinct = sym (above_nothing clock 0 (omega arith))
+  latest_kept (e ∷ entries) distinct =
+      elim (cases_Bool (same_key key e.0)) [
+        | inl hit ↦ (
+            latest-append (shown clock e.0 e.1.copies) (held_of clock entries)
+            ∙ ap (λ (o : Option ℕ). join (latest_where key test (shown clock e.0 e.1.copies)) o) (latest_absent entries (lookup-none (same_key key) entries (none_past_head same_key_equiv key e entries distinct hit)))
+            ∙ join_none (latest_where key test (shown clock e.0 e.1.copies))
+            ∙ latest_own e.0 hit e.1.copies
+            ∙ (rw hit refl))
+        | inr other ↦ (
+            latest-append (shown clock e.0 e.1.copies) (held_of clock entries)
+            ∙ ap (λ (o : Option ℕ). join o (latest_where key test (held_of clock entries))) (latest_other e.0 other e.1.copies)
+            ∙ latest_kept entries (distinct_rest e entries distinct)
+            ∙ (rw other refl))
+      ]
 
 -- ---- which keys are active
 

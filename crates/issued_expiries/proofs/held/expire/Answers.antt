@@ -7,22 +7,22 @@ use Rattle.issued_expiries.proofs.held.expire.Goals as goal
 
 pub add_idle-requires : goal.add_idle-requires
 add_idle-requires c =
-    let one = fewer c.args.moment c.in-Some.key _ _ _ c.in-Some.ensures.some in
+    let one = fewer c.in-Some.ensures.some in
     omega (arith, one, c.loop-key.invariant.space)
 
 pub loop-key-smaller : goal.loop-key-smaller
 loop-key-smaller c =
-    let one = fewer c.args.moment c.in-Some.key _ _ _ c.in-Some.ensures.some in
+    let one = fewer c.in-Some.ensures.some in
     omega (arith, one)
 
 pub loop-key-preserved : goal.loop-key-preserved
 loop-key-preserved c =
-    let one = fewer c.args.moment c.in-Some.key _ _ _ c.in-Some.ensures.some in
+    let one = fewer c.in-Some.ensures.some in
     record {
       ages = λ asked.
           ages_then c.args.moment _ _ _ _ _ _ (c.loop-key.invariant.ages asked)
-          (ages_expired c.args.moment c.in-Some.key _ _ _ _ _ c.loop-key.invariant.tied c.loop-key.invariant.distinct c.in-Some.ensures.some c.add_idle.ensures.keys asked);
-      tied = tied_rest c.args.moment c.in-Some.key _ _ _ c.in-Some.ensures.some c.loop-key.invariant.tied;
+          (ages_expired c.in-Some.ensures.some _ _ c.loop-key.invariant.tied c.loop-key.invariant.distinct c.add_idle.ensures.keys asked);
+      tied = tied_rest c.in-Some.ensures.some c.loop-key.invariant.tied;
       distinct = distinct_shown _ c.next_expired.ensures.once;
       reserved = c.next_expired.ensures.reserved ∙ c.loop-key.invariant.reserved;
       space = omega (arith, one, c.loop-key.invariant.space, c.add_idle.ensures.spare);

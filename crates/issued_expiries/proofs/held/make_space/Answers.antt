@@ -20,7 +20,7 @@ pub returns-in-Some-clause-trims : goal.returns-in-Some-clause-trims
 returns-in-Some-clause-trims c =
     let at = index_found c.args.key.now _ c.in-Some.index c.in-Some.ensures.index in
     let found = kept_at c.args.held.now.entries c.args.key.now c.in-Some.index _ at c.value_mut.ensures.value in
-    trimmed c.args.clock _ _ c.args.key.now _ _ found (written_shown c.args.held.now.entries c.args.key.now c.in-Some.index c.make_space.new.self at) c.make_space.ensures.later c.make_space.ensures.last
+    trimmed _ _ c.args.key.now _ _ found (written_shown c.args.held.now.entries c.args.key.now c.in-Some.index c.make_space.new.self at) c.args.clock c.make_space.ensures.later c.make_space.ensures.last
 
 pub returns-in-Some-clause-tied : goal.returns-in-Some-clause-tied
 returns-in-Some-clause-tied c = tied_written c.args.held.now.entries c.in-Some.index _ c.make_space.new.self c.value_mut.ensures.value c.make_space.ensures.last c.requires.tied

@@ -24,7 +24,7 @@ pub returns-in-Some-clause-puts : goal.returns-in-Some-clause-puts
 returns-in-Some-clause-puts c =
     let at = index_found c.args.key.now _ c.in-Some.index c.in-Some.ensures.index in
     let found = kept_at c.args.held.now.entries c.args.key.now c.in-Some.index _ at c.value_mut.ensures.value in
-    puts_again _ _ c.args.key.now c.args.commit c.args.until _ _ found (put_shown c.args.held.now.entries _ c.args.key.now c.in-Some.index c.args.until c.put.new.self at (after_is c)) c.put.ensures.greatest
+    puts_again _ _ c.args.key.now _ _ found (put_shown c.args.held.now.entries _ c.args.key.now c.in-Some.index c.args.until c.put.new.self at (after_is c)) c.args.commit c.args.until c.put.ensures.greatest
 
 pub returns-in-Some-clause-tied : goal.returns-in-Some-clause-tied
 returns-in-Some-clause-tied c =

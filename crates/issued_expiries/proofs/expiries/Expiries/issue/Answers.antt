@@ -35,7 +35,7 @@ invariant_of-self-2 c =
     record {
       capped = c.self.invariant.capped;
       sound =
-          sound_put _ _ _ _ _ _ _ c.args.key.now c.args.commit c.args.until c.self.invariant.sound c.if-until-self.false c.put.ensures.puts c.put.ensures.reserved c.leave_out.ensures.left
+          sound_put _ _ _ c.args.key.now c.args.commit c.args.until c.if-until-self.false c.put.ensures.puts _ _ _ _ c.self.invariant.sound c.put.ensures.reserved c.leave_out.ensures.left
           c.put.ensures.distinct c.put.ensures.tied c.put.ensures.len few;
       idle_space = omega (arith, more, c.put.ensures.used, c.self.invariant.idle_space, c.leave_out.ensures.spare);
     }
@@ -43,7 +43,7 @@ invariant_of-self-2 c =
 pub returns-clause-held : goal.returns-clause-held
 returns-clause-held c =
     subst (λ (i : Issued). SameCopies (held_of c.self.inside.clock (copies_in c.put.new.held.entries)) (with_copy i.clock (c.args.key.now, c.args.commit, c.args.until) i.held)) c.self.view_is
-    (put_held c.self.inside.clock (copies_in c.self.inside.held.entries) (copies_in c.put.new.held.entries) c.args.key.now c.args.commit c.args.until c.self.invariant.sound.distinct c.put.ensures.distinct c.if-until-self.false c.put.ensures.puts)
+    (put_held c.self.inside.clock c.self.inside.held.entries c.put.new.held.entries c.args.key.now c.args.commit c.args.until c.if-until-self.false c.put.ensures.puts c.self.invariant.sound.distinct c.put.ensures.distinct)
 
 pub returns-clause-idle : goal.returns-clause-idle
 returns-clause-idle c =

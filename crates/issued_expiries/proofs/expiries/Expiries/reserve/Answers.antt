@@ -10,7 +10,7 @@ invariant_of-self c =
     record {
       capped = c.self.invariant.capped;
       sound =
-          sound_cut _ c.args.key.now _ _ _ _ _ _ c.self.invariant.sound c.make_space.ensures.trims c.make_space.ensures.tied (sym c.reserves.ensures ∙ c.if-reserves.false) c.make_space.ensures.reserved refl;
+          sound_cut _ c.self.invariant.sound c.make_space.ensures.trims c.make_space.ensures.tied (sym c.reserves.ensures ∙ c.if-reserves.false) c.make_space.ensures.reserved refl;
       idle_space = omega (arith, same, c.self.invariant.idle_space, c.make_space.ensures.len);
     }
 
@@ -20,7 +20,7 @@ invariant_of-self-in_err-reserve_idle c =
     record {
       capped = c.self.invariant.capped;
       sound =
-          sound_cut _ c.args.key.now _ _ _ _ _ _ c.self.invariant.sound c.make_space.ensures.trims c.make_space.ensures.tied (sym c.reserves.ensures ∙ c.if-reserves.false) c.make_space.ensures.reserved
+          sound_cut _ c.self.invariant.sound c.make_space.ensures.trims c.make_space.ensures.tied (sym c.reserves.ensures ∙ c.if-reserves.false) c.make_space.ensures.reserved
           c.reserve_idle.ensures.keys;
       idle_space = omega (arith, same, c.self.invariant.idle_space, c.make_space.ensures.len, c.reserve_idle.ensures.spare);
     }
@@ -32,7 +32,7 @@ invariant_of-self-2 c =
     record {
       capped = c.self.invariant.capped;
       sound =
-          sound_reserved _ c.args.key.now _ _ _ _ _ _ _ _ c.self.invariant.sound c.make_space.ensures.trims c.make_space.ensures.tied (sym c.reserves.ensures ∙ c.if-reserves.false) c.make_space.ensures.reserved
+          sound_reserved _ c.self.invariant.sound c.make_space.ensures.trims c.make_space.ensures.tied (sym c.reserves.ensures ∙ c.if-reserves.false) c.make_space.ensures.reserved
           c.reserve_idle.ensures.keys c.in_ok-make_space.ensures.space c.reserve.ensures.others c.reserve.ensures.entries;
       idle_space = omega (arith, size, c.reserve.ensures.len, c.len.ensures.len, c.reserved.ensures.len, c.in_ok-reserve_idle.ensures.space);
     }
