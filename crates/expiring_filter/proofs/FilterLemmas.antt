@@ -30,21 +30,6 @@ Entries = List (KeyShape × Timed (Unit {0}))
 abbrev pub Held : Type 0
 Held = List (KeyShape × ℕ)
 
--- the bits are those of the counts
-pub bits_counted : (log2_bits hashes : ℕ) (held : List (KeyShape × ℕ)) (counters bytes : List ℕ) → IsCounted log2_bits hashes held counters bytes →
-    flat_bits bytes ≡ map (λ j. nat_lt 0 (count_among log2_bits hashes held j)) (range_with_len 0 (2 ^ log2_bits))
-bits_counted log2_bits hashes held counters bytes c =
-    let long = length-map counters (λ n. nat_lt 0 n) in
-    let size = length-map-range_with_len (λ j. nat_lt 0 (count_among log2_bits hashes held j)) 0 (2 ^ log2_bits) in
-    c.flat
-    ∙ ext_get_or false (map (λ n. nat_lt 0 n) counters) (map (λ j. nat_lt 0 (count_among log2_bits hashes held j)) (range_with_len 0 (2 ^ log2_bits)))
-    (long ∙ c.sized ∙ sym size)
-    (λ j low.
-    let within : j < length counters = omega (arith, long, low) in
-    get_or-map (λ n. nat_lt 0 n) counters j 0 false within
-    ∙ ap (λ n. nat_lt 0 n) (c.counted j within)
-    ∙ sym (get_or-map-range_with_len (λ i. nat_lt 0 (count_among log2_bits hashes held i)) 0 (2 ^ log2_bits) j j false (let s = c.sized in omega (arith, within, s)) (omega arith)))
-
 -- no bit is set where no counter is above 0
 flat_first : (n size : ℕ) → 8 * n ≡ size → IsFlat (replicate size 0) (replicate n 0)
 flat_first n size whole =
@@ -203,43 +188,51 @@ all_shown moment entries all = All-map (λ (x : KeyShape × ℕ). moment < x.1) 
 
 -- ---- the counts
 
--- a key has a position for each hash
-length_positions : (key : KeyShape) (log2_bits hashes : ℕ) → length (positions key log2_bits hashes) ≡ hashes
-unfolding positions_of
-length_positions key log2_bits hashes = length-map-range_with_len _ 0 hashes
+-- Counts of that many bits and hashes.
+module _ (log2_bits hashes : ℕ) where
+  -- a key has a position for each hash
+  length_positions : (key : KeyShape) → length (positions key log2_bits hashes) ≡ hashes
+  unfolding positions_of
+  length_positions key = length-map-range_with_len _ 0 hashes
 
--- no counter passes what the held keys can count
-counts_small : (log2_bits hashes : ℕ) (held : Held) (j : ℕ) → hashes ≤ 16 → count_among log2_bits hashes held j ≤ 16 * length held
-counts_small log2_bits hashes [] j few = omega arith
-counts_small log2_bits hashes (e ∷ held) j few =
-    let one = sum_by-cons (λ (x : KeyShape × ℕ). times j (positions x.0 log2_bits hashes)) e held in
-    let rest = counts_small log2_bits hashes held j few in
-    let own = count_by-le-length (λ (p : ℕ). p == j) (positions e.0 log2_bits hashes) in
-    let size = length_positions e.0 log2_bits hashes in
-    omega (arith, one, rest, own, size, few)
+  -- no counter passes what the held keys can count
+  counts_small : (held : Held) (j : ℕ) → hashes ≤ 16 → count_among log2_bits hashes held j ≤ 16 * length held
+  counts_small [] j few = omega arith
+  counts_small (e ∷ held) j few =
+      let one = sum_by-cons (λ (x : KeyShape × ℕ). times j (positions x.0 log2_bits hashes)) e held in
+      let rest = counts_small held j few in
+      let own = count_by-le-length (λ (p : ℕ). p == j) (positions e.0 log2_bits hashes) in
+      let size = length_positions e.0 in
+      omega (arith, one, rest, own, size, few)
 
--- the positions of one key more do not overflow a counter
-pub counter_fits : (log2_bits hashes : ℕ) (held : Held) (counters bytes : List ℕ) (key : KeyShape) (j : ℕ) → IsCounted log2_bits hashes held counters bytes → get_or counters j 0 + times j (positions key log2_bits hashes) < 2 ^ 32
-counter_fits log2_bits hashes held counters bytes key j c =
-    let own = count_by-le-length (λ (p : ℕ). p == j) (positions key log2_bits hashes) in
-    let size = length_positions key log2_bits hashes in
-    elim (cases_lt j (length counters)) [
-      | inl within ↦ (
-          let all = counts_small log2_bits hashes held j c.few_hashes in
-          let counted = c.counted j within in
-          omega (arith, all, counted, own, size, c.few, c.few_hashes))
-      | inr past ↦ (
-          let none = get_or_past counters j 0 past in
-          omega (arith, none, own, size, c.few_hashes))
-    ]
+  count-extended : (entries : Entries) (index until j : ℕ) → count_among log2_bits hashes (seconds_of (extended_at entries index until)) j ≡ count_among log2_bits hashes (seconds_of entries) j
+  count-extended [] index until j = refl
+  count-extended (e ∷ entries) zero until j =
+      let one = sum_by-cons (λ (x : KeyShape × ℕ). times j (positions x.0 log2_bits hashes)) (e.0, e.1.until) (seconds_of entries) in
+      let two = sum_by-cons (λ (x : KeyShape × ℕ). times j (positions x.0 log2_bits hashes)) (e.0, max e.1.until until) (seconds_of entries) in
+      omega (arith, one, two)
+  count-extended (e ∷ entries) (suc index) until j =
+      let one = sum_by-cons (λ (x : KeyShape × ℕ). times j (positions x.0 log2_bits hashes)) (e.0, e.1.until) (seconds_of entries) in
+      let two = sum_by-cons (λ (x : KeyShape × ℕ). times j (positions x.0 log2_bits hashes)) (e.0, e.1.until) (seconds_of (extended_at entries index until)) in
+      let rest = count-extended entries index until j in
+      omega (arith, one, two, rest)
 
--- the counts of the removed key are among the counts
-pub enough : (log2_bits hashes : ℕ) (held rest : Held) (key : KeyShape) (until : ℕ) (counters bytes : List ℕ) (j : ℕ) → IsPermutation held ((key, until) ∷ rest) → IsCounted log2_bits hashes held counters bytes → j < length counters →
-    times j (positions key log2_bits hashes) ≤ get_or counters j 0
-enough log2_bits hashes held rest key until counters bytes j perm c low =
-    let sum = sum_by_popped (λ (x : KeyShape × ℕ). times j (positions x.0 log2_bits hashes)) (key, until) held rest perm in
-    let counted = c.counted j low in
-    omega (arith, sum, counted)
+  -- nothing is held at first
+  pub counted_first : (entries : Entries) (counters bytes : List ℕ) → log2_bits ≤ 22 → hashes ≤ 16 → entries ≡ [] →
+      counters ≡ replicate (2 ^ log2_bits) 0 → bytes ≡ replicate (2 ^ log2_bits / 8) 0 → 8 * (2 ^ log2_bits / 8) ≡ 2 ^ log2_bits → IsCounted log2_bits hashes (seconds_of entries) counters bytes
+  counted_first entries counters bytes most few none zeros clear whole =
+      let size = length-replicate {A = ℕ} (2 ^ log2_bits) 0 in
+      let counted : IsCounted log2_bits hashes [] (replicate (2 ^ log2_bits) 0) (replicate (2 ^ log2_bits / 8) 0) = record {
+        most_bits = most;
+        few_hashes = few;
+        few = omega arith;
+        sized = size;
+        counted = λ j low. get_or-replicate (2 ^ log2_bits) j 0 0 (omega (arith, low, size));
+        flat = flat_first (2 ^ log2_bits / 8) (2 ^ log2_bits) whole;
+      } in
+      subst (λ (es : Entries). IsCounted log2_bits hashes (seconds_of es) counters bytes) (sym none)
+      (subst (λ (xs : List ℕ). IsCounted log2_bits hashes [] xs bytes) (sym zeros)
+      (subst (λ (xs : List ℕ). IsCounted log2_bits hashes [] (replicate (2 ^ log2_bits) 0) xs) (sym clear) counted))
 
 -- what the counters were made for stays
 abbrev pub SameFilter : ℕ → ℕ → ℕ → ℕ → Type 0
@@ -249,25 +242,64 @@ same_counted : (log2_bits hashes log2_after hashes_after : ℕ) (held : Held) (c
 same_counted log2_bits hashes log2_after hashes_after held counters bytes same counted =
     subst (λ (n : ℕ). IsCounted n hashes_after held counters bytes) (sym same.0) (subst (λ (n : ℕ). IsCounted log2_bits n held counters bytes) (sym same.1) counted)
 
--- the counts without a key
-pub counted_without : (log2_bits hashes log2_after hashes_after : ℕ) (held rest : Held) (key : KeyShape) (until : ℕ) (counters after bytes bits : List ℕ) → SameFilter log2_bits hashes log2_after hashes_after → IsPermutation held ((key, until) ∷ rest) →
-    IsCounted log2_bits hashes held counters bytes → length after ≡ length counters →
-    ((j : ℕ) → j < length counters → get_or after j 0 + times j (positions key log2_bits hashes) ≡ get_or counters j 0) → IsFlat after bits → IsCounted log2_after hashes_after rest after bits
-counted_without log2_bits hashes log2_after hashes_after held rest key until counters after bytes bits same_filter perm c same lowered flat =
-    let fewer = length_permutation held ((key, until) ∷ rest) perm in
-    same_counted log2_bits hashes log2_after hashes_after rest after bits same_filter (record {
-      most_bits = c.most_bits;
-      few_hashes = c.few_hashes;
-      few = omega (arith, fewer, c.few);
-      sized = same ∙ c.sized;
-      counted = λ j low.
-          let inside : j < length counters = omega (arith, same, low) in
-          let sum = sum_by_popped (λ (x : KeyShape × ℕ). times j (positions x.0 log2_bits hashes)) (key, until) held rest perm in
-          let was = c.counted j inside in
-          let now = lowered j inside in
-          omega (arith, sum, was, now);
-      flat = flat;
-    })
+-- The counts of the held keys.
+module _ {log2_bits hashes : ℕ} {held : Held} {counters bytes : List ℕ} (c : IsCounted log2_bits hashes held counters bytes) where
+  -- the bits are those of the counts
+  pub bits_counted : flat_bits bytes ≡ map (λ j. nat_lt 0 (count_among log2_bits hashes held j)) (range_with_len 0 (2 ^ log2_bits))
+  bits_counted =
+      let long = length-map counters (λ n. nat_lt 0 n) in
+      let size = length-map-range_with_len (λ j. nat_lt 0 (count_among log2_bits hashes held j)) 0 (2 ^ log2_bits) in
+      c.flat
+      ∙ ext_get_or false (map (λ n. nat_lt 0 n) counters) (map (λ j. nat_lt 0 (count_among log2_bits hashes held j)) (range_with_len 0 (2 ^ log2_bits)))
+      (long ∙ c.sized ∙ sym size)
+      (λ j low.
+      let within : j < length counters = omega (arith, long, low) in
+      get_or-map (λ n. nat_lt 0 n) counters j 0 false within
+      ∙ ap (λ n. nat_lt 0 n) (c.counted j within)
+      ∙ sym (get_or-map-range_with_len (λ i. nat_lt 0 (count_among log2_bits hashes held i)) 0 (2 ^ log2_bits) j j false (let s = c.sized in omega (arith, within, s)) (omega arith)))
+
+  -- the positions of one key more do not overflow a counter
+  pub counter_fits : (key : KeyShape) (j : ℕ) → get_or counters j 0 + times j (positions key log2_bits hashes) < 2 ^ 32
+  counter_fits key j =
+      let own = count_by-le-length (λ (p : ℕ). p == j) (positions key log2_bits hashes) in
+      let size = length_positions log2_bits hashes key in
+      elim (cases_lt j (length counters)) [
+        | inl within ↦ (
+            let all = counts_small log2_bits hashes held j c.few_hashes in
+            let counted = c.counted j within in
+            omega (arith, all, counted, own, size, c.few, c.few_hashes))
+        | inr past ↦ (
+            let none = get_or_past counters j 0 past in
+            omega (arith, none, own, size, c.few_hashes))
+      ]
+
+  -- and of those that are left without one
+  module _ (key : KeyShape) (until : ℕ) (rest : Held) (perm : IsPermutation held ((key, until) ∷ rest)) where
+    -- the counts of the removed key are among the counts
+    pub enough : (j : ℕ) → j < length counters → times j (positions key log2_bits hashes) ≤ get_or counters j 0
+    enough j low =
+        let sum = sum_by_popped (λ (x : KeyShape × ℕ). times j (positions x.0 log2_bits hashes)) (key, until) held rest perm in
+        let counted = c.counted j low in
+        omega (arith, sum, counted)
+
+    -- the counts without a key
+    pub counted_without : {log2_after hashes_after : ℕ} (after bits : List ℕ) → SameFilter log2_bits hashes log2_after hashes_after → length after ≡ length counters →
+        ((j : ℕ) → j < length counters → get_or after j 0 + times j (positions key log2_bits hashes) ≡ get_or counters j 0) → IsFlat after bits → IsCounted log2_after hashes_after rest after bits
+    counted_without {log2_after} {hashes_after} after bits same_filter same lowered flat =
+        let fewer = length_permutation held ((key, until) ∷ rest) perm in
+        same_counted log2_bits hashes log2_after hashes_after rest after bits same_filter (record {
+          most_bits = c.most_bits;
+          few_hashes = c.few_hashes;
+          few = omega (arith, fewer, c.few);
+          sized = same ∙ c.sized;
+          counted = λ j low.
+              let inside : j < length counters = omega (arith, same, low) in
+              let sum = sum_by_popped (λ (x : KeyShape × ℕ). times j (positions x.0 log2_bits hashes)) (key, until) held rest perm in
+              let was = c.counted j inside in
+              let now = lowered j inside in
+              omega (arith, sum, was, now);
+          flat = flat;
+        })
 
 -- the counts with one key more
 pub counted_with : (log2_bits hashes log2_after hashes_after : ℕ) (entries after_entries : Entries) (key : KeyShape) (until : ℕ) (counters after bytes bits : List ℕ) → SameFilter log2_bits hashes log2_after hashes_after →
@@ -292,18 +324,6 @@ counted_with log2_bits hashes log2_after hashes_after entries after_entries key 
           omega (arith, was, now, sum);
       flat = flat;
     }))
-
-count-extended : (log2_bits hashes : ℕ) (entries : Entries) (index until j : ℕ) → count_among log2_bits hashes (seconds_of (extended_at entries index until)) j ≡ count_among log2_bits hashes (seconds_of entries) j
-count-extended log2_bits hashes [] index until j = refl
-count-extended log2_bits hashes (e ∷ entries) zero until j =
-    let one = sum_by-cons (λ (x : KeyShape × ℕ). times j (positions x.0 log2_bits hashes)) (e.0, e.1.until) (seconds_of entries) in
-    let two = sum_by-cons (λ (x : KeyShape × ℕ). times j (positions x.0 log2_bits hashes)) (e.0, max e.1.until until) (seconds_of entries) in
-    omega (arith, one, two)
-count-extended log2_bits hashes (e ∷ entries) (suc index) until j =
-    let one = sum_by-cons (λ (x : KeyShape × ℕ). times j (positions x.0 log2_bits hashes)) (e.0, e.1.until) (seconds_of entries) in
-    let two = sum_by-cons (λ (x : KeyShape × ℕ). times j (positions x.0 log2_bits hashes)) (e.0, e.1.until) (seconds_of (extended_at entries index until)) in
-    let rest = count-extended log2_bits hashes entries index until j in
-    omega (arith, one, two, rest)
 
 length-extended : (entries : Entries) (index until : ℕ) → length (seconds_of (extended_at entries index until)) ≡ length (seconds_of entries)
 length-extended [] index until = refl
@@ -331,20 +351,3 @@ few_without entries key few absent =
       | inl among ↦ absurd (let wrong : true ≡ false = sym among ∙ sym (found_among entries key) ∙ ap is_some absent in cc)
       | inr space ↦ omega (arith, size, space)
     ]
-
--- nothing is held at first
-pub counted_first : (log2_bits hashes : ℕ) (entries : Entries) (counters bytes : List ℕ) → log2_bits ≤ 22 → hashes ≤ 16 → entries ≡ [] →
-    counters ≡ replicate (2 ^ log2_bits) 0 → bytes ≡ replicate (2 ^ log2_bits / 8) 0 → 8 * (2 ^ log2_bits / 8) ≡ 2 ^ log2_bits → IsCounted log2_bits hashes (seconds_of entries) counters bytes
-counted_first log2_bits hashes entries counters bytes most few none zeros clear whole =
-    let size = length-replicate {A = ℕ} (2 ^ log2_bits) 0 in
-    let counted : IsCounted log2_bits hashes [] (replicate (2 ^ log2_bits) 0) (replicate (2 ^ log2_bits / 8) 0) = record {
-      most_bits = most;
-      few_hashes = few;
-      few = omega arith;
-      sized = size;
-      counted = λ j low. get_or-replicate (2 ^ log2_bits) j 0 0 (omega (arith, low, size));
-      flat = flat_first (2 ^ log2_bits / 8) (2 ^ log2_bits) whole;
-    } in
-    subst (λ (es : Entries). IsCounted log2_bits hashes (seconds_of es) counters bytes) (sym none)
-    (subst (λ (xs : List ℕ). IsCounted log2_bits hashes [] xs bytes) (sym zeros)
-    (subst (λ (xs : List ℕ). IsCounted log2_bits hashes [] (replicate (2 ^ log2_bits) 0) xs) (sym clear) counted))

@@ -7,7 +7,7 @@ use Rattle.expiring_filter.proofs.filter.expire.Goals as goal
 
 -- the counts of the key are among the counts
 pub uncount-requires-clause-enough : goal.uncount-requires-clause-enough
-uncount-requires-clause-enough c = λ j low. enough _ _ _ _ c.in-Some.key _ _ _ j (parted _ _ _ _ c.in-Some.ensures.some.removed) c.loop-key.invariant.counted low
+uncount-requires-clause-enough c = λ j low. enough c.loop-key.invariant.counted c.in-Some.key _ _ (parted _ _ _ _ c.in-Some.ensures.some.removed) j low
 
 pub loop-key-smaller : goal.loop-key-smaller
 loop-key-smaller c = fewer c.args.moment c.in-Some.key _ _ _ c.in-Some.ensures.some
@@ -15,7 +15,7 @@ loop-key-smaller c = fewer c.args.moment c.in-Some.key _ _ _ c.in-Some.ensures.s
 pub loop-key-preserved : goal.loop-key-preserved
 loop-key-preserved c = record {
   counted =
-      counted_without _ _ _ _ _ _ c.in-Some.key _ _ _ _ _ (c.uncount.ensures.log2_bits, c.uncount.ensures.hashes) (parted _ _ _ _ c.in-Some.ensures.some.removed) c.loop-key.invariant.counted
+      counted_without c.loop-key.invariant.counted c.in-Some.key _ _ (parted _ _ _ _ c.in-Some.ensures.some.removed) _ _ (c.uncount.ensures.log2_bits, c.uncount.ensures.hashes)
       c.uncount.ensures.len c.uncount.ensures.counted c.uncount.ensures.flat;
   lost = lost_more _ _ c.in-Some.key _ _ _ c.loop-key.invariant.lost c.in-Some.ensures.some;
   reserved = c.next_expired.ensures.reserved ∙ c.loop-key.invariant.reserved;

@@ -2,7 +2,7 @@ use Rattle.expiring_filter.proofs.FilterLemmas.{counter_fits, counted_with, seco
 use Rattle.expiring_filter.proofs.filter.put.Goals as goal
 
 pub count-requires-clause-fits : goal.count-requires-clause-fits
-count-requires-clause-fits c = λ j. counter_fits _ _ _ _ _ c.args.key.now j c.requires.counted
+count-requires-clause-fits c = λ j. counter_fits c.requires.counted c.args.key.now j
 
 -- a new key is last
 pub returns-clause-held : goal.returns-clause-held

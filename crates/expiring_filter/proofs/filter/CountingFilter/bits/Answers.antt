@@ -8,4 +8,4 @@ use Rattle.expiring_filter.proofs.filter.CountingFilter.bits.Goals as goal
 pub returns : goal.returns
 returns c =
     subst (λ (filter : Filter). flat_bits c.as_slice.result.now ≡ bits_of filter) c.self.view_is
-    (ap flat_bits c.as_slice.ensures.value ∙ bits_counted _ _ _ _ _ c.self.invariant.counted)
+    (ap flat_bits c.as_slice.ensures.value ∙ bits_counted c.self.invariant.counted)

@@ -7,12 +7,12 @@ use Rattle.expiring_filter.proofs.filter.CountingFilter.remove.Goals as goal
 
 -- the counts of the key are among the counts
 pub uncount-requires-clause-enough : goal.uncount-requires-clause-enough
-uncount-requires-clause-enough c = λ j low. enough _ _ _ _ c.args.key.now _ _ _ j (parted _ _ _ _ c.in-Some.ensures.some) c.self.invariant.counted low
+uncount-requires-clause-enough c = λ j low. enough c.self.invariant.counted c.args.key.now _ _ (parted _ _ _ _ c.in-Some.ensures.some) j low
 
 pub invariant_of-self : goal.invariant_of-self
 invariant_of-self c = record {
   counted =
-      counted_without _ _ _ _ _ _ c.args.key.now _ _ _ _ _ (c.uncount.ensures.log2_bits, c.uncount.ensures.hashes) (parted _ _ _ _ c.in-Some.ensures.some) c.self.invariant.counted
+      counted_without c.self.invariant.counted c.args.key.now _ _ (parted _ _ _ _ c.in-Some.ensures.some) _ _ (c.uncount.ensures.log2_bits, c.uncount.ensures.hashes)
       c.uncount.ensures.len c.uncount.ensures.counted c.uncount.ensures.flat;
 }
 
