@@ -76,19 +76,6 @@ version_among journal commits n v are e =
     let P : ℕ → Type 0 = λ m. (0 < m) × (m ≤ length journal) in
     last_all P (filter (λ m. nat_le m n) commits) v e (All-filter (λ m. nat_le m n) P commits are.within)
 
--- ---- the commits of a record
-
--- the commit of the next change, where it is of the record
-abbrev pub next_of : List Change → ℕ → List ℕ → List ℕ → List ℕ
-next_of journal n collection id = commits_after collection id (suc n) (slice_get journal n) []
-
-pub commits_more : (journal : List Change) (n : ℕ) (collection id : List ℕ) → commits_of journal (suc n) collection id ≡ commits_of journal n collection id ++ next_of journal n collection id
-commits_more journal n collection id = by (slice_get journal n) (commits_of journal n collection id)
-  where
-    by : (change : Option Change) (before : List ℕ) → commits_after collection id (suc n) change before ≡ before ++ commits_after collection id (suc n) change []
-    by None before = sym (append-nil before)
-    by (Some change) before = elim (cases_Bool (is_of collection id change)) [ inl e ↦ rw e refl | inr e ↦ rw e (sym (append-nil before)) ]
-
 module _ (P : ℕ → Type 0) where
   all_one : (x : ℕ) → P x → All P (x ∷ [])
   all_one x p zero d low = p
@@ -96,46 +83,6 @@ module _ (P : ℕ → Type 0) where
 
   all_none : All P []
   all_none k d low = absurd (omega arith)
-
--- the next one is the next number, and only of a change
-next_is : (P : ℕ → Type 0) (journal : List Change) (n : ℕ) (collection id : List ℕ) → (n < length journal → P (suc n)) → All P (next_of journal n collection id)
-next_is P journal n collection id p = by (slice_get journal n) refl
-  where
-    by : (change : Option Change) → slice_get journal n ≡ change → All P (commits_after collection id (suc n) change [])
-    by None e = all_none P
-    by (Some change) e =
-        elim (cases_Bool (is_of collection id change)) [
-          | inl own ↦ rw own (all_one P (suc n) (p (slice_get_within journal n change e)))
-          | inr other ↦ rw other (all_none P)
-        ]
-
-pub commits_within : (journal : List Change) (n : ℕ) (collection id : List ℕ) → All (λ v. (0 < v) × (v ≤ n) × (v ≤ length journal)) (commits_of journal n collection id)
-commits_within journal zero collection id = all_none (λ v. (0 < v) × (v ≤ zero) × (v ≤ length journal))
-commits_within journal (suc n) collection id =
-    let P : ℕ → Type 0 = λ v. (0 < v) × (v ≤ suc n) × (v ≤ length journal) in
-    subst (All P) (sym (commits_more journal n collection id))
-    (All-append P (commits_of journal n collection id) (next_of journal n collection id)
-    (λ k d low. let old = commits_within journal n collection id k d low in (old.0, omega (arith, old.1), old.2))
-    (next_is P journal n collection id (λ low. (omega arith, omega arith, omega arith))))
-
-pub commits_rise : (journal : List Change) (n : ℕ) (collection id : List ℕ) → IsNonDecreasing (commits_of journal n collection id)
-commits_rise journal zero collection id = IsNonDecreasingBy-short (λ v. v) [] (omega arith)
-commits_rise journal (suc n) collection id = by (slice_get journal n) (commits_rise journal n collection id)
-  where
-    by : (change : Option Change) → IsNonDecreasing (commits_of journal n collection id) → IsNonDecreasing (commits_after collection id (suc n) change (commits_of journal n collection id))
-    by None rising = rising
-    by (Some change) rising =
-        elim (cases_Bool (is_of collection id change)) [
-          | inl e ↦ rw e (IsNonDecreasingBy-push (λ v. v) (commits_of journal n collection id) (suc n) rising
-              (λ d some. let low = commits_within journal n collection id (length (commits_of journal n collection id) - 1) d (omega arith) in omega (arith, low.1)))
-          | inr e ↦ rw e rising
-        ]
-
-pub are_commits : (journal : List Change) (n : ℕ) (collection id : List ℕ) → AreCommits journal (commits_of journal n collection id)
-are_commits journal n collection id = record {
-  rising = commits_rise journal n collection id;
-  within = λ k d low. let at = commits_within journal n collection id k d low in (at.0, at.2);
-}
 
 -- a list all of which passes
 filter_kept : (p : ℕ → Bool) (xs : List ℕ) → All (λ x. p x ≡ true) xs → filter p xs ≡ xs
@@ -145,53 +92,109 @@ filter_kept p xs all = point_filter p xs (length xs) (omega arith) (λ i d low. 
 filter_cut : (p : ℕ → Bool) (xs : List ℕ) → All (λ x. p x ≡ false) xs → filter p xs ≡ []
 filter_cut p xs all = point_filter p xs 0 (omega arith) (λ i d low. absurd (omega arith)) (λ i d low high. all i d high)
 
--- of the commits of more changes, those of the first n are those not above n
-pub commits_upto : (journal : List Change) (n more : ℕ) (collection id : List ℕ) → filter (λ v. nat_le v n) (commits_of journal (more + n) collection id) ≡ commits_of journal n collection id
-commits_upto journal n zero collection id =
-    let same : 0 + n ≡ n = omega arith in
-    ap (λ (m : ℕ). filter (λ v. nat_le v n) (commits_of journal m collection id)) same
-    ∙ filter_kept (λ v. nat_le v n) (commits_of journal n collection id) (λ k d low. le-leb (get_or (commits_of journal n collection id) k d) n (commits_within journal n collection id k d low).1)
-commits_upto journal n (suc more) collection id =
-    let same : suc more + n ≡ suc (more + n) = omega arith in
-    ap (λ (m : ℕ). filter (λ v. nat_le v n) (commits_of journal m collection id)) same
-    ∙ ap (filter (λ v. nat_le v n)) (commits_more journal (more + n) collection id)
-    ∙ filter-append (λ v. nat_le v n) (commits_of journal (more + n) collection id) (next_of journal (more + n) collection id)
-    ∙ ap (λ (xs : List ℕ). filter (λ v. nat_le v n) (commits_of journal (more + n) collection id) ++ xs)
-    (filter_cut (λ v. nat_le v n) (next_of journal (more + n) collection id) (next_is (λ v. nat_le v n ≡ false) journal (more + n) collection id (λ low. lt-leb (suc (more + n)) n (omega arith))))
-    ∙ append-nil (filter (λ v. nat_le v n) (commits_of journal (more + n) collection id))
-    ∙ commits_upto journal n more collection id
-
--- ---- the documents
-
 -- the change of a commit, and the commit
 abbrev pub change_at : List Change → Option ℕ → Option (ℕ × Change)
 change_at journal commit = option_and_then (λ n. option_map (λ change. (n, change)) (slice_get journal (n - 1))) commit
 
-pub document_told : (journal : List Change) (n : ℕ) (collection id : List ℕ) → put_of (change_at journal (last_of (commits_of journal n collection id))) ≡ document_at journal n collection id
-document_told journal zero collection id = refl
-document_told journal (suc n) collection id = by (slice_get journal n) refl (document_told journal n collection id)
-  where
-    by : (change : Option Change) → slice_get journal n ≡ change → put_of (change_at journal (last_of (commits_of journal n collection id))) ≡ document_at journal n collection id →
-        put_of (change_at journal (last_of (commits_after collection id (suc n) change (commits_of journal n collection id)))) ≡ document_after collection id (suc n) change (document_at journal n collection id)
-    by None e before = before
-    by (Some change) e before =
-        elim (cases_Bool (is_of collection id change)) [
-          | inl own ↦
-              let index : slice_get journal (suc n - 1) ≡ Some change = ap (slice_get journal) (omega arith) ∙ e in
-              rw own (ap (λ (o : Option ℕ). put_of (change_at journal o)) (last-append (commits_of journal n collection id) (suc n)) ∙ ap (λ (o : Option Change). put_of (option_map (λ c. (suc n, c)) o)) index)
-          | inr other ↦ rw other before
-        ]
+-- ---- the commits of a record, and its documents
 
--- the document at a commit, by the commits of all changes
-pub document_found : (journal : List Change) (n : ℕ) (collection id : List ℕ) (commits : List ℕ) → commits ≡ commits_of journal (length journal) collection id → n ≤ length journal →
-    put_of (change_of journal commits n) ≡ document_at journal n collection id
-document_found journal n collection id commits all within =
-    let more : length journal ≡ (length journal - n) + n = omega arith in
-    let upto : filter (λ v. nat_le v n) commits ≡ commits_of journal n collection id =
-    ap (filter (λ v. nat_le v n)) (all ∙ ap (λ (m : ℕ). commits_of journal m collection id) more) ∙ commits_upto journal n (length journal - n) collection id in
-    ap (λ (xs : List ℕ). put_of (change_at journal (last_of xs))) upto ∙ document_told journal n collection id
+module _ (journal : List Change) (collection id : List ℕ) where
+  -- its commits among the first n changes
+  abbrev first_commits : ℕ → List ℕ
+  first_commits n = commits_of journal n collection id
+
+  -- the commit of the next change, where it is of the record
+  abbrev next_of : ℕ → List ℕ
+  next_of n = commits_after collection id (suc n) (slice_get journal n) []
+
+  commits_more : (n : ℕ) → first_commits (suc n) ≡ first_commits n ++ next_of n
+  commits_more n = by (slice_get journal n) (first_commits n)
+    where
+      by : (change : Option Change) (before : List ℕ) → commits_after collection id (suc n) change before ≡ before ++ commits_after collection id (suc n) change []
+      by None before = sym (append-nil before)
+      by (Some change) before = elim (cases_Bool (is_of collection id change)) [ inl e ↦ rw e refl | inr e ↦ rw e (sym (append-nil before)) ]
+
+  -- the next one is the next number, and only of a change
+  next_is : (P : ℕ → Type 0) (n : ℕ) → (n < length journal → P (suc n)) → All P (next_of n)
+  next_is P n p = by (slice_get journal n) refl
+    where
+      by : (change : Option Change) → slice_get journal n ≡ change → All P (commits_after collection id (suc n) change [])
+      by None e = all_none P
+      by (Some change) e =
+          elim (cases_Bool (is_of collection id change)) [
+            | inl own ↦ rw own (all_one P (suc n) (p (slice_get_within journal n change e)))
+            | inr other ↦ rw other (all_none P)
+          ]
+
+  commits_within : (n : ℕ) → All (λ v. (0 < v) × (v ≤ n) × (v ≤ length journal)) (first_commits n)
+  commits_within zero = all_none (λ v. (0 < v) × (v ≤ zero) × (v ≤ length journal))
+  commits_within (suc n) =
+      let P : ℕ → Type 0 = λ v. (0 < v) × (v ≤ suc n) × (v ≤ length journal) in
+      subst (All P) (sym (commits_more n))
+      (All-append P (first_commits n) (next_of n)
+      (λ k d low. let old = commits_within n k d low in (old.0, omega (arith, old.1), old.2))
+      (next_is P n (λ low. (omega arith, omega arith, omega arith))))
+
+  commits_rise : (n : ℕ) → IsNonDecreasing (first_commits n)
+  commits_rise zero = IsNonDecreasingBy-short (λ v. v) [] (omega arith)
+  commits_rise (suc n) = by (slice_get journal n) (commits_rise n)
+    where
+      by : (change : Option Change) → IsNonDecreasing (first_commits n) → IsNonDecreasing (commits_after collection id (suc n) change (first_commits n))
+      by None rising = rising
+      by (Some change) rising =
+          elim (cases_Bool (is_of collection id change)) [
+            | inl e ↦ rw e (IsNonDecreasingBy-push (λ v. v) (first_commits n) (suc n) rising
+                (λ d some. let low = commits_within n (length (first_commits n) - 1) d (omega arith) in omega (arith, low.1)))
+            | inr e ↦ rw e rising
+          ]
+
+  pub are_commits : (n : ℕ) → AreCommits journal (commits_of journal n collection id)
+  are_commits n = record {
+    rising = commits_rise n;
+    within = λ k d low. let at = commits_within n k d low in (at.0, at.2);
+  }
+
+  -- of the commits of more changes, those of the first n are those not above n
+  commits_upto : (n more : ℕ) → filter (λ v. nat_le v n) (first_commits (more + n)) ≡ first_commits n
+  commits_upto n zero =
+      let same : 0 + n ≡ n = omega arith in
+      ap (λ (m : ℕ). filter (λ v. nat_le v n) (first_commits m)) same
+      ∙ filter_kept (λ v. nat_le v n) (first_commits n) (λ k d low. le-leb (get_or (first_commits n) k d) n (commits_within n k d low).1)
+  commits_upto n (suc more) =
+      let same : suc more + n ≡ suc (more + n) = omega arith in
+      ap (λ (m : ℕ). filter (λ v. nat_le v n) (first_commits m)) same
+      ∙ ap (filter (λ v. nat_le v n)) (commits_more (more + n))
+      ∙ filter-append (λ v. nat_le v n) (first_commits (more + n)) (next_of (more + n))
+      ∙ ap (λ (xs : List ℕ). filter (λ v. nat_le v n) (first_commits (more + n)) ++ xs)
+      (filter_cut (λ v. nat_le v n) (next_of (more + n)) (next_is (λ v. nat_le v n ≡ false) (more + n) (λ low. lt-leb (suc (more + n)) n (omega arith))))
+      ∙ append-nil (filter (λ v. nat_le v n) (first_commits (more + n)))
+      ∙ commits_upto n more
+
+  document_told : (n : ℕ) → put_of (change_at journal (last_of (first_commits n))) ≡ document_at journal n collection id
+  document_told zero = refl
+  document_told (suc n) = by (slice_get journal n) refl (document_told n)
+    where
+      by : (change : Option Change) → slice_get journal n ≡ change → put_of (change_at journal (last_of (first_commits n))) ≡ document_at journal n collection id →
+          put_of (change_at journal (last_of (commits_after collection id (suc n) change (first_commits n)))) ≡ document_after collection id (suc n) change (document_at journal n collection id)
+      by None e before = before
+      by (Some change) e before =
+          elim (cases_Bool (is_of collection id change)) [
+            | inl own ↦
+                let index : slice_get journal (suc n - 1) ≡ Some change = ap (slice_get journal) (omega arith) ∙ e in
+                rw own (ap (λ (o : Option ℕ). put_of (change_at journal o)) (last-append (first_commits n) (suc n)) ∙ ap (λ (o : Option Change). put_of (option_map (λ c. (suc n, c)) o)) index)
+            | inr other ↦ rw other before
+          ]
+
+  -- the document at a commit, by the commits of all changes
+  pub document_found : (n : ℕ) (commits : List ℕ) → commits ≡ commits_of journal (length journal) collection id → n ≤ length journal →
+      put_of (change_of journal commits n) ≡ document_at journal n collection id
+  document_found n commits all within =
+      let more : length journal ≡ (length journal - n) + n = omega arith in
+      let upto : filter (λ v. nat_le v n) commits ≡ first_commits n =
+      ap (filter (λ v. nat_le v n)) (all ∙ ap (λ (m : ℕ). first_commits m) more) ∙ commits_upto n (length journal - n) in
+      ap (λ (xs : List ℕ). put_of (change_at journal (last_of xs))) upto ∙ document_told n
 
 -- the same of a list that is the journal
 pub are_commits_of : (rows journal : List Change) (commits collection id : List ℕ) → rows ≡ journal → commits ≡ commits_of journal (length journal) collection id → AreCommits rows commits
 are_commits_of rows journal commits collection id same all =
-    subst (λ (xs : List Change). AreCommits xs commits) (sym same) (subst (AreCommits journal) (sym all) (are_commits journal (length journal) collection id))
+    subst (λ (xs : List Change). AreCommits xs commits) (sym same) (subst (AreCommits journal) (sym all) (are_commits journal collection id (length journal)))

@@ -23,7 +23,7 @@ same c id =
     let within = subst (λ (b : Contents). c.args.commit ≤ length b.journal) (sym c.self.view_is) c.requires in
     let all = ap (λ o. option_map_or (λ records. commits_under records id) o []) c.in-Some.ensures.value ∙ c.self.invariant.index.commits c.args.collection.now id in
     ap (λ (rows : List Change). document_under rows c.in-Some.records.now c.args.commit id) c.deref.ensures.value
-    ∙ document_found c.self.inside.rows.items c.args.commit c.args.collection.now id _ all within
+    ∙ document_found c.self.inside.rows.items c.args.collection.now id c.args.commit _ all within
     ∙ ap (λ (b : Contents). document_at b.journal c.args.commit c.args.collection.now id) c.self.view_is
 
 pub returns-in-Some : goal.returns-in-Some
@@ -36,6 +36,6 @@ pub returns-in-None : goal.returns-in-None
 returns-in-None c = λ id.
     let within = subst (λ (b : Contents). c.args.commit ≤ length b.journal) (sym c.self.view_is) c.requires in
     let none = ap (λ o. option_map_or (λ records. commits_under records id) o []) c.in-None.ensures.value ∙ c.self.invariant.index.commits c.args.collection.now id in
-    let empty = document_found c.self.inside.rows.items c.args.commit c.args.collection.now id [] none within
+    let empty = document_found c.self.inside.rows.items c.args.collection.now id c.args.commit [] none within
     ∙ ap (λ (b : Contents). document_at b.journal c.args.commit c.args.collection.now id) c.self.view_is in
     ap (filter (is_row_of id)) c.new.ensures.items ∙ ap (λ (o : Option (ℕ × Tree)). list_of (row_of id o)) empty

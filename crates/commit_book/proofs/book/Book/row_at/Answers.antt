@@ -18,5 +18,5 @@ returns c =
     let within = subst (λ (b : Contents). c.args.commit ≤ length b.journal) (sym c.self.view_is) c.requires in
     ap put_of c.row_at.ensures
     ∙ ap (λ (rows : List Change). put_of (change_of rows c.commits_in-commits.result.now c.args.commit)) c.deref.ensures.value
-    ∙ document_found c.self.inside.rows.items c.args.commit c.args.collection.now c.args.id.now _ (c.commits_in-commits.ensures ∙ c.self.invariant.index.commits c.args.collection.now c.args.id.now) within
+    ∙ document_found c.self.inside.rows.items c.args.collection.now c.args.id.now c.args.commit _ (c.commits_in-commits.ensures ∙ c.self.invariant.index.commits c.args.collection.now c.args.id.now) within
     ∙ ap (λ (b : Contents). document_at b.journal c.args.commit c.args.collection.now c.args.id.now) c.self.view_is
