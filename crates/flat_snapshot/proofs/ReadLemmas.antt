@@ -1,5 +1,5 @@
 -- What is read of a page's text.
-use Rattle.std.proofs.Common.{◌≡◌, ℕ, ◌+◌, ◌-◌, ◌*◌, ◌/◌, ◌%◌, ◌^◌, ◌<◌, ◌≤◌, Bool, ◌==◌, true, false, not, ◌&&◌, if◌then◌else◌, nat_lt, nat_le, List, [], ◌∷◌, length, take, drop, get_or, All, Option, Some, None, Result, Ok, Err, codes, bytes_eq, refl, sym, ap, ap₂, ◌∙◌, arith, suc, min, length-drop}
+use Rattle.std.proofs.Common.{◌≡◌, ℕ, ◌+◌, ◌-◌, ◌*◌, ◌/◌, ◌%◌, ◌^◌, ◌<◌, ◌≤◌, Bool, ◌==◌, true, false, not, ◌&&◌, if◌then◌else◌, nat_lt, nat_le, List, [], ◌∷◌, length, take, drop, get_or, All, Option, Some, None, Result, Ok, Err, IsErr, codes, bytes_eq, refl, sym, ap, ap₂, ◌∙◌, subst, arith, suc, min, length-drop}
 use Rattle.std.proofs.Math.Seq.{take-length}
 use Rattle.std.specs.List.{list_all}
 use Rattle.std.proofs.lemmas.Bool.{cond-true, cond-false, and_parts, not-false, leb-true, ltb-false, le-leb, le-ltb, eq-eqb, eqb-true, and_from, not_from_true}
@@ -147,16 +147,38 @@ is_page l h f c m bytes w small size =
       bits = omega (arith, count, whole, size);
     }
 
--- what the code knows of the parts that it read
-pub record Parsed (bytes bits : List ℕ) (front commits seconds moment : ℕ) : Type 0 where
+-- what the code tested of the bytes
+pub record Tested (bytes : List ℕ) (front commits seconds : ℕ) : Type 0 where
   pub long : 30 ≤ length bytes
   pub mark : bytes_eq (take 4 bytes) (codes "QSF1") ≡ true
   pub fields : None ≡ first_bad_field (get_or bytes 5 0) (get_or bytes 4 0) front commits seconds
   pub front_is : front ≡ word_at bytes 6
   pub commits_is : commits ≡ word_at bytes 14
   pub seconds_is : seconds ≡ word_at bytes 22
-  pub small : commits < 2 ^ 64
   pub size : length bytes ≡ 30 + 1 * 2 ^ get_or bytes 5 0 % 2 ^ 64 / 8
+
+pub tested_taken : (bytes : List ℕ) (front commits seconds : ℕ) → Tested bytes front commits seconds → IsTaken bytes
+tested_taken bytes front commits seconds t =
+    let within = within-from_none (get_or bytes 5 0) (get_or bytes 4 0) front commits seconds (sym t.fields) in
+    record {
+      long = t.long;
+      mark = t.mark;
+      fields =
+          ap (λ n. first_bad_field (get_or bytes 5 0) (get_or bytes 4 0) n (word_at bytes 14) (word_at bytes 22)) (sym t.front_is)
+          ∙ ap₂ (λ m n. first_bad_field (get_or bytes 5 0) (get_or bytes 4 0) front m n) (sym t.commits_is) (sym t.seconds_is)
+          ∙ sym t.fields;
+      size = t.size ∙ ap (λ n. 30 + n / 8) (size_shifted (get_or bytes 5 0) within.most_bits);
+    }
+
+-- they are a page, and no reason to refuse them is left
+pub none_left : (bytes : List ℕ) (front commits seconds : ℕ) (r : Result Page PageRefusal) → Tested bytes front commits seconds → IsErr (read_page bytes) → r ≡ read_page bytes
+none_left bytes front commits seconds r t wrong =
+    absurd (let never = subst (λ (o : Result Page PageRefusal). IsErr o) (read_page-taken bytes (tested_taken bytes front commits seconds t)) wrong in cc)
+
+-- what the code knows of the parts that it read
+pub record Parsed (bytes bits : List ℕ) (front commits seconds moment : ℕ) : Type 0 where
+  pub tested : Tested bytes front commits seconds
+  pub small : commits < 2 ^ 64
   pub bits_is : bits ≡ take (length bytes - 30) (drop 30 bytes)
   pub moment_is : moment ≡ min seconds greatest_moment
 
@@ -165,27 +187,19 @@ pub parsed_page : (bytes bits : List ℕ) (front commits seconds moment : ℕ) �
     IsPage (page_with (get_or bytes 5 0) (get_or bytes 4 0) front commits moment bits)
     × (Ok (page_with (get_or bytes 5 0) (get_or bytes 4 0) front commits moment bits) ≡ read_page bytes)
 parsed_page bytes bits front commits seconds moment p =
-    let within = within-from_none _ _ _ _ _ (sym p.fields) in
-    let shifted = size_shifted (get_or bytes 5 0) within.most_bits in
-    let size : length bytes ≡ size_of (get_or bytes 5 0) = p.size ∙ ap (λ n. 30 + n / 8) shifted in
+    let t = p.tested in
+    let within = within-from_none (get_or bytes 5 0) (get_or bytes 4 0) front commits seconds (sym t.fields) in
+    let taken = tested_taken bytes front commits seconds t in
+    let size = taken.size in
     let cut = length-drop 30 bytes in
     let rest : bits ≡ drop 30 bytes =
     p.bits_is ∙ ap (λ n. take n (drop 30 bytes)) (sym cut) ∙ take-length (drop 30 bytes) in
     let early : moment ≡ seconds = omega (arith, p.moment_is, within.early) in
     let placed : IsWithin (get_or bytes 5 0) (get_or bytes 4 0) front commits moment = rw early within in
     let count : 30 + length bits ≡ size_of (get_or bytes 5 0) =
-    (let bits_long : length bits ≡ length (drop 30 bytes) = ap length rest in omega (arith, bits_long, cut, size, p.long)) in
-    let taken : IsTaken bytes = record {
-      long = p.long;
-      mark = p.mark;
-      fields =
-          ap (λ n. first_bad_field (get_or bytes 5 0) (get_or bytes 4 0) n (word_at bytes 14) (word_at bytes 22)) (sym p.front_is)
-          ∙ ap₂ (λ m n. first_bad_field (get_or bytes 5 0) (get_or bytes 4 0) front m n) (sym p.commits_is) (sym p.seconds_is)
-          ∙ sym p.fields;
-      size = size;
-    } in
+    (let bits_long : length bits ≡ length (drop 30 bytes) = ap length rest in omega (arith, bits_long, cut, size, t.long)) in
     let same : page_with (get_or bytes 5 0) (get_or bytes 4 0) front commits moment bits ≡ page_in bytes =
-    ap (λ n. page_with (get_or bytes 5 0) (get_or bytes 4 0) n commits moment bits) p.front_is
-    ∙ ap₂ (λ m n. page_with (get_or bytes 5 0) (get_or bytes 4 0) (word_at bytes 6) m n bits) p.commits_is (early ∙ p.seconds_is)
+    ap (λ n. page_with (get_or bytes 5 0) (get_or bytes 4 0) n commits moment bits) t.front_is
+    ∙ ap₂ (λ m n. page_with (get_or bytes 5 0) (get_or bytes 4 0) (word_at bytes 6) m n bits) t.commits_is (early ∙ t.seconds_is)
     ∙ ap (λ (xs : List ℕ). page_with (get_or bytes 5 0) (get_or bytes 4 0) (word_at bytes 6) (word_at bytes 14) (word_at bytes 22) xs) rest in
     (is_page _ _ _ _ _ bits placed p.small count, ap Ok same ∙ sym (read_page-taken bytes taken))

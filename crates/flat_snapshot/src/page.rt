@@ -1,5 +1,5 @@
 //! Pages that were read.
-ghost use Rattle.std.specs.Prelude.{◌≡◌, ◌<◌, ◌≤◌, ◌/◌, ◌++◌, All, ◌⊎◌, length, drop};
+ghost use Rattle.std.specs.Prelude.{◌≡◌, ◌<◌, ◌≤◌, ◌/◌, ◌++◌, All, IsErr, ◌⊎◌, length, drop};
 ghost use Rattle.std.specs.List.{list_all};
 ghost use Rattle.query_normal.specs.Bits.{is_bit_set};
 ghost use Rattle.query_normal.specs.Pages.{page_holds};
@@ -40,7 +40,8 @@ impl Model for Page {
 impl Page {
     /// Reads a page from its text.
     pub fn read(alloc: Global, bytes: &[u8]) -> Result<Page, PageRefusal>
-        ensures { (result ≡ Err PageRefusal.Memory) ⊎ (result ≡ read_page bytes.now) }
+        ensures told { (result ≡ Err PageRefusal.Memory) ⊎ (result ≡ read_page bytes.now) }
+        ensures refused { IsErr (read_page bytes.now) → result ≡ read_page bytes.now }
     {
         let found = bytes.len();
         if found < HEAD_BYTES {
