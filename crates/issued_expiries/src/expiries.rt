@@ -1,5 +1,5 @@
 //! The unexpired issued copies of all keys.
-ghost use Rattle.std.specs.Prelude.{◌≡◌, ◌⊎◌, ℕ, ◌+◌, ◌^◌, ◌<◌, ◌≤◌, max, not, ◌&&◌, ◌||◌, if◌then◌else◌, nat_lt, true, false, [], IsTrue, IfOk, OnOk, OnErr, IfSome, IfNone, All, length};
+ghost use Rattle.std.specs.Prelude.{◌≡◌, ◌⊎◌, ℕ, ◌+◌, ◌^◌, ◌<◌, ◌≤◌, max, not, ◌&&◌, ◌||◌, if◌then◌else◌, nat_lt, true, false, [], IsTrue, IsOk, IfOk, OnOk, OnErr, IfSome, IfNone, All, length};
 ghost use Rattle.std.specs.List.{list_any};
 ghost use Rattle.std.specs.BinaryHeap.{heap_items, heap_len, heap_capacity};
 ghost use Rattle.indexmap.specs.IndexMap.{index_map_len, spare};
@@ -52,9 +52,10 @@ impl Model for Expiries {
 }
 
 impl Expiries {
-    /// No copy is issued yet.
+    /// No copy is issued yet. It takes no memory.
     pub fn new(alloc: Global) -> Result<Expiries, Memory>
-        ensures { IfOk result (λ expiries. expiries ≡ none_issued) }
+        ensures made { IsOk result }
+        ensures empty { IfOk result (λ expiries. expiries ≡ none_issued) }
     {
         Ok(Expiries {
             alloc,
