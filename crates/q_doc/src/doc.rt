@@ -1,5 +1,5 @@
 //! A document: an object within the limits, whose keys are in order.
-ghost use Rattle.std.specs.Prelude.{◌≡◌, ◌⊎◌, ◌≤◌, length, IfOk};
+ghost use Rattle.std.specs.Prelude.{◌≡◌, ◌⊎◌, ◌<◌, ◌≤◌, length, IfOk};
 ghost use Rattle.q_doc.specs.Document.{IsPlainDocument, HasTexts};
 ghost use Rattle.q_doc.specs.Found.{found};
 ghost use Rattle.q_doc.specs.Judged.{judged, judged_found};
@@ -58,6 +58,7 @@ impl Doc {
     /// Reads a document. Of equal keys in one object the last value counts, and the keys are sorted.
     pub fn read(alloc: Global, text: &[u8]) -> Result<Doc, DocRefusal>
         ensures judged { (result ≡ Err DocRefusal.Memory) ⊎ (result ≡ judged text.now) }
+        ensures too_long { longest_document < length text.now → result ≡ judged text.now }
         ensures no_longer { IfOk result (λ t. length (printed t) ≤ length text.now) }
     {
         Doc::read_with(alloc, text, &mut ReadBuffer::new(alloc))
@@ -66,6 +67,7 @@ impl Doc {
     /// Reads a document as `read` does, with a buffer that is used again by the next read.
     pub fn read_with(alloc: Global, text: &[u8], buffer: &mut ReadBuffer) -> Result<Doc, DocRefusal>
         ensures judged { (result ≡ Err DocRefusal.Memory) ⊎ (result ≡ judged text.now) }
+        ensures too_long { longest_document < length text.now → result ≡ judged text.now }
         ensures no_longer { IfOk result (λ t. length (printed t) ≤ length text.now) }
     {
         if text.len() > MAX_LENGTH {
