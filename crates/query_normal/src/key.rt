@@ -1,8 +1,10 @@
 //! Keys and their texts.
-ghost use Rattle.std.specs.Prelude.{◌≡◌, IfOk};
+ghost use Rattle.std.specs.Prelude.{◌≡◌, ◌+◌, ◌<◌, ◌≤◌, ◌^◌, ◌++◌, length, codes, IfOk};
 ghost use Rattle.std.specs.Cmp.{partial_equiv_from_equiv};
 ghost use Rattle.query_normal.specs.Keys.{key_text};
+ghost use Rattle.query_normal.specs.declared.text.TheConstants.{MAX_INLINE};
 
+use crate::text::{KeyText, MAX_INLINE, put};
 use q_base::{Memory, Name};
 use std::alloc::{AllocError, Global};
 use std::hash::{Hash, Hasher};
@@ -25,7 +27,7 @@ pub enum KeyShape {
 #[derive(Debug, Drop)]
 struct Shared {
     shape: KeyShape,
-    text: Vec<u8>,
+    text: KeyText,
 }
 
 impl Model for Shared {
@@ -38,7 +40,7 @@ impl Model for Shared {
 
     ghost view = { λ s. s.shape };
 
-    ghost invariant = { λ s. record { text : s.text.items ≡ key_text s.shape; valid : IsKey s.shape } };
+    ghost invariant = { λ s. record { text : s.text ≡ key_text s.shape; valid : IsKey s.shape } };
 }
 
 /// A key, which keeps its text. Contracts see its shape. Two keys are equal where their shapes are;
@@ -107,18 +109,45 @@ impl Key {
     }
 }
 
-/// The text of a record's key: `r/COLLECTION/ID`.
-fn record_text(alloc: Global, collection: &Name, id: &Name) -> Result<Vec<u8>, Memory>
-    ensures { IfOk result (λ text. text.items ≡ key_text (KeyShape.Record collection.now id.now)) }
+/// The text of a record's key: `r/COLLECTION/ID`. It allocates only where it has more than 30 bytes.
+#[tactic(auto, unfolding(crate::specs::Keys::key_text))]
+fn record_text(alloc: Global, collection: &Name, id: &Name) -> Result<KeyText, Memory>
+    ensures { IfOk result (λ text. text ≡ key_text (KeyShape.Record collection.now id.now)) }
 {
     let collection = collection.as_slice();
     let id = id.as_slice();
+    if collection.len() + id.len() + 3 <= MAX_INLINE {
+        return Ok(inline_text(collection, id));
+    }
+    long_text(alloc, collection, id)
+}
+
+/// The text of a record's key that is stored inline.
+#[inline(always)]
+fn inline_text(collection: &[u8], id: &[u8]) -> KeyText
+    requires { length collection.now + length id.now + 3 ≤ MAX_INLINE }
+    ensures { result ≡ codes "r/" ++ collection.now ++ codes "/" ++ id.now }
+{
+    let mut bytes = [0u8; MAX_INLINE];
+    let mut at = put(&mut bytes, 0, b"r/");
+    at = put(&mut bytes, at, collection);
+    at = put(&mut bytes, at, b"/");
+    at = put(&mut bytes, at, id);
+    KeyText::inline(bytes, at)
+}
+
+/// The text of a record's key on the heap.
+#[inline(never)]
+fn long_text(alloc: Global, collection: &[u8], id: &[u8]) -> Result<KeyText, Memory>
+    requires { length collection.now + length id.now + 3 < 2 ^ 64 }
+    ensures { IfOk result (λ text. text ≡ codes "r/" ++ collection.now ++ codes "/" ++ id.now) }
+{
     let mut text = Vec::with_capacity(alloc, collection.len() + id.len() + 3)?;
     text.extend_from_slice(b"r/")?;
     text.extend_from_slice(collection)?;
     text.extend_from_slice(b"/")?;
     text.extend_from_slice(id)?;
-    Ok(text)
+    Ok(KeyText::long(text))
 }
 
 impl Clone for KeyShape {

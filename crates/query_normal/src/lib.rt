@@ -5,6 +5,7 @@
 pub mod bits;
 mod key;
 mod laws;
+mod text;
 
 pub use key::{Key, KeyShape};
 pub use laws::{keys_are_equal_where_their_texts_are, same_key_is_equality};
