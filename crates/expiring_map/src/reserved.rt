@@ -1,5 +1,5 @@
 //! The keys with a reservation. There is seldom more than one.
-ghost use Rattle.std.specs.Prelude.{◌≡◌, ◌+◌, ◌<◌, ◌≤◌, ◌^◌, not, ◌&&◌, ◌||◌, [], length, IsTrue, OnOk, OnErr};
+ghost use Rattle.std.specs.Prelude.{◌≡◌, ◌+◌, ◌<◌, ◌≤◌, ◌^◌, not, ◌&&◌, ◌||◌, [], length, option_to_list, IsTrue, OnOk, OnErr};
 ghost use Rattle.std.specs.List.{list_any};
 ghost use Rattle.query_normal.specs.declared.key.KeyShape.{KeyShape as AKey};
 ghost use Rattle.query_normal.specs.Keys.{same_key};
@@ -102,8 +102,11 @@ impl ReservedKeys {
         ensures len { length self.new ≤ length self.old }
         ensures used { IsTrue (list_any (same_key key.now) self.old) → length self.new < length self.old }
     {
-        if self.contains(key) {
-            drop(self.take(key));
+        if is_key(&self.first, key) {
+            self.first = None;
+            leave_out(&mut self.others, key);
+        } else if holds(&self.others, key) {
+            drop(take_key(&mut self.others, key));
         }
     }
 
@@ -113,5 +116,15 @@ impl ReservedKeys {
     {
         self.first = None;
         take_all(&mut self.others);
+    }
+}
+
+/// Whether there is a key, and it is this one.
+fn is_key(first: &Option<Key>, key: &Key) -> bool
+    ensures { result ≡ list_any (same_key key.now) (option_to_list first.now) }
+{
+    match first {
+        Some(first) => key == first,
+        None => false,
     }
 }
