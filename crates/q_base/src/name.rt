@@ -1,5 +1,5 @@
 //! The names of collections and of the documents in them.
-ghost use Rattle.std.specs.Prelude.{◌≡◌, ◌⊎◌, nat_eq, Some, refl, IfOk};
+ghost use Rattle.std.specs.Prelude.{◌≡◌, ◌⊎◌, nat_eq, Some, refl, IfOk, IsErr};
 ghost use Rattle.q_base.specs.Name.{IsName, read_name, is_name_byte, first_bad};
 ghost use Rattle.std.specs.Ordering.{nat_cmp};
 ghost use Rattle.std.specs.Cmp.{partial_equiv_from_equiv};
@@ -84,7 +84,8 @@ impl Error for NameRefusal {}
 impl Name {
     /// Reads bytes as a name. It allocates only where there are more than 22.
     pub fn read(alloc: Global, bytes: &[u8]) -> Result<Name, NameRefusal>
-        ensures { (result ≡ Err NameRefusal.Memory) ⊎ (result ≡ read_name bytes.now) }
+        ensures told { (result ≡ Err NameRefusal.Memory) ⊎ (result ≡ read_name bytes.now) }
+        ensures refused { IsErr (read_name bytes.now) → result ≡ read_name bytes.now }
     {
         if bytes.is_empty() {
             return Err(NameRefusal::Empty);
