@@ -46,15 +46,6 @@ met-Decides (Unchanged (Listed tags)) (At version) commits = (
       any_from (within version commits) tags h.1 h.3 (and_from (nat_le version h.1) (nat_le h.1 commits) (le-leb version h.1 (omega (arith, late, same))) (le-leb h.1 commits h.5))),
 )
 
-pub accepted-Decides : (g : Setting) (s : State) (change : Change) (condition : Condition) → Decides (is_accepted g s change condition) (IsAccepted g s.journal change condition)
-accepted-Decides g s change condition =
-    let met = met-Decides condition (found_now s change) (length s.journal) in (
-      (λ h.
-          let parts = and_parts (is_met condition (found_now s change) (length s.journal)) (nat_le (kept_with s.journal change) g.capacity) h in
-          record { met = met.0 parts.0; fits = leb-true (kept_with s.journal change) g.capacity parts.1 }),
-      (λ h. and_from (is_met condition (found_now s change) (length s.journal)) (nat_le (kept_with s.journal change) g.capacity) (met.1 h.met) (le-leb (kept_with s.journal change) g.capacity h.fits)),
-    )
-
 -- ---- what a write leaves
 
 -- what holds of both states holds of the one that is chosen
@@ -62,24 +53,36 @@ pub kept_by : (P : State → Type 0) (b : Bool) (s t : State) → P s → P t �
 kept_by P true s t p q = p
 kept_by P false s t p q = q
 
--- a write leaves a state or adds its change
-pub wrote-keeps : (P : State → Type 0) (g : Setting) (change : Change) (condition : Condition) (s : State) → P (record s { journal = s.journal ++ change ∷ [] }) → P s → P (wrote g change condition s)
-wrote-keeps P g change condition s p q = kept_by P (is_accepted g s change condition) (record s { journal = s.journal ++ change ∷ [] }) s p q
-
 chosen : (b : Bool) (s t : State) → b ≡ true → (if b then s else t) ≡ s
 chosen b s t h = ap (λ (c : Bool). if c then s else t) h
 
 left : (b : Bool) (s t : State) → b ≡ false → (if b then s else t) ≡ t
 left b s t h = ap (λ (c : Bool). if c then s else t) h
 
-wrote-accepted : (g : Setting) (change : Change) (condition : Condition) (s : State) → is_accepted g s change condition ≡ true → (wrote g change condition s).journal ≡ s.journal ++ change ∷ []
-wrote-accepted g change condition s h = ap (λ (t : State). t.journal) (chosen (is_accepted g s change condition) (record s { journal = s.journal ++ change ∷ [] }) s h)
+-- of one write
+module _ (g : Setting) (s : State) (change : Change) (condition : Condition) where
+  -- the test decides whether it is accepted
+  pub accepted-Decides : Decides (is_accepted g s change condition) (IsAccepted g s.journal change condition)
+  accepted-Decides =
+      let met = met-Decides condition (found_now s change) (length s.journal) in (
+        (λ h.
+            let parts = and_parts (is_met condition (found_now s change) (length s.journal)) (nat_le (kept_with s.journal change) g.capacity) h in
+            record { met = met.0 parts.0; fits = leb-true (kept_with s.journal change) g.capacity parts.1 }),
+        (λ h. and_from (is_met condition (found_now s change) (length s.journal)) (nat_le (kept_with s.journal change) g.capacity) (met.1 h.met) (le-leb (kept_with s.journal change) g.capacity h.fits)),
+      )
 
-wrote-refused : (g : Setting) (change : Change) (condition : Condition) (s : State) → is_accepted g s change condition ≡ false → (wrote g change condition s).journal ≡ s.journal
-wrote-refused g change condition s h = ap (λ (t : State). t.journal) (left (is_accepted g s change condition) (record s { journal = s.journal ++ change ∷ [] }) s h)
+  -- a write leaves a state or adds its change
+  pub wrote-keeps : (P : State → Type 0) → P (record s { journal = s.journal ++ change ∷ [] }) → P s → P (wrote g change condition s)
+  wrote-keeps P p q = kept_by P (is_accepted g s change condition) (record s { journal = s.journal ++ change ∷ [] }) s p q
 
-refuses : (g : Setting) (s : State) (change : Change) (condition : Condition) → is_accepted g s change condition ≡ false → IsAccepted g s.journal change condition → ⊥
-refuses g s change condition h a = both_ways (is_accepted g s change condition) h ((accepted-Decides g s change condition).1 a)
+  wrote-accepted : is_accepted g s change condition ≡ true → (wrote g change condition s).journal ≡ s.journal ++ change ∷ []
+  wrote-accepted h = ap (λ (t : State). t.journal) (chosen (is_accepted g s change condition) (record s { journal = s.journal ++ change ∷ [] }) s h)
+
+  wrote-refused : is_accepted g s change condition ≡ false → (wrote g change condition s).journal ≡ s.journal
+  wrote-refused h = ap (λ (t : State). t.journal) (left (is_accepted g s change condition) (record s { journal = s.journal ++ change ∷ [] }) s h)
+
+  refuses : is_accepted g s change condition ≡ false → IsAccepted g s.journal change condition → ⊥
+  refuses h a = both_ways (is_accepted g s change condition) h (accepted-Decides.1 a)
 
 -- ---- the journal
 
@@ -90,8 +93,8 @@ journal-from g s (Write moment change condition ∷ es) =
     let t = at_moment s moment in
     let rest = journal-from g (wrote g change condition t) es in
     elim (cases_Bool (is_accepted g t change condition)) [
-      | inl takes ↦ inl ((accepted-Decides g t change condition).0 takes, subst (λ (l : List Change). IsJournalFrom g l es (fold (after g) (wrote g change condition t) es).journal) (wrote-accepted g change condition t takes) rest)
-      | inr other ↦ inr (refuses g t change condition other, subst (λ (l : List Change). IsJournalFrom g l es (fold (after g) (wrote g change condition t) es).journal) (wrote-refused g change condition t other) rest)
+      | inl takes ↦ inl ((accepted-Decides g t change condition).0 takes, subst (λ (l : List Change). IsJournalFrom g l es (fold (after g) (wrote g change condition t) es).journal) (wrote-accepted g t change condition takes) rest)
+      | inr other ↦ inr (refuses g t change condition other, subst (λ (l : List Change). IsJournalFrom g l es (fold (after g) (wrote g change condition t) es).journal) (wrote-refused g t change condition other) rest)
     ]
 journal-from g s (e ∷ es) = journal-from g (after g s e) es
 
@@ -104,12 +107,12 @@ journal-alone g s (Write moment change condition ∷ es) journal h =
     let rest : IsJournalFrom g next.journal es journal → journal ≡ (fold (after g) next es).journal = journal-alone g next es journal in
     elim (cases_Bool (is_accepted g t change condition)) [
       | inl takes ↦ elim h [
-        | inl took ↦ rest (subst (λ (l : List Change). IsJournalFrom g l es journal) (sym (wrote-accepted g change condition t takes)) took.1)
+        | inl took ↦ rest (subst (λ (l : List Change). IsJournalFrom g l es journal) (sym (wrote-accepted g t change condition takes)) took.1)
         | inr left_out ↦ absurd (left_out.0 ((accepted-Decides g t change condition).0 takes))
       ]
       | inr other ↦ elim h [
         | inl took ↦ absurd (refuses g t change condition other took.0)
-        | inr left_out ↦ rest (subst (λ (l : List Change). IsJournalFrom g l es journal) (sym (wrote-refused g change condition t other)) left_out.1)
+        | inr left_out ↦ rest (subst (λ (l : List Change). IsJournalFrom g l es journal) (sym (wrote-refused g t change condition other)) left_out.1)
       ]
     ]
 journal-alone g s (e ∷ es) journal h = journal-alone g (after g s e) es journal h

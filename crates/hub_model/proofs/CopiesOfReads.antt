@@ -30,7 +30,7 @@ given g s e = []
 
 given-after : (g : Setting) (s : State) (e : Entry) → (after g s e).copies ≡ s.copies ++ given g s e
 unfolding given copy_at
-given-after g s (Write moment change condition) = wrote-keeps (λ (t : State). t.copies ≡ s.copies ++ []) g change condition (at_moment s moment) (sym (append-nil s.copies)) (sym (append-nil s.copies))
+given-after g s (Write moment change condition) = wrote-keeps g (at_moment s moment) change condition (λ (t : State). t.copies ≡ s.copies ++ []) (sym (append-nil s.copies)) (sym (append-nil s.copies))
 given-after g s (Read moment key tags at) = refl
 given-after g s e = sym (append-nil s.copies)
 
@@ -61,52 +61,55 @@ made-from g s (e ∷ es) r h = elim (Contains-append_cases (given g s e) (given_
   | inr there ↦ (let m = made-from g (after g s e) es r there in record { before = e ∷ m.before; entry = m.entry; rest = m.rest; split = ap (λ (l : List Entry). e ∷ l) m.split; made = m.made })
 ]
 
--- a read that made a copy is of its key and commit, with its clock and lifetime
-read_by : (g : Setting) (before : List Entry) (e : Entry) (rest history : List Entry) (key : KeyShape) (at clock ttl : ℕ) → history ≡ before ++ e ∷ rest → Contains (given g (state_of g before) e) (record { key = key; at = at; clock = clock; ttl = ttl }) → IsRead g history key at clock ttl
-unfolding given copy_at
-read_by g before (Read moment of tags commit) rest history key at clock ttl split h =
-    let e = only (copy_at g (state_of g before) moment of commit) (record { key = key; at = at; clock = clock; ttl = ttl }) h in
-    let key_is : of ≡ key = ap (λ (r : IssuedCopy). r.key) e in
-    let at_is : commit ≡ at = ap (λ (r : IssuedCopy). r.at) e in
-    let clock_is : (at_moment (state_of g before) moment).clock ≡ clock = ap (λ (r : IssuedCopy). r.clock) e in
-    let ttl_is : ttl_of g (at_moment (state_of g before) moment) of commit ≡ ttl = ap (λ (r : IssuedCopy). r.ttl) e in
-    let told : clock_of (before ++ Read moment key tags at ∷ []) ≡ (at_moment (state_of g before) moment).clock =
-    sym (clock-greatest g (before ++ Read moment key tags at ∷ [])) ∙ ap (λ (s : State). s.clock) (state_of-push g before (Read moment key tags at)) in
-    record {
-      before = before;
-      moment = moment;
-      tags = tags;
-      rest = rest;
-      split = cc;
-      clock_is = sym (told ∙ clock_is);
-      ttl_is = cc;
-    }
-read_by g before e rest history key at clock ttl split h = absurd (none (record { key = key; at = at; clock = clock; ttl = ttl }) h)
+-- of one copy
+module _ (g : Setting) (key : KeyShape) (at clock ttl : ℕ) where
+  abbrev copy : IssuedCopy
+  copy = record { key = key; at = at; clock = clock; ttl = ttl }
 
--- a copy of the state is of a read
-pub read-from : (g : Setting) (history : List Entry) (key : KeyShape) (at clock ttl : ℕ) → Contains (state_of g history).copies (record { key = key; at = at; clock = clock; ttl = ttl }) → IsRead g history key at clock ttl
-unfolding state_of
-read-from g history key at clock ttl h =
-    let r : IssuedCopy = record { key = key; at = at; clock = clock; ttl = ttl } in
-    let m = made-from g start history r (subst (λ (l : List IssuedCopy). Contains l r) (copies-from g start history) h) in
-    read_by g m.before m.entry m.rest history key at clock ttl m.split m.made
+  -- a read that made a copy is of its key and commit, with its clock and lifetime
+  read_by : (before : List Entry) (e : Entry) (rest history : List Entry) → history ≡ before ++ e ∷ rest → Contains (given g (state_of g before) e) copy → IsRead g history key at clock ttl
+  unfolding given copy_at
+  read_by before (Read moment of tags commit) rest history split h =
+      let e = only (copy_at g (state_of g before) moment of commit) copy h in
+      let key_is : of ≡ key = ap (λ (r : IssuedCopy). r.key) e in
+      let at_is : commit ≡ at = ap (λ (r : IssuedCopy). r.at) e in
+      let clock_is : (at_moment (state_of g before) moment).clock ≡ clock = ap (λ (r : IssuedCopy). r.clock) e in
+      let ttl_is : ttl_of g (at_moment (state_of g before) moment) of commit ≡ ttl = ap (λ (r : IssuedCopy). r.ttl) e in
+      let told : clock_of (before ++ Read moment key tags at ∷ []) ≡ (at_moment (state_of g before) moment).clock =
+      sym (clock-greatest g (before ++ Read moment key tags at ∷ [])) ∙ ap (λ (s : State). s.clock) (state_of-push g before (Read moment key tags at)) in
+      record {
+        before = before;
+        moment = moment;
+        tags = tags;
+        rest = rest;
+        split = cc;
+        clock_is = sym (told ∙ clock_is);
+        ttl_is = cc;
+      }
+  read_by before e rest history split h = absurd (none copy h)
 
-same_copy_at : (g : Setting) (s : State) (moment : ℕ) (key : KeyShape) (at clock ttl : ℕ) → clock ≡ (at_moment s moment).clock → ttl ≡ ttl_of g (at_moment s moment) key at → copy_at g s moment key at ≡ record { key = key; at = at; clock = clock; ttl = ttl }
-unfolding copy_at
-same_copy_at g s moment key at clock ttl clock_is ttl_is = ap₂ (λ (c t : ℕ). record { key = key; at = at; clock = c; ttl = t }) (sym clock_is) (sym ttl_is)
+  -- a copy of the state is of a read
+  pub read-from : (history : List Entry) → Contains (state_of g history).copies copy → IsRead g history key at clock ttl
+  unfolding state_of
+  read-from history h =
+      let m = made-from g start history copy (subst (λ (l : List IssuedCopy). Contains l copy) (copies-from g start history) h) in
+      read_by m.before m.entry m.rest history m.split m.made
 
-made_here : (g : Setting) (s : State) (moment : ℕ) (key : KeyShape) (tags : Tags) (at : ℕ) (r : IssuedCopy) → copy_at g s moment key at ≡ r → Contains (after g s (Read moment key tags at)).copies r
-unfolding copy_at
-made_here g s moment key tags at r is = subst (λ (x : IssuedCopy). Contains (s.copies ++ copy_at g s moment key at ∷ []) x) is (Contains-push s.copies (copy_at g s moment key at))
+  same_copy_at : (s : State) (moment : ℕ) → clock ≡ (at_moment s moment).clock → ttl ≡ ttl_of g (at_moment s moment) key at → copy_at g s moment key at ≡ copy
+  unfolding copy_at
+  same_copy_at s moment clock_is ttl_is = ap₂ (λ (c t : ℕ). record { key = key; at = at; clock = c; ttl = t }) (sym clock_is) (sym ttl_is)
 
--- and each read has its copy there
-pub from-read : (g : Setting) (history : List Entry) (key : KeyShape) (at clock ttl : ℕ) → IsRead g history key at clock ttl → Contains (state_of g history).copies (record { key = key; at = at; clock = clock; ttl = ttl })
-from-read g history key at clock ttl h =
-    let e : Entry = Read h.moment key h.tags at in
-    let r : IssuedCopy = record { key = key; at = at; clock = clock; ttl = ttl } in
-    let told : clock_of (h.before ++ e ∷ []) ≡ (at_moment (state_of g h.before) h.moment).clock =
-    sym (clock-greatest g (h.before ++ e ∷ [])) ∙ ap (λ (s : State). s.clock) (state_of-push g h.before e) in
-    let is : copy_at g (state_of g h.before) h.moment key at ≡ r = same_copy_at g (state_of g h.before) h.moment key at clock ttl (h.clock_is ∙ told) h.ttl_is in
-    let here : Contains (after g (state_of g h.before) e).copies r = made_here g (state_of g h.before) h.moment key h.tags at r is in
-    let later : Contains (fold (after g) (after g (state_of g h.before) e) h.rest).copies r = subst (λ (l : List IssuedCopy). Contains l r) (sym (copies-from g (after g (state_of g h.before) e) h.rest)) (Contains-append_left (after g (state_of g h.before) e).copies (given_from g (after g (state_of g h.before) e) h.rest) r here) in
-    subst (λ (l : List Entry). Contains (state_of g l).copies r) (sym h.split) (subst (λ (s : State). Contains s.copies r) (sym (state_of-append g h.before (e ∷ h.rest))) later)
+  made_here : (s : State) (moment : ℕ) (tags : Tags) → copy_at g s moment key at ≡ copy → Contains (after g s (Read moment key tags at)).copies copy
+  unfolding copy_at
+  made_here s moment tags is = subst (λ (x : IssuedCopy). Contains (s.copies ++ copy_at g s moment key at ∷ []) x) is (Contains-push s.copies (copy_at g s moment key at))
+
+  -- and each read has its copy there
+  pub from-read : (history : List Entry) → IsRead g history key at clock ttl → Contains (state_of g history).copies copy
+  from-read history h =
+      let e : Entry = Read h.moment key h.tags at in
+      let told : clock_of (h.before ++ e ∷ []) ≡ (at_moment (state_of g h.before) h.moment).clock =
+      sym (clock-greatest g (h.before ++ e ∷ [])) ∙ ap (λ (s : State). s.clock) (state_of-push g h.before e) in
+      let is : copy_at g (state_of g h.before) h.moment key at ≡ copy = same_copy_at (state_of g h.before) h.moment (h.clock_is ∙ told) h.ttl_is in
+      let here : Contains (after g (state_of g h.before) e).copies copy = made_here (state_of g h.before) h.moment h.tags is in
+      let later : Contains (fold (after g) (after g (state_of g h.before) e) h.rest).copies copy = subst (λ (l : List IssuedCopy). Contains l copy) (sym (copies-from g (after g (state_of g h.before) e) h.rest)) (Contains-append_left (after g (state_of g h.before) e).copies (given_from g (after g (state_of g h.before) e) h.rest) copy here) in
+      subst (λ (l : List Entry). Contains (state_of g l).copies copy) (sym h.split) (subst (λ (s : State). Contains s.copies copy) (sym (state_of-append g h.before (e ∷ h.rest))) later)

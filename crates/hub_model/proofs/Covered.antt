@@ -19,20 +19,11 @@ use Rattle.hub_model.proofs.Results.{same_finding-Decides, result_at_decided, ou
 
 -- ---- by neighbouring commits
 
-pub outdated-by_steps : (key : KeyShape) (c : ℕ) (journal : List Change) (front : ℕ) → IsOutdated key c journal front → IsChangedAfter key c journal front
-outdated-by_steps key c journal front = moves-from_differs (result_at key journal) (result_at_decided key journal) c front
-
-pub steps-outdated : (key : KeyShape) (c : ℕ) (journal : List Change) (front : ℕ) → IsChangedAfter key c journal front → IsOutdated key c journal front
-steps-outdated key c journal front = differs-from_moves (result_at key journal) (result_at_decided key journal) c front
-
 -- two tests that pass together are one
 same_test : (a b : Bool) → (a ≡ true → b ≡ true) → (b ≡ true → a ≡ true) → a ≡ b
 same_test true b to back = sym (to refl)
 same_test false true to back = back refl
 same_test false false to back = refl
-
-before_suc : (n : ℕ) → suc n - 1 ≡ n
-before_suc n = omega arith
 
 -- what the test of a change decides
 changed_differs : (key : KeyShape) (journal : List Change) (n : ℕ) → is_changed key journal n ≡ true → result_at key journal n ≢ result_at key journal (n - 1)
@@ -42,27 +33,35 @@ changed_differs key journal n h e = both_ways (same_finding (result_at key journ
 unchanged_same : (key : KeyShape) (journal : List Change) (n : ℕ) → is_changed key journal n ≡ false → result_at key journal n ≡ result_at key journal (n - 1)
 unchanged_same key journal n h = (same_finding-Decides (result_at key journal n) (result_at key journal (n - 1))).0 (not-false (same_finding (result_at key journal n) (result_at key journal (n - 1))) h)
 
--- where the next commit changes the result, the copies before it are outdated, and no other
-pub is_outdated-changed : (key : KeyShape) (c : ℕ) (journal : List Change) (n : ℕ) → is_changed key journal (suc n) ≡ true → is_outdated key c journal (suc n) ≡ nat_lt c (suc n)
-is_outdated-changed key c journal n h = elim (cases_lt c (suc n)) [
-  | inl before ↦ test-from_outdated key c journal (suc n) (steps-outdated key c journal (suc n) (suc n, before, omega arith, changed_differs key journal (suc n) h)) ∙ sym (lt-ltb c (suc n) before)
-  | inr after ↦ not_outdated key c journal (suc n) after ∙ sym (le-ltb c (suc n) after)
-]
+-- of the copies of a key of one commit
+module _ (key : KeyShape) (c : ℕ) (journal : List Change) where
+  pub outdated-by_steps : (front : ℕ) → IsOutdated key c journal front → IsChangedAfter key c journal front
+  outdated-by_steps front = moves-from_differs (result_at key journal) (result_at_decided key journal) c front
 
--- where it does not, no further copy is outdated
-pub is_outdated-unchanged : (key : KeyShape) (c : ℕ) (journal : List Change) (n : ℕ) → is_changed key journal (suc n) ≡ false → is_outdated key c journal (suc n) ≡ is_outdated key c journal n
-is_outdated-unchanged key c journal n h = same_test (is_outdated key c journal (suc n)) (is_outdated key c journal n)
-    (λ t. (
-    let m = outdated-by_steps key c journal (suc n) (outdated-from_test key c journal (suc n) t) in
-    elim (cases_eq m.0 (suc n)) [
-      | inl last ↦ absurd (m.3 (subst (λ k. result_at key journal k ≡ result_at key journal (k - 1)) (sym last) (unchanged_same key journal (suc n) h)))
-      | inr earlier ↦ (let upto = m.2 in test-from_outdated key c journal n (steps-outdated key c journal n (m.0, m.1, omega (arith, upto, earlier), m.3)))
-    ]))
-    (λ t. (let d = outdated-from_test key c journal n t in let upto = d.2 in test-from_outdated key c journal (suc n) (d.0, d.1, omega (arith, upto), d.3)))
+  pub steps-outdated : (front : ℕ) → IsChangedAfter key c journal front → IsOutdated key c journal front
+  steps-outdated front = differs-from_moves (result_at key journal) (result_at_decided key journal) c front
 
--- what is outdated at a commit is of a commit before it
-outdated_before : (key : KeyShape) (c : ℕ) (journal : List Change) (front : ℕ) → is_outdated key c journal front ≡ true → c < front
-outdated_before key c journal front t = (let d = outdated-from_test key c journal front t in let after = d.1 in let upto = d.2 in omega (arith, after, upto))
+  -- where the next commit changes the result, the copies before it are outdated, and no other
+  pub is_outdated-changed : (n : ℕ) → is_changed key journal (suc n) ≡ true → is_outdated key c journal (suc n) ≡ nat_lt c (suc n)
+  is_outdated-changed n h = elim (cases_lt c (suc n)) [
+    | inl before ↦ test-from_outdated key c journal (suc n) (steps-outdated (suc n) (suc n, before, omega arith, changed_differs key journal (suc n) h)) ∙ sym (lt-ltb c (suc n) before)
+    | inr after ↦ not_outdated key c journal (suc n) after ∙ sym (le-ltb c (suc n) after)
+  ]
+
+  -- where it does not, no further copy is outdated
+  pub is_outdated-unchanged : (n : ℕ) → is_changed key journal (suc n) ≡ false → is_outdated key c journal (suc n) ≡ is_outdated key c journal n
+  is_outdated-unchanged n h = same_test (is_outdated key c journal (suc n)) (is_outdated key c journal n)
+      (λ t. (
+      let m = outdated-by_steps (suc n) (outdated-from_test key c journal (suc n) t) in
+      elim (cases_eq m.0 (suc n)) [
+        | inl last ↦ absurd (m.3 (subst (λ k. result_at key journal k ≡ result_at key journal (k - 1)) (sym last) (unchanged_same key journal (suc n) h)))
+        | inr earlier ↦ (let upto = m.2 in test-from_outdated key c journal n (steps-outdated n (m.0, m.1, omega (arith, upto, earlier), m.3)))
+      ]))
+      (λ t. (let d = outdated-from_test key c journal n t in let upto = d.2 in test-from_outdated key c journal (suc n) (d.0, d.1, omega (arith, upto), d.3)))
+
+  -- what is outdated at a commit is of a commit before it
+  outdated_before : (front : ℕ) → is_outdated key c journal front ≡ true → c < front
+  outdated_before front t = (let d = outdated-from_test key c journal front t in let after = d.1 in let upto = d.2 in omega (arith, after, upto))
 
 -- ---- the untils of a key
 
@@ -92,31 +91,33 @@ until-less p q (r ∷ rs) h = by (p r) (q r) refl refl (until-less p q rs h)
 from_zero : (n : ℕ) → nat_le 0 n ≡ true
 from_zero n = le-leb 0 n (omega arith)
 
--- a commit that changes the result outdates the key's copies before it
-pub outdated_until-changed : (s : State) (key : KeyShape) (n : ℕ) → is_changed key s.journal (suc n) ≡ true → until_of_outdated (record s { front = suc n }) key ≡ latest_until s key 0 (suc n)
-outdated_until-changed s key n h = until-agree key (is_outdated_in (record s { front = suc n })) (λ r. nat_le 0 r.at && nat_lt r.at (suc n)) (live s)
-    (λ r is_key. (
-    let here : is_changed r.key s.journal (suc n) ≡ true = subst (λ (k : KeyShape). is_changed k s.journal (suc n) ≡ true) (sym is_key) h in
-    is_outdated-changed r.key r.at s.journal n here ∙ sym (ap (λ (b : Bool). b && nat_lt r.at (suc n)) (from_zero r.at))))
+-- of a key in one state
+module _ (s : State) (key : KeyShape) (n : ℕ) where
+  -- a commit that changes the result outdates the key's copies before it
+  pub outdated_until-changed : is_changed key s.journal (suc n) ≡ true → until_of_outdated (record s { front = suc n }) key ≡ latest_until s key 0 (suc n)
+  outdated_until-changed h = until-agree key (is_outdated_in (record s { front = suc n })) (λ r. nat_le 0 r.at && nat_lt r.at (suc n)) (live s)
+      (λ r is_key. (
+      let here : is_changed r.key s.journal (suc n) ≡ true = subst (λ (k : KeyShape). is_changed k s.journal (suc n) ≡ true) (sym is_key) h in
+      is_outdated-changed r.key r.at s.journal n here ∙ sym (ap (λ (b : Bool). b && nat_lt r.at (suc n)) (from_zero r.at))))
 
--- another leaves them as they are
-pub outdated_until-unchanged : (s : State) (key : KeyShape) (n : ℕ) → is_changed key s.journal (suc n) ≡ false → until_of_outdated (record s { front = suc n }) key ≡ until_of_outdated (record s { front = n }) key
-outdated_until-unchanged s key n h = until-agree key (is_outdated_in (record s { front = suc n })) (is_outdated_in (record s { front = n })) (live s)
-    (λ r is_key. is_outdated-unchanged r.key r.at s.journal n (subst (λ (k : KeyShape). is_changed k s.journal (suc n) ≡ false) (sym is_key) h))
+  -- another leaves them as they are
+  pub outdated_until-unchanged : is_changed key s.journal (suc n) ≡ false → until_of_outdated (record s { front = suc n }) key ≡ until_of_outdated (record s { front = n }) key
+  outdated_until-unchanged h = until-agree key (is_outdated_in (record s { front = suc n })) (is_outdated_in (record s { front = n })) (live s)
+      (λ r is_key. is_outdated-unchanged r.key r.at s.journal n (subst (λ (k : KeyShape). is_changed k s.journal (suc n) ≡ false) (sym is_key) h))
 
--- what is outdated at a commit is of one before the next
-pub outdated_until-below : (s : State) (key : KeyShape) (n : ℕ) → until_of_outdated (record s { front = n }) key ≤ latest_until s key 0 (suc n)
-outdated_until-below s key n = until-less (λ r. same_key key r.key && is_outdated_in (record s { front = n }) r) (λ r. same_key key r.key && (nat_le 0 r.at && nat_lt r.at (suc n))) (live s)
-    (λ r t. (
-    let parts = and_parts (same_key key r.key) (is_outdated_in (record s { front = n }) r) t in
-    let before = outdated_before r.key r.at s.journal n parts.1 in
-    and_from (same_key key r.key) (nat_le 0 r.at && nat_lt r.at (suc n)) parts.0
-    (and_from (nat_le 0 r.at) (nat_lt r.at (suc n)) (from_zero r.at) (lt-ltb r.at (suc n) (omega (arith, before))))))
+  -- what is outdated at a commit is of one before the next
+  pub outdated_until-below : until_of_outdated (record s { front = n }) key ≤ latest_until s key 0 (suc n)
+  outdated_until-below = until-less (λ r. same_key key r.key && is_outdated_in (record s { front = n }) r) (λ r. same_key key r.key && (nat_le 0 r.at && nat_lt r.at (suc n))) (live s)
+      (λ r t. (
+      let parts = and_parts (same_key key r.key) (is_outdated_in (record s { front = n }) r) t in
+      let before = outdated_before r.key r.at s.journal n parts.1 in
+      and_from (same_key key r.key) (nat_le 0 r.at && nat_lt r.at (suc n)) parts.0
+      (and_from (nat_le 0 r.at) (nat_lt r.at (suc n)) (from_zero r.at) (lt-ltb r.at (suc n) (omega (arith, before))))))
 
--- one commit more
-pub outdated_until-commit : (s : State) (key : KeyShape) (n : ℕ) → until_of_outdated (record s { front = suc n }) key ≡ max (until_of_outdated (record s { front = n }) key) (if is_changed key s.journal (suc n) then latest_until s key 0 (suc n) else 0)
-outdated_until-commit s key n = by (is_changed key s.journal (suc n)) refl
-  where
-    by : (b : Bool) → is_changed key s.journal (suc n) ≡ b → until_of_outdated (record s { front = suc n }) key ≡ max (until_of_outdated (record s { front = n }) key) (if b then latest_until s key 0 (suc n) else 0)
-    by true h = (let now = outdated_until-changed s key n h in let below = outdated_until-below s key n in omega (arith, now, below))
-    by false h = (let now = outdated_until-unchanged s key n h in omega (arith, now))
+  -- one commit more
+  pub outdated_until-commit : until_of_outdated (record s { front = suc n }) key ≡ max (until_of_outdated (record s { front = n }) key) (if is_changed key s.journal (suc n) then latest_until s key 0 (suc n) else 0)
+  outdated_until-commit = by (is_changed key s.journal (suc n)) refl
+    where
+      by : (b : Bool) → is_changed key s.journal (suc n) ≡ b → until_of_outdated (record s { front = suc n }) key ≡ max (until_of_outdated (record s { front = n }) key) (if b then latest_until s key 0 (suc n) else 0)
+      by true h = (let now = outdated_until-changed h in let below = outdated_until-below in omega (arith, now, below))
+      by false h = (let now = outdated_until-unchanged h in omega (arith, now))

@@ -65,7 +65,7 @@ legal-parts g history more legal = legal_from-parts g start history more legal
 -- ---- the clock
 
 clock-after : (g : Setting) (s : State) (e : Entry) → (after g s e).clock ≡ max s.clock (moment_of e)
-clock-after g s (Write moment change condition) = wrote-keeps (λ (t : State). t.clock ≡ max s.clock moment) g change condition (at_moment s moment) refl refl
+clock-after g s (Write moment change condition) = wrote-keeps g (at_moment s moment) change condition (λ (t : State). t.clock ≡ max s.clock moment) refl refl
 clock-after g s e = refl
 
 clock-from : (g : Setting) (s : State) (history : List Entry) → (after_all g s history).clock ≡ fold max s.clock (map moment_of history)
@@ -79,7 +79,7 @@ clock-greatest g history = clock-from g start history
 -- ---- the front
 
 front-after : (g : Setting) (s : State) (e : Entry) (es : List Entry) → unwrap_or (last_or (Some (after g s e).front) (filter_map to_of es)) 0 ≡ unwrap_or (last_or (Some s.front) (filter_map to_of (e ∷ es))) 0
-front-after g s (Write moment change condition) es = wrote-keeps (λ (t : State). unwrap_or (last_or (Some t.front) (filter_map to_of es)) 0 ≡ unwrap_or (last_or (Some s.front) (filter_map to_of es)) 0) g change condition (at_moment s moment) refl refl
+front-after g s (Write moment change condition) es = wrote-keeps g (at_moment s moment) change condition (λ (t : State). unwrap_or (last_or (Some t.front) (filter_map to_of es)) 0 ≡ unwrap_or (last_or (Some s.front) (filter_map to_of es)) 0) refl refl
 front-after g s e es = refl
 
 front-from : (g : Setting) (s : State) (history : List Entry) → (after_all g s history).front ≡ unwrap_or (last_or (Some s.front) (filter_map to_of history)) 0
@@ -99,7 +99,7 @@ front-last g history = front-from g start history ∙ last_or-zero (filter_map t
 
 -- the front is not above the number of commits
 within-after : (g : Setting) (s : State) (e : Entry) → s.front ≤ length s.journal → MayFollow g s e → (after g s e).front ≤ length (after g s e).journal
-within-after g s (Write moment change condition) h may = wrote-keeps (λ (t : State). t.front ≤ length t.journal) g change condition (at_moment s moment) (let size = length-append s.journal (change ∷ []) in omega (arith, size, h)) h
+within-after g s (Write moment change condition) h may = wrote-keeps g (at_moment s moment) change condition (λ (t : State). t.front ≤ length t.journal) (let size = length-append s.journal (change ∷ []) in omega (arith, size, h)) h
 within-after g s (Match moment to) h may = may.1
 within-after g s e h may = h
 

@@ -56,7 +56,7 @@ later_onward s t u a b =
 -- an entry that may follow leaves a later state
 later_after : (g : Setting) (s : State) (e : Entry) → MayFollow g s e → IsLater s (after g s e)
 later_after g s (Write moment change condition) may =
-    wrote-keeps (λ (t : State). IsLater s t) g change condition (at_moment s moment)
+    wrote-keeps g (at_moment s moment) change condition (λ (t : State). IsLater s t)
     (record { clock = omega arith; front = omega arith; commits = change ∷ []; journal = refl; issued = []; copies = sym (append-nil s.copies); fresh = All-nil (IsFrom s) })
     (later_clock s (at_moment s moment).clock (omega arith))
 later_after g s (Read moment key tags at) may =

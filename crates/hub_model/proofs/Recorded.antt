@@ -170,5 +170,5 @@ outdated_until-longer s more key h = ap (λ (test : IssuedCopy → Bool). until_
 pub write-records_nothing : (g : Setting) (history : List Entry) (moment : ℕ) (change : Change) (condition : Condition) → IsLegal g history → record_of (state_of g (history ++ Write moment change condition ∷ [])) ≡ record_of (state_of g (history ++ Tick moment ∷ []))
 write-records_nothing g history moment change condition legal =
     ap record_of (state_of-push g history (Write moment change condition))
-    ∙ wrote-keeps (λ (t : State). record_of t ≡ record_of (at_moment (state_of g history) moment)) g change condition (at_moment (state_of g history) moment) (record-longer (at_moment (state_of g history) moment) (change ∷ []) (front-within g history legal)) refl
+    ∙ wrote-keeps g (at_moment (state_of g history) moment) change condition (λ (t : State). record_of t ≡ record_of (at_moment (state_of g history) moment)) (record-longer (at_moment (state_of g history) moment) (change ∷ []) (front-within g history legal)) refl
     ∙ ap record_of (sym (state_of-push g history (Tick moment)))

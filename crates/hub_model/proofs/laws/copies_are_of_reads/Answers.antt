@@ -3,4 +3,4 @@ use Rattle.hub_model.proofs.laws.copies_are_of_reads.Goals as goal
 
 -- a read alone adds a copy, and no entry removes one
 pub returns : goal.returns
-returns c = λ g history key at clock ttl. (from-read g history key at clock ttl, read-from g history key at clock ttl)
+returns c = λ g history key at clock ttl. (from-read g key at clock ttl history, read-from g key at clock ttl history)
