@@ -80,15 +80,6 @@ kept-by clock o n low =
     survives None later low = low
     survives (Some until) later low = rw (lt-ltb clock until (omega (arith, later, low))) low
 
--- no key is invalidated longer than its last copy may be kept, after some expired
-pub backed-later : (clock : ℕ) (old new : List Copy) (before after : List (KeyShape × ℕ)) (key : KeyShape) → SameCopies new (unexpired clock old) → until_in after key ≡ while_later clock (until_in before key) → until_in before key ≤ last_until old key →
-    until_in after key ≤ last_until new key
-backed-later clock old new before after key same is backed =
-    let last : latest_where key (λ commit. true) new ≡ only_above clock (latest_where key (λ commit. true) old) = same key (λ commit. true) ∙ latest_unexpired clock key (λ commit. true) old in
-    let kept = kept-by clock (latest_where key (λ commit. true) old) (until_in before key) backed in
-    let most : last_until new key ≡ unwrap_or (only_above clock (latest_where key (λ commit. true) old)) 0 = ap (λ (o : Option ℕ). unwrap_or o 0) last in
-    omega (arith, is, kept, most)
-
 -- what survives is later than the clock
 only-later : (clock : ℕ) (o : Option ℕ) (until : ℕ) → only_above clock o ≡ Some until → clock < until
 only-later clock None until is = absurd (let e = is in cc)
@@ -98,20 +89,31 @@ only-later clock (Some other) until is =
       | inr past ↦ absurd (let none : None ≡ Some until = rw (le-ltb clock other past) at is in cc)
     ]
 
-pub late-later : (clock : ℕ) (old new : List Copy) → SameCopies new (unexpired clock old) → (key : KeyShape) (test : ℕ → Bool) (until : ℕ) → latest_where key test new ≡ Some until → clock < until
-late-later clock old new same key test until is =
-    only-later clock (latest_where key test old) until (sym (latest_unexpired clock key test old) ∙ sym (same key test) ∙ is)
+-- when copies expired by a clock
+module _ (clock : ℕ) (old new : List Copy) (same : SameCopies new (unexpired clock old)) where
+  -- no key is invalidated longer than its last copy may be kept, after some expired
+  pub backed-later : (before after : List (KeyShape × ℕ)) (key : KeyShape) → until_in after key ≡ while_later clock (until_in before key) → until_in before key ≤ last_until old key → until_in after key ≤ last_until new key
+  backed-later before after key is backed =
+      let last : latest_where key (λ commit. true) new ≡ only_above clock (latest_where key (λ commit. true) old) = same key (λ commit. true) ∙ latest_unexpired clock key (λ commit. true) old in
+      let kept = kept-by clock (latest_where key (λ commit. true) old) (until_in before key) backed in
+      let most : last_until new key ≡ unwrap_or (only_above clock (latest_where key (λ commit. true) old)) 0 = ap (λ (o : Option ℕ). unwrap_or o 0) last in
+      omega (arith, is, kept, most)
 
--- no key became active
-pub active-later : (clock : ℕ) (old new : List Copy) → SameCopies new (unexpired clock old) → (key : KeyShape) → is_active new key ≡ true → is_active old key ≡ true
-active-later clock old new same key active =
-    let there : is_some (only_above clock (latest_where key (λ commit. true) old)) ≡ true =
-    ap is_some (sym (latest_unexpired clock key (λ commit. true) old)) ∙ ap is_some (sym (same key (λ commit. true))) ∙ sym (active_is new key) ∙ active in
-    active_is old key ∙ was (latest_where key (λ commit. true) old) there
-  where
-    was : (o : Option ℕ) → is_some (only_above clock o) ≡ true → is_some o ≡ true
-    was None h = h
-    was (Some until) h = refl
+  -- the others are later than it
+  pub late-later : (key : KeyShape) (test : ℕ → Bool) (until : ℕ) → latest_where key test new ≡ Some until → clock < until
+  late-later key test until is =
+      only-later clock (latest_where key test old) until (sym (latest_unexpired clock key test old) ∙ sym (same key test) ∙ is)
+
+  -- no key became active
+  pub active-later : (key : KeyShape) → is_active new key ≡ true → is_active old key ≡ true
+  active-later key active =
+      let there : is_some (only_above clock (latest_where key (λ commit. true) old)) ≡ true =
+      ap is_some (sym (latest_unexpired clock key (λ commit. true) old)) ∙ ap is_some (sym (same key (λ commit. true))) ∙ sym (active_is new key) ∙ active in
+      active_is old key ∙ was (latest_where key (λ commit. true) old) there
+    where
+      was : (o : Option ℕ) → is_some (only_above clock o) ≡ true → is_some o ≡ true
+      was None h = h
+      was (Some until) h = refl
 
 -- ---- one copy more
 
@@ -123,49 +125,51 @@ with-later clock copy copies late = ap (λ (b : Bool). if b then copy ∷ copies
 pub same-with : (clock : ℕ) (copy : Copy) (old new : List Copy) → clock < copy.2 → SameCopies new (with_copy clock copy old) → SameCopies new (copy ∷ old)
 same-with clock copy old new late same = subst (λ (xs : List Copy). SameCopies new xs) (with-later clock copy old late) same
 
-pub late-more : (clock : ℕ) (copy : Copy) (old new : List Copy) → clock < copy.2 → SameCopies new (copy ∷ old) → ((key : KeyShape) (test : ℕ → Bool) (until : ℕ) → latest_where key test old ≡ Some until → clock < until) →
-    (key : KeyShape) (test : ℕ → Bool) (until : ℕ) → latest_where key test new ≡ Some until → clock < until
-late-more clock copy old new late same were key test until is =
-    by (same_key key copy.0 && test copy.1) (latest_where key test old) refl (sym (latest-cons key test copy old) ∙ sym (same key test) ∙ is)
-  where
-    by : (b : Bool) (o : Option ℕ) → latest_where key test old ≡ o → latest (if b then Some copy.2 else None) o ≡ Some until → clock < until
-    by true None was h = (let own : copy.2 ≡ until = cc in omega (arith, late, own))
-    by true (Some other) was h = (let own : max copy.2 other ≡ until = cc in omega (arith, late, own))
-    by false o was h = were key test until (was ∙ h)
+-- behind one copy more
+module _ (copy : Copy) (old new : List Copy) (same : SameCopies new (copy ∷ old)) where
+  pub late-more : (clock : ℕ) → clock < copy.2 → ((key : KeyShape) (test : ℕ → Bool) (until : ℕ) → latest_where key test old ≡ Some until → clock < until) →
+      (key : KeyShape) (test : ℕ → Bool) (until : ℕ) → latest_where key test new ≡ Some until → clock < until
+  late-more clock late were key test until is =
+      by (same_key key copy.0 && test copy.1) (latest_where key test old) refl (sym (latest-cons key test copy old) ∙ sym (same key test) ∙ is)
+    where
+      by : (b : Bool) (o : Option ℕ) → latest_where key test old ≡ o → latest (if b then Some copy.2 else None) o ≡ Some until → clock < until
+      by true None was h = (let own : copy.2 ≡ until = cc in omega (arith, late, own))
+      by true (Some other) was h = (let own : max copy.2 other ≡ until = cc in omega (arith, late, own))
+      by false o was h = were key test until (was ∙ h)
 
-pub backed-more : (copy : Copy) (old new : List Copy) (key : KeyShape) → SameCopies new (copy ∷ old) → last_until old key ≤ last_until new key
-backed-more copy old new key same =
-    let last : latest_where key (λ commit. true) new ≡ latest (if same_key key copy.0 && true then Some copy.2 else None) (latest_where key (λ commit. true) old) = same key (λ commit. true) ∙ latest-cons key (λ commit. true) copy old in
-    let most : last_until new key ≡ unwrap_or (latest (if same_key key copy.0 && true then Some copy.2 else None) (latest_where key (λ commit. true) old)) 0 = ap (λ (o : Option ℕ). unwrap_or o 0) last in
-    let more = by (same_key key copy.0 && true) (latest_where key (λ commit. true) old) in
-    omega (arith, most, more)
-  where
-    by : (b : Bool) (o : Option ℕ) → unwrap_or o 0 ≤ unwrap_or (latest (if b then Some copy.2 else None) o) 0
-    by true None = omega arith
-    by true (Some other) = omega arith
-    by false o = omega arith
+  pub backed-more : (key : KeyShape) → last_until old key ≤ last_until new key
+  backed-more key =
+      let last : latest_where key (λ commit. true) new ≡ latest (if same_key key copy.0 && true then Some copy.2 else None) (latest_where key (λ commit. true) old) = same key (λ commit. true) ∙ latest-cons key (λ commit. true) copy old in
+      let most : last_until new key ≡ unwrap_or (latest (if same_key key copy.0 && true then Some copy.2 else None) (latest_where key (λ commit. true) old)) 0 = ap (λ (o : Option ℕ). unwrap_or o 0) last in
+      let more = by (same_key key copy.0 && true) (latest_where key (λ commit. true) old) in
+      omega (arith, most, more)
+    where
+      by : (b : Bool) (o : Option ℕ) → unwrap_or o 0 ≤ unwrap_or (latest (if b then Some copy.2 else None) o) 0
+      by true None = omega arith
+      by true (Some other) = omega arith
+      by false o = omega arith
 
--- the keys that are active with one copy more
-active-more : (copy : Copy) (old new : List Copy) → SameCopies new (copy ∷ old) → (key : KeyShape) → is_active new key ≡ (same_key key copy.0 || is_active old key)
-active-more copy old new same key = active_alike new (copy ∷ old) key same
+  -- the keys that are active with one copy more
+  active-more : (key : KeyShape) → is_active new key ≡ (same_key key copy.0 || is_active old key)
+  active-more key = active_alike new (copy ∷ old) key same
 
-pub count-with : (limit : ℕ) (copy : Copy) (old new : List Copy) → SameCopies new (copy ∷ old) → active_keys old ≤ limit → (is_active old copy.0 ≡ true) ⊎ (active_keys old < limit) → active_keys new ≤ limit
-count-with limit copy old new same few room =
-    elim room [
-      | inl active ↦ (
-          let less = count-less new old
-          (λ key there.
-          elim (or_cases (same_key key copy.0) (is_active old key) (sym (active-more copy old new same key) ∙ there)) [
-            | inl own ↦ ap (is_active old) ((same_key-Decides key copy.0).0 own) ∙ active
-            | inr was ↦ was
-          ]) in
-          omega (arith, less, few))
-      | inr below ↦ (
-          let more = count-more new old copy.0
-          (λ key there.
-          elim (or_cases (same_key key copy.0) (is_active old key) (sym (active-more copy old new same key) ∙ there)) [ inl own ↦ inr own | inr was ↦ inl was ]) in
-          omega (arith, more, below))
-    ]
+  pub count-with : (limit : ℕ) → active_keys old ≤ limit → (is_active old copy.0 ≡ true) ⊎ (active_keys old < limit) → active_keys new ≤ limit
+  count-with limit few room =
+      elim room [
+        | inl active ↦ (
+            let less = count-less new old
+            (λ key there.
+            elim (or_cases (same_key key copy.0) (is_active old key) (sym (active-more key) ∙ there)) [
+              | inl own ↦ ap (is_active old) ((same_key-Decides key copy.0).0 own) ∙ active
+              | inr was ↦ was
+            ]) in
+            omega (arith, less, few))
+        | inr below ↦ (
+            let more = count-more new old copy.0
+            (λ key there.
+            elim (or_cases (same_key key copy.0) (is_active old key) (sym (active-more key) ∙ there)) [ inl own ↦ inr own | inr was ↦ inl was ]) in
+            omega (arith, more, below))
+      ]
 
 -- ---- invalidations
 

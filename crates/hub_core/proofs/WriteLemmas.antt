@@ -63,44 +63,32 @@ added-memory book change result none full = by (nat_le (kept_with book.journal c
 
 -- ---- what a write leaves
 
--- of a journal that is the state's
-found-now : (journal : List Change) (s : State) (change : Change) (found : Found) → journal ≡ s.journal → found ≡ found_of (document_at journal (length journal) change.collection change.id) → found ≡ found_now s change
-found-now journal s change found same is = is ∙ ap (λ (xs : List Change). found_of (document_at xs (length xs) change.collection change.id)) same
-
-met-now : (journal : List Change) (s : State) (change : Change) (condition : Condition) (found : Found) (commits : ℕ) (b : Bool) → journal ≡ s.journal → found ≡ found_now s change → commits ≡ length journal → is_met condition found commits ≡ b → is_met condition (found_now s change) (length s.journal) ≡ b
-met-now journal s change condition found commits b same found_is count met = ap₂ (is_met condition) (sym found_is) (sym (count ∙ ap length same)) ∙ met
-
--- the change fits in the state where it fits in the book
-fits-now : (g : Setting) (journal : List Change) (s : State) (change : Change) (capacity : ℕ) (b : Bool) → journal ≡ s.journal → capacity ≡ g.capacity → nat_le (kept_with journal change) capacity ≡ b → nat_le (kept_with s.journal change) g.capacity ≡ b
-fits-now g journal s change capacity b same limit fits = ap₂ (λ (xs : List Change) (n : ℕ). nat_le (kept_with xs change) n) (sym same) (sym limit) ∙ fits
-
--- so the state accepts it
-pub accepted-now : (g : Setting) (journal : List Change) (s : State) (change : Change) (condition : Condition) (found : Found) (commits capacity : ℕ) → journal ≡ s.journal → found ≡ found_of (document_at journal (length journal) change.collection change.id) → commits ≡ length journal →
-    is_met condition found commits ≡ true → capacity ≡ g.capacity → nat_le (kept_with journal change) capacity ≡ true → is_accepted g s change condition ≡ true
-accepted-now g journal s change condition found commits capacity same is count met limit fits =
-    ap₂ (λ (a b : Bool). a && b) (met-now journal s change condition found commits true same (found-now journal s change found same is) count met) (fits-now g journal s change capacity true same limit fits)
-
 -- the state behind a write, by whether it is accepted
 left : Change → State → Bool → State
 left change s b = if b then record s { journal = s.journal ++ change ∷ [] } else s
 
-pub leaves-unmet : (g : Setting) (journal : List Change) (s : State) (change : Change) (condition : Condition) (found : Found) (commits : ℕ) → journal ≡ s.journal → found ≡ found_of (document_at journal (length journal) change.collection change.id) → commits ≡ length journal →
-    is_met condition found commits ≡ false → s ≡ wrote g change condition s
-unfolding left
-leaves-unmet g journal s change condition found commits same is count unmet =
-    let found_is = found-now journal s change found same is in
-    sym (ap (λ (b : Bool). left change s (b && nat_le (kept_with s.journal change) g.capacity)) (met-now journal s change condition found commits false same found_is count unmet))
+-- of a book whose journal is the state's
+module _ (g : Setting) (book : Contents) (s : State) (change : Change) (condition : Condition) (found : Found) (commits : ℕ) (same : book.journal ≡ s.journal)
+    (is : found ≡ found_of (document_at book.journal (length book.journal) change.collection change.id)) (count : commits ≡ length book.journal) where
+  met-now : (b : Bool) → is_met condition found commits ≡ b → is_met condition (found_now s change) (length s.journal) ≡ b
+  met-now b met =
+      let found_is : found ≡ found_now s change = is ∙ ap (λ (xs : List Change). found_of (document_at xs (length xs) change.collection change.id)) same in
+      ap₂ (is_met condition) (sym found_is) (sym (count ∙ ap length same)) ∙ met
 
-pub leaves-full : (g : Setting) (journal : List Change) (s : State) (change : Change) (condition : Condition) (found : Found) (commits capacity : ℕ) → journal ≡ s.journal → found ≡ found_of (document_at journal (length journal) change.collection change.id) → commits ≡ length journal →
-    is_met condition found commits ≡ true → capacity ≡ g.capacity → nat_le (kept_with journal change) capacity ≡ false → s ≡ wrote g change condition s
-unfolding left
-leaves-full g journal s change condition found commits capacity same is count met limit fits =
-    let found_is = found-now journal s change found same is in
-    sym (ap₂ (λ (a b : Bool). left change s (a && b)) (met-now journal s change condition found commits true same found_is count met) (fits-now g journal s change capacity false same limit fits))
+  pub leaves-unmet : is_met condition found commits ≡ false → s ≡ wrote g change condition s
+  unfolding left
+  leaves-unmet unmet = sym (ap (λ (b : Bool). left change s (b && nat_le (kept_with s.journal change) g.capacity)) (met-now false unmet))
 
-pub leaves-done : (g : Setting) (journal : List Change) (s : State) (change : Change) (condition : Condition) (found : Found) (commits capacity : ℕ) → journal ≡ s.journal → found ≡ found_of (document_at journal (length journal) change.collection change.id) → commits ≡ length journal →
-    is_met condition found commits ≡ true → capacity ≡ g.capacity → nat_le (kept_with journal change) capacity ≡ true → record s { journal = s.journal ++ change ∷ [] } ≡ wrote g change condition s
-unfolding left
-leaves-done g journal s change condition found commits capacity same is count met limit fits =
-    let found_is = found-now journal s change found same is in
-    sym (ap₂ (λ (a b : Bool). left change s (a && b)) (met-now journal s change condition found commits true same found_is count met) (fits-now g journal s change capacity true same limit fits))
+  -- where the condition is met, by whether the change fits
+  module _ (met : is_met condition found commits ≡ true) (limit : book.capacity ≡ g.capacity) where
+    pub accepted-now : (b : Bool) → nat_le (kept_with book.journal change) book.capacity ≡ b → is_accepted g s change condition ≡ b
+    accepted-now b fits =
+        ap₂ (λ (a c : Bool). a && c) (met-now true met) (ap₂ (λ (xs : List Change) (n : ℕ). nat_le (kept_with xs change) n) (sym same) (sym limit) ∙ fits)
+
+    pub leaves-full : nat_le (kept_with book.journal change) book.capacity ≡ false → s ≡ wrote g change condition s
+    unfolding left
+    leaves-full full = sym (ap (left change s) (accepted-now false full))
+
+    pub leaves-done : nat_le (kept_with book.journal change) book.capacity ≡ true → record s { journal = s.journal ++ change ∷ [] } ≡ wrote g change condition s
+    unfolding left
+    leaves-done fits = sym (ap (left change s) (accepted-now true fits))

@@ -74,6 +74,10 @@ last_until copies key = unwrap_or (latest_where key (λ commit. true) copies) 0
 abbrev pub until_below : List Copy → KeyShape → ℕ → ℕ
 until_below copies key commit = unwrap_or (latest_of copies key 0 commit) 0
 
+-- a key is among those of which the last copy expired, and was not given since
+abbrev pub is_idle : CopiesView → KeyShape → Bool
+is_idle h key = list_any (same_key key) h.idle
+
 -- a key is among those of outdated copies that may be kept
 abbrev pub is_invalidated : CopiesView → KeyShape → Bool
 is_invalidated h key = nat_lt h.clock (until_in h.outdated key)

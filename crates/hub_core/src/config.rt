@@ -169,7 +169,7 @@ impl Config {
         self.log2_bits
     }
 
-    /// So many positions has a key.
+    /// The number of positions of a key in the page.
     pub fn hashes(&self) -> u8
         ensures { result ≡ self.now.hashes }
     {
@@ -183,7 +183,7 @@ impl Config {
         self.ttl_high
     }
 
-    /// So many keys may be active at once.
+    /// The greatest number of keys that may be active at once.
     pub fn active(&self) -> u32
         ensures { result ≡ self.now.active }
     {

@@ -1,11 +1,11 @@
 //! The issued copies, and the keys of those that are outdated.
-ghost use Rattle.std.specs.Prelude.{◌≡◌, ◌+◌, ◌*◌, ◌^◌, ◌<◌, max, ◌∷◌, [], if◌then◌else◌, nat_lt, length, IsTrue, false, IfSome, IfNone, IfOk, OnOk, OnErr};
+ghost use Rattle.std.specs.Prelude.{◌≡◌, ◌+◌, ◌*◌, ◌^◌, ◌<◌, max, ◌∷◌, [], not, ◌&&◌, if◌then◌else◌, nat_lt, length, IsTrue, false, IfSome, IfNone, IfOk, OnOk, OnErr};
 ghost use Rattle.issued_expiries.specs.Copies.{SameCopies, is_active, unexpired};
 ghost use Rattle.query_normal.specs.Bits.{flat_bits};
 ghost use Rattle.query_normal.specs.Keys.{same_key};
 ghost use Rattle.query_normal.specs.declared.key.KeyShape.{KeyShape as AKey};
 ghost use Rattle.hub_model.specs.Record.{bits_of};
-ghost use Rattle.hub_core.specs.CopiesView.{no_copies, may_issue, while_later, until_in, until_below, is_invalidated, invalidated_keys, AreInvalidated, IsReadyFor, IsInvalidationReserved, CanInvalidate};
+ghost use Rattle.hub_core.specs.CopiesView.{no_copies, may_issue, while_later, until_in, until_below, is_idle, is_invalidated, invalidated_keys, AreInvalidated, IsReadyFor, IsInvalidationReserved, CanInvalidate};
 
 use crate::config::Config;
 use expiring_filter::CountingFilter;
@@ -84,9 +84,12 @@ impl Copies {
 
     /// Gives an idle key, which is not idle any more.
     pub fn next_idle(&mut self) -> Option<Key>
+        ensures some { IfSome result (λ key. IsTrue (is_idle self.old key)) }
         ensures inactive { IfSome result (λ key. is_active self.old.copies key ≡ false) }
+        ensures given { IfSome result (λ key. (other : AKey) → is_idle self.new other ≡ (not (same_key key other) && is_idle self.old other)) }
         ensures fewer { IfSome result (λ _. length self.new.idle + 1 ≡ length self.old.idle) }
-        ensures none { IfNone result (self.new.idle ≡ []) }
+        ensures none { IfNone result (self.old.idle ≡ []) }
+        ensures left { IfNone result (self.new.idle ≡ []) }
         ensures rest { self.new ≡ record self.old { idle = self.new.idle } }
     {
         self.issued.next_idle()

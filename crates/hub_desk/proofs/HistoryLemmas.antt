@@ -34,119 +34,111 @@ noted old new es state legal stored =
       legal = λ g was may. subst (λ (l : List Entry). IsLegal g l) (sym stored) ((legal g old es).1 (was, may));
     }
 
--- the hub after entries that may follow represents the longer history
-pub represents-more : (h new : HubView) (history longer es : List Entry) → Represents h history → IsLegalFrom h.setting (state_of h.setting history) es → new.setting ≡ h.setting → IsAt new (after_all h.setting (state_of h.setting history) es) → IsNoted history longer es → Represents new longer
-represents-more h new history longer es represented may setting at n =
-    let there : after_all h.setting (state_of h.setting history) es ≡ state_of h.setting longer = sym (n.state h.setting) in
-    record {
-      state = subst (λ (g : Setting). IsAt new (state_of g longer)) (sym setting) (subst (λ (s : State). IsAt new s) there at);
-      legal = subst (λ (g : Setting). IsLegal g longer) (sym setting) (n.legal h.setting represented.legal may);
-    }
-
--- the answer of the hub is the reply to the entry there
-pub replied_there : (g : Setting) (h : HubView) (history : List Entry) (e : Entry) (told : Replied) → g ≡ h.setting → told ≡ reply_in h.setting (state_of h.setting history) e → told ≡ reply g (history ++ []) e
-unfolding reply
-replied_there g h history e told setting told_is =
-    let nothing : history ++ [] ≡ history = append-nil history in
-    cc
-
--- the entry comes after those that the desk knew
-pub seen_there : (longer history : List Entry) (e : Entry) → longer ≡ history ++ e ∷ [] → longer ≡ (history ++ []) ++ e ∷ []
-seen_there longer history e longer_is =
-    let nothing : history ++ [] ≡ history = append-nil history in
-    cc
-
--- so does it with its number
-pub mine_there : (seen longer history : List Entry) (e : Entry) → seen ≡ history → longer ≡ history ++ e ∷ [] → enumerate_from 0 longer ≡ enumerate_from 0 seen ++ enumerate_from (length history) ([] ++ e ∷ [])
-mine_there seen longer history e seen_is longer_is =
-    let positions : enumerate_from 0 (history ++ e ∷ []) ≡ enumerate_from 0 history ++ enumerate_from (0 + length history) (e ∷ []) = enumerate_from-append 0 history (e ∷ []) in
-    let zero_first : 0 + length history ≡ length history = omega arith in
-    cc
-
--- the answer of the hub is the reply to the entry there, which only this desk can have made
-abbrev pub made : (g : Setting) (seen longer : List Entry) (h : HubView) (history : List Entry) (e : Entry) (told : Replied) → g ≡ h.setting → seen ≡ history → Represents h history → MayFollow h.setting (state_of h.setting history) e → IsNoted history longer (e ∷ []) → told ≡ reply_in h.setting (state_of h.setting history) e → Makes g seen longer (enumerate_from 0 seen) (enumerate_from 0 longer) e told
-made g seen longer h history e told setting seen_is represented may n told_is =
-    record {
-      before = history;
-      helps = [];
-      grew = ([], append-nil seen ∙ seen_is);
-      helped = refl;
-      seen = seen_there longer history e n.stored;
-      legal = subst (λ (x : Setting). IsLegal x longer) (sym setting) (n.legal h.setting represented.legal (may, tt));
-      mine = mine_there seen longer history e seen_is n.stored;
-      told_is = replied_there g h history e told setting told_is;
-    }
-
 -- a desk that makes no entry knows what it knew
 pub learnt : (g : Setting) (seen : List Entry) (mine : List (ℕ × Entry)) → Learns g seen seen mine mine
 learnt g seen mine = record { grew = ([], append-nil seen); legal = λ h. h; mine = refl }
 
--- a read of the last commit may follow, as the front is not above it
-pub may_read : (h : HubView) (history : List Entry) (at : ℕ) → Represents h history → (state_of h.setting history).front ≤ length (state_of h.setting history).journal → at ≡ h.commits → ((state_of h.setting history).front ≤ at) × (at ≤ length (state_of h.setting history).journal)
-may_read h history at represented within last =
-    let same : h.commits ≡ length (state_of h.setting history).journal = represented.state.book.commits in
-    (omega (arith, within, same, last), omega (arith, same, last))
+-- of a hub that represents a history
+module _ (h : HubView) (history : List Entry) (represented : Represents h history) where
+  abbrev s : State
+  s = state_of h.setting history
 
--- a match of all commits may follow where the front is behind
-pub may_match : (h : HubView) (history : List Entry) (front to : ℕ) → Represents h history → front ≡ h.front → to ≡ h.commits → front < to → ((state_of h.setting history).front < to) × (to ≤ length (state_of h.setting history).journal)
-may_match h history front to represented front_is to_is behind =
-    let same : h.commits ≡ length (state_of h.setting history).journal = represented.state.book.commits in
-    let there : h.front ≡ (state_of h.setting history).front = represented.state.time.front in
-    (omega (arith, front_is, behind, there), omega (arith, to_is, same))
+  -- the hub after entries that may follow represents the longer history
+  pub represents-more : (new : HubView) (longer es : List Entry) → IsLegalFrom h.setting s es → new.setting ≡ h.setting → IsAt new (after_all h.setting s es) → IsNoted history longer es → Represents new longer
+  represents-more new longer es may setting at n =
+      let there : after_all h.setting s es ≡ state_of h.setting longer = sym (n.state h.setting) in
+      record {
+        state = subst (λ (g : Setting). IsAt new (state_of g longer)) (sym setting) (subst (λ (t : State). IsAt new t) there at);
+        legal = subst (λ (g : Setting). IsLegal g longer) (sym setting) (n.legal h.setting represented.legal may);
+      }
 
--- where the front is behind, all commits are matched by a match
-match_behind : (g : Setting) (h : HubView) (history : List Entry) (moment front to : ℕ) → g ≡ h.setting → Represents h history → front ≡ h.front → to ≡ h.commits → front < to → Match moment to ≡ matching (state_of g (history ++ [])) moment
-match_behind g h history moment front to setting represented front_is to_is behind =
-    let s : State = state_of h.setting history in
-    let nothing : history ++ [] ≡ history = append-nil history in
-    let there : state_of g (history ++ []) ≡ s = cc in
-    let commits : h.commits ≡ length s.journal = represented.state.book.commits in
-    let up : to ≡ length s.journal = to_is ∙ commits in
-    let test : nat_lt s.front (length s.journal) ≡ true = let f = represented.state.time.front in lt-ltb s.front (length s.journal) (omega (arith, behind, up, front_is, f)) in
-    let here : matching s moment ≡ Match moment (length s.journal) = rw test refl in
-    ap (λ (n : ℕ). Match moment n) up ∙ sym here ∙ ap (λ (x : State). matching x moment) (sym there)
+  -- a read of the last commit may follow, as the front is not above it
+  pub may_read : (at : ℕ) → s.front ≤ length s.journal → at ≡ h.commits → (s.front ≤ at) × (at ≤ length s.journal)
+  may_read at within last = let same = represented.state.book.commits in (omega (arith, within, same, last), omega (arith, same, last))
 
--- where the front is the last commit, a tick is all
-tick_there : (g : Setting) (h : HubView) (history : List Entry) (moment front to : ℕ) → g ≡ h.setting → Represents h history → front ≡ h.front → to ≡ h.commits → to ≤ front → Tick moment ≡ matching (state_of g (history ++ [])) moment
-tick_there g h history moment front to setting represented front_is to_is ahead =
-    let s : State = state_of h.setting history in
-    let nothing : history ++ [] ≡ history = append-nil history in
-    let there : state_of g (history ++ []) ≡ s = cc in
-    let commits : h.commits ≡ length s.journal = represented.state.book.commits in
-    let test : nat_lt s.front (length s.journal) ≡ false = let f = represented.state.time.front in le-ltb s.front (length s.journal) (omega (arith, ahead, commits, to_is, front_is, f)) in
-    let here : matching s moment ≡ Tick moment = rw test refl in
-    sym here ∙ ap (λ (x : State). matching x moment) (sym there)
+  -- a match of all commits may follow where the front is behind
+  pub may_match : (front to : ℕ) → front ≡ h.front → to ≡ h.commits → front < to → (s.front < to) × (to ≤ length s.journal)
+  may_match front to front_is to_is behind =
+      let same = represented.state.book.commits in
+      let there = represented.state.time.front in
+      (omega (arith, front_is, behind, there), omega (arith, to_is, same))
 
--- the desk matched all commits by a match
-pub matched_all : (g : Setting) (seen longer : List Entry) (h : HubView) (history : List Entry) (moment front to : ℕ) (told : Matched) → g ≡ h.setting → seen ≡ history → Represents h history → front ≡ h.front → to ≡ h.commits → front < to → IsNoted history longer (Match moment to ∷ []) → matched told ≡ reply_in h.setting (state_of h.setting history) (Match moment to) → MatchesAll g seen longer (enumerate_from 0 seen) (enumerate_from 0 longer) moment told
-matched_all g seen longer h history moment front to told setting seen_is represented front_is to_is behind n told_is =
-    record {
-      entry = Match moment to;
-      replied = matched told;
-      made = made g seen longer h history (Match moment to) (matched told) setting seen_is represented (may_match h history front to represented front_is to_is behind) n told_is;
-      entry_is = match_behind g h history moment front to setting represented front_is to_is behind;
-      told_is = refl;
-    }
+  -- and of a desk that has seen all of it
+  module _ (g : Setting) (seen longer : List Entry) (setting : g ≡ h.setting) (seen_is : seen ≡ history) where
+    -- the answer of the hub is the reply to the entry there
+    pub replied_there : (e : Entry) (told : Replied) → told ≡ reply_in h.setting s e → told ≡ reply g (history ++ []) e
+    unfolding reply
+    replied_there e told told_is = let nothing : history ++ [] ≡ history = append-nil history in cc
 
--- the desk matched all commits by a tick
-pub ticked_all : (g : Setting) (seen longer : List Entry) (h : HubView) (history : List Entry) (moment front to : ℕ) (stats : Stats) → g ≡ h.setting → seen ≡ history → Represents h history → front ≡ h.front → to ≡ h.commits → to ≤ front → IsNoted history longer (Tick moment ∷ []) → counted stats ≡ reply_in h.setting (state_of h.setting history) (Tick moment) → MatchesAll g seen longer (enumerate_from 0 seen) (enumerate_from 0 longer) moment (record { front = stats.front; clock = stats.clock })
-ticked_all g seen longer h history moment front to stats setting seen_is represented front_is to_is ahead n told_is =
-    record {
-      entry = Tick moment;
-      replied = counted stats;
-      made = made g seen longer h history (Tick moment) (counted stats) setting seen_is represented tt n told_is;
-      entry_is = tick_there g h history moment front to setting represented front_is to_is ahead;
-      told_is = refl;
-    }
+    -- the entry comes after those that the desk knew
+    pub seen_there : (e : Entry) → longer ≡ history ++ e ∷ [] → longer ≡ (history ++ []) ++ e ∷ []
+    seen_there e longer_is = let nothing : history ++ [] ≡ history = append-nil history in cc
 
--- the desk fetched the page into the buffer
-pub fetched_page : (g : Setting) (seen longer : List Entry) (h : HubView) (history : List Entry) (moment : ℕ) (room : PageRoomView) → g ≡ h.setting → seen ≡ history → Represents h history → IsNoted history longer (Fetch moment ∷ []) → room.page ≡ Some (page_of h.setting (after h.setting (state_of h.setting history) (Fetch moment))) → Fetches g seen longer (enumerate_from 0 seen) (enumerate_from 0 longer) moment room
-fetched_page g seen longer h history moment room setting seen_is represented n held =
-    record {
-      page = page_of h.setting (after h.setting (state_of h.setting history) (Fetch moment));
-      held = held;
-      made = made g seen longer h history (Fetch moment) _ setting seen_is represented tt n refl;
-    }
+    -- so does it with its number
+    pub mine_there : (e : Entry) → longer ≡ history ++ e ∷ [] → enumerate_from 0 longer ≡ enumerate_from 0 seen ++ enumerate_from (length history) ([] ++ e ∷ [])
+    mine_there e longer_is =
+        let positions : enumerate_from 0 (history ++ e ∷ []) ≡ enumerate_from 0 history ++ enumerate_from (0 + length history) (e ∷ []) = enumerate_from-append 0 history (e ∷ []) in
+        let zero_first : 0 + length history ≡ length history = omega arith in
+        cc
+
+    -- the answer of the hub is the reply to the entry there, which only this desk can have made
+    abbrev pub made : (e : Entry) (told : Replied) → MayFollow h.setting s e → IsNoted history longer (e ∷ []) → told ≡ reply_in h.setting s e → Makes g seen longer (enumerate_from 0 seen) (enumerate_from 0 longer) e told
+    made e told may n told_is =
+        record {
+          before = history;
+          helps = [];
+          grew = ([], append-nil seen ∙ seen_is);
+          helped = refl;
+          seen = seen_there e n.stored;
+          legal = subst (λ (x : Setting). IsLegal x longer) (sym setting) (n.legal h.setting represented.legal (may, tt));
+          mine = mine_there e n.stored;
+          told_is = replied_there e told told_is;
+        }
+
+    -- the desk fetched the page into the buffer
+    pub fetched_page : (moment : ℕ) (room : PageRoomView) → IsNoted history longer (Fetch moment ∷ []) → room.page ≡ Some (page_of h.setting (after h.setting s (Fetch moment))) → Fetches g seen longer (enumerate_from 0 seen) (enumerate_from 0 longer) moment room
+    fetched_page moment room n held = record { page = page_of h.setting (after h.setting s (Fetch moment)); held = held; made = made (Fetch moment) _ tt n refl }
+
+    -- which matches all commits
+    module _ (moment front to : ℕ) (front_is : front ≡ h.front) (to_is : to ≡ h.commits) where
+      seen_state : s ≡ state_of g (history ++ [])
+      seen_state = let nothing : history ++ [] ≡ history = append-nil history in cc
+
+      -- by a match where the front is behind
+      match_behind : front < to → Match moment to ≡ matching (state_of g (history ++ [])) moment
+      match_behind behind =
+          let up : to ≡ length s.journal = to_is ∙ represented.state.book.commits in
+          let test : nat_lt s.front (length s.journal) ≡ true = let f = represented.state.time.front in lt-ltb s.front (length s.journal) (omega (arith, behind, up, front_is, f)) in
+          let here : matching s moment ≡ Match moment (length s.journal) = rw test refl in
+          ap (λ (n : ℕ). Match moment n) up ∙ sym here ∙ ap (λ (x : State). matching x moment) seen_state
+
+      pub matched_all : (told : Matched) → front < to → IsNoted history longer (Match moment to ∷ []) → matched told ≡ reply_in h.setting s (Match moment to) → MatchesAll g seen longer (enumerate_from 0 seen) (enumerate_from 0 longer) moment told
+      matched_all told behind n told_is =
+          record {
+            entry = Match moment to;
+            replied = matched told;
+            made = made (Match moment to) (matched told) (may_match front to front_is to_is behind) n told_is;
+            entry_is = match_behind behind;
+            told_is = refl;
+          }
+
+      -- and by a tick where it is the last commit
+      tick_there : to ≤ front → Tick moment ≡ matching (state_of g (history ++ [])) moment
+      tick_there ahead =
+          let up : to ≡ length s.journal = to_is ∙ represented.state.book.commits in
+          let test : nat_lt s.front (length s.journal) ≡ false = let f = represented.state.time.front in le-ltb s.front (length s.journal) (omega (arith, ahead, up, front_is, f)) in
+          let here : matching s moment ≡ Tick moment = rw test refl in
+          sym here ∙ ap (λ (x : State). matching x moment) seen_state
+
+      pub ticked_all : (stats : Stats) → to ≤ front → IsNoted history longer (Tick moment ∷ []) → counted stats ≡ reply_in h.setting s (Tick moment) → MatchesAll g seen longer (enumerate_from 0 seen) (enumerate_from 0 longer) moment (record { front = stats.front; clock = stats.clock })
+      ticked_all stats ahead n told_is =
+          record {
+            entry = Tick moment;
+            replied = counted stats;
+            made = made (Tick moment) (counted stats) tt n told_is;
+            entry_is = tick_there ahead;
+            told_is = refl;
+          }
 
 -- a new hub represents the empty history
 pub new_represents : (h : HubView) (history : List Entry) → IsAt h start → ((g : Setting) → state_of g [] ≡ start) → ((g : Setting) → IsLegal g []) → history ≡ [] → Represents h history

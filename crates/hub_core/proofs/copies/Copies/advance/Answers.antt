@@ -13,7 +13,7 @@ expired c = subst (λ (n : ℕ). Expires n c.self.inside.outdated.held c.advance
 
 pub invariant_of-self : goal.invariant_of-self
 invariant_of-self c =
-    sound-later _ c.self.inside.issued c.advance.new.self c.self.inside.outdated c.advance-2.new.self c.self.invariant
+    sound-later _ c.self.inside.issued c.self.inside.outdated c.self.invariant c.advance.new.self c.advance-2.new.self
     (ap (λ (f : Filter). f.log2_bits) c.advance-2.ensures.rest) (ap (λ (f : Filter). f.hashes) c.advance-2.ensures.rest) c.advance.ensures.held (expired c)
 
 pub returns-clause-outdated : goal.returns-clause-outdated

@@ -10,14 +10,14 @@ use Rattle.hub_core.proofs.SoundLemmas.{invalidation-few, sound-invalidated, sti
 use Rattle.hub_core.proofs.copies.Copies.invalidate.Goals as goal
 
 pub add-requires-clause-reserved : goal.add-requires-clause-reserved
-add-requires-clause-reserved c = subst (λ (h : CopiesView). CanInvalidate h c.args.key.now) (sym c.self.view_is) c.requires (copy-active _ c.self.inside.issued c.self.inside.outdated c.args.key.now c.args.below c.in-Some.until c.self.invariant c.in-Some.ensures)
+add-requires-clause-reserved c = subst (λ (h : CopiesView). CanInvalidate h c.args.key.now) (sym c.self.view_is) c.requires (copy-active _ c.self.inside.issued c.self.inside.outdated c.self.invariant c.args.key.now c.args.below c.in-Some.until c.in-Some.ensures)
 
 pub add-requires-clause-few : goal.add-requires-clause-few
-add-requires-clause-few c = invalidation-few _ c.self.inside.issued c.self.inside.outdated c.args.key.now c.self.invariant (copy-active _ c.self.inside.issued c.self.inside.outdated c.args.key.now c.args.below c.in-Some.until c.self.invariant c.in-Some.ensures)
+add-requires-clause-few c = invalidation-few _ c.self.inside.issued c.self.inside.outdated c.self.invariant c.args.key.now (copy-active _ c.self.inside.issued c.self.inside.outdated c.self.invariant c.args.key.now c.args.below c.in-Some.until c.in-Some.ensures)
 
 pub invariant_of-self : goal.invariant_of-self
 invariant_of-self c =
-    sound-invalidated _ c.self.inside.issued c.self.inside.outdated c.add.new.self c.args.key.now c.in-Some.until c.self.invariant
+    sound-invalidated _ c.self.inside.issued c.self.inside.outdated c.self.invariant c.add.new.self c.args.key.now c.in-Some.until
     (c.self.invariant.late c.args.key.now _ c.in-Some.until (sym c.in-Some.ensures))
     (below-last c.self.inside.issued.held c.args.key.now c.args.below c.in-Some.until (sym c.in-Some.ensures))
     (ap (λ (f : Filter). f.log2_bits) c.add.ensures.rest) (ap (λ (f : Filter). f.hashes) c.add.ensures.rest) c.add.ensures.held

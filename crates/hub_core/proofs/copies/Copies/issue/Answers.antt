@@ -13,7 +13,7 @@ invariant_of-self-2 c =
     let room = may-issue (is_active c.self.inside.issued.held c.args.key.now) (active_keys c.self.inside.issued.held) c.self.inside.config.active
     (ap (λ (h : CopiesView). may_issue h c.args.key.now) c.self.view_is ∙ c.requires.allowed some) in
     let late : c.self.inside.issued.clock < c.seconds.result + c.args.ttl = omega (arith, some, c.seconds.ensures.same, c.clock.ensures) in
-    sound-more _ c.self.inside.issued c.issue.new.self c.self.inside.outdated (c.args.key.now, c.args.commit, c.seconds.result + c.args.ttl) c.self.invariant late c.issue.ensures.clock c.issue.ensures.held room
+    sound-more _ c.self.inside.issued c.self.inside.outdated c.self.invariant c.issue.new.self (c.args.key.now, c.args.commit, c.seconds.result + c.args.ttl) late c.issue.ensures.clock c.issue.ensures.held room
 
 pub returns-clause-ready : goal.returns-clause-ready
 returns-clause-ready c =

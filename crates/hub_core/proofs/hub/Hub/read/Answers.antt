@@ -14,8 +14,8 @@ use Rattle.hub_core.proofs.hub.Hub.read.Goals as goal
 -- the hub when its clock has moved
 moved : (c : goal.After-clock) (s : State) → IsAt c.args.self.now s → IsAt (hub_of c.self.inside.book c.self.inside.front c.pass.new.copies) (at_moment s c.args.moment)
 moved c s at =
-    hub-passed c.self.inside.book c.self.inside.front c.reserve.new.self c.pass.new.copies s c.args.moment
-    (at-ready c.self.inside.book c.self.inside.front c.self.inside.copies c.reserve.new.self s c.in_ok-reserve.ensures.rest (subst (λ (h : HubView). IsAt h s) (sym c.self.view_is) at)) c.pass.ensures
+    hub-passed c.self.inside.book c.self.inside.front c.reserve.new.self s
+    (at-ready c.self.inside.book c.self.inside.front c.self.inside.copies s (subst (λ (h : HubView). IsAt h s) (sym c.self.view_is) at) c.reserve.new.self c.in_ok-reserve.ensures.rest) c.pass.new.copies c.args.moment c.pass.ensures
 
 setting : (c : goal.After-clock) → c.pass.new.copies.setting ≡ c.args.self.now.setting
 setting c = setting-passed c.reserve.new.self c.pass.new.copies c.args.moment c.pass.ensures ∙ ap (λ (h : CopiesView). h.setting) c.in_ok-reserve.ensures.rest ∙ ap (λ (h : HubView). h.setting) c.self.view_is
@@ -31,6 +31,6 @@ returns-clause-told c = λ s at.
 
 pub returns-clause-after : goal.returns-clause-after
 returns-clause-after c = λ s at.
-    hub-read c.self.inside.book c.self.inside.front c.pass.new.copies c.issue.new.self (at_moment s c.args.moment) c.args.key.now c.args.self.now.setting c.count-commit.result c.lifetime-ttl.result (moved c s at)
+    hub-read c.self.inside.book c.self.inside.front c.pass.new.copies (at_moment s c.args.moment) (moved c s at) c.issue.new.self c.args.key.now c.args.self.now.setting c.count-commit.result c.lifetime-ttl.result
     (let within = c.self.invariant.within in let commit = c.count-commit.ensures.count in omega (arith, within, commit)) (setting c) c.lifetime-ttl.ensures c.issue.ensures.copies
     (ap (λ (h : CopiesView). h.clock) c.issue.ensures.rest) (ap (λ (h : CopiesView). h.outdated) c.issue.ensures.rest)

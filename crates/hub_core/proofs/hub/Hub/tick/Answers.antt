@@ -6,4 +6,4 @@ use Rattle.hub_core.proofs.hub.Hub.tick.Goals as goal
 
 pub returns-clause-after : goal.returns-clause-after
 returns-clause-after c = λ s at.
-    hub-passed c.self.inside.book c.self.inside.front c.self.inside.copies c.pass.new.copies s c.args.moment (subst (λ (h : HubView). IsAt h s) (sym c.self.view_is) at) c.pass.ensures
+    hub-passed c.self.inside.book c.self.inside.front c.self.inside.copies s (subst (λ (h : HubView). IsAt h s) (sym c.self.view_is) at) c.pass.new.copies c.args.moment c.pass.ensures

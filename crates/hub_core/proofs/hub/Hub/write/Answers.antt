@@ -1,5 +1,5 @@
 -- the clock moves, and an accepted change is the next commit
-use Rattle.std.proofs.Common.{◌≡◌, Err, ap, sym, ◌∙◌, subst}
+use Rattle.std.proofs.Common.{◌≡◌, true, Err, ap, sym, ◌∙◌, subst}
 use Rattle.commit_book.specs.Contents.{Contents}
 use Rattle.hub_model.specs.State.{State, at_moment}
 use Rattle.hub_model.specs.Step.{wrote}
@@ -12,10 +12,10 @@ pub returns-then-not-is_met-clause-after : goal.returns-then-not-is_met-clause-a
 returns-then-not-is_met-clause-after c = λ s at.
     let book = c.self.inside.book in
     let moved =
-    hub-passed book c.self.inside.front c.self.inside.copies c.pass.new.copies s c.args.moment
-    (subst (λ (h : HubView). IsAt h s) (sym c.self.view_is) at) c.pass.ensures in
+    hub-passed book c.self.inside.front c.self.inside.copies s (subst (λ (h : HubView). IsAt h s) (sym c.self.view_is) at)
+    c.pass.new.copies c.args.moment c.pass.ensures in
     subst (λ (t : State). IsAt (hub_of book c.self.inside.front c.pass.new.copies) t)
-    (leaves-unmet c.args.self.now.setting book.journal (at_moment s c.args.moment) c.args.change.now c.args.condition.now c.found-before.result c.count.result moved.book.rows c.found-before.ensures c.count.ensures.count
+    (leaves-unmet c.args.self.now.setting book (at_moment s c.args.moment) c.args.change.now c.args.condition.now c.found-before.result c.count.result moved.book.rows c.found-before.ensures c.count.ensures.count
     (sym c.is_met.ensures ∙ c.if-not-is_met.true))
     moved
 
@@ -24,14 +24,14 @@ returns-in-Ok-clause-after c = λ s at.
     let book = c.self.inside.book in
     let front = c.self.inside.front in
     let moved =
-    hub-passed book front c.self.inside.copies c.pass-in-Ok.new.copies s c.args.moment
-    (subst (λ (h : HubView). IsAt h s) (sym c.self.view_is) at) c.pass-in-Ok.ensures in
+    hub-passed book front c.self.inside.copies s (subst (λ (h : HubView). IsAt h s) (sym c.self.view_is) at)
+    c.pass-in-Ok.new.copies c.args.moment c.pass-in-Ok.ensures in
     let limit : book.capacity ≡ c.args.self.now.setting.capacity = c.self.invariant.capacity ∙ ap (λ (h : HubView). h.setting.capacity) c.self.view_is in
     let answer = added-ok book c.args.change.now c.in-Ok.commit c.in-Ok.ensures.told in
     subst (λ (t : State). IsAt (hub_of c.add.new.self front c.pass-in-Ok.new.copies) t)
-    (leaves-done c.args.self.now.setting book.journal (at_moment s c.args.moment) c.args.change.now c.args.condition.now c.found-before.result c.count.result book.capacity moved.book.rows c.found-before.ensures c.count.ensures.count
+    (leaves-done c.args.self.now.setting book (at_moment s c.args.moment) c.args.change.now c.args.condition.now c.found-before.result c.count.result moved.book.rows c.found-before.ensures c.count.ensures.count
     (sym c.is_met.ensures ∙ c.if-not-is_met.false) limit answer.0)
-    (hub-written book c.add.new.self front c.pass-in-Ok.new.copies (at_moment s c.args.moment) c.args.change.now moved c.self.invariant.within
+    (hub-written book front c.pass-in-Ok.new.copies (at_moment s c.args.moment) moved c.add.new.self c.args.change.now c.self.invariant.within
     (ap (λ (b : Contents). b.journal) c.in-Ok.ensures.after))
 
 pub returns-in-Err-Full-clause-after : goal.returns-in-Err-Full-clause-after
@@ -39,14 +39,14 @@ returns-in-Err-Full-clause-after c = λ s at.
     let book = c.self.inside.book in
     let front = c.self.inside.front in
     let moved =
-    hub-passed book front c.self.inside.copies c.pass-in-Err-Full.new.copies s c.args.moment
-    (subst (λ (h : HubView). IsAt h s) (sym c.self.view_is) at) c.pass-in-Err-Full.ensures in
+    hub-passed book front c.self.inside.copies s (subst (λ (h : HubView). IsAt h s) (sym c.self.view_is) at)
+    c.pass-in-Err-Full.new.copies c.args.moment c.pass-in-Err-Full.ensures in
     let limit : book.capacity ≡ c.args.self.now.setting.capacity = c.self.invariant.capacity ∙ ap (λ (h : HubView). h.setting.capacity) c.self.view_is in
     let answer = added-full book c.args.change.now c.in-Err-Full.bytes (Err c.in-Err-Full.field-0) (ap Err c.in-Err-Full.field-0-is) c.in-Err-Full.ensures.told in
     let kept = ap (λ (b : Contents). hub_of b front c.pass-in-Err-Full.new.copies) c.in-Err-Full.ensures.err in
     subst (λ (h : HubView). IsAt h (wrote c.args.self.now.setting c.args.change.now c.args.condition.now (at_moment s c.args.moment))) (sym kept)
     (subst (λ (t : State). IsAt (hub_of book front c.pass-in-Err-Full.new.copies) t)
-    (leaves-full c.args.self.now.setting book.journal (at_moment s c.args.moment) c.args.change.now c.args.condition.now c.found-before.result c.count.result book.capacity moved.book.rows c.found-before.ensures c.count.ensures.count
+    (leaves-full c.args.self.now.setting book (at_moment s c.args.moment) c.args.change.now c.args.condition.now c.found-before.result c.count.result moved.book.rows c.found-before.ensures c.count.ensures.count
     (sym c.is_met.ensures ∙ c.if-not-is_met.false) limit answer)
     moved)
 
@@ -56,6 +56,6 @@ returns-in-Err-Memory-clause-accepted c = λ s at.
     let book = c.self.inside.book in
     let rows : book.journal ≡ s.journal = ap (λ (h : HubView). h.rows) c.self.view_is ∙ at.book.rows in
     let limit : book.capacity ≡ c.args.self.now.setting.capacity = c.self.invariant.capacity ∙ ap (λ (h : HubView). h.setting.capacity) c.self.view_is in
-    accepted-now c.args.self.now.setting book.journal s c.args.change.now c.args.condition.now c.found-before.result c.count.result book.capacity rows c.found-before.ensures c.count.ensures.count
-    (sym c.is_met.ensures ∙ c.if-not-is_met.false) limit
+    accepted-now c.args.self.now.setting book s c.args.change.now c.args.condition.now c.found-before.result c.count.result rows c.found-before.ensures c.count.ensures.count
+    (sym c.is_met.ensures ∙ c.if-not-is_met.false) limit true
     (added-memory book c.args.change.now (Err c.in-Err-Memory.field-0) (ap Err c.in-Err-Memory.field-0-is) c.in-Err-Memory.ensures.full)

@@ -6,19 +6,19 @@ use Rattle.hub_desk.proofs.owned.OwnedDesk.match_all.Goals as goal
 
 pub invariant_of-self-then-front-to : goal.invariant_of-self-then-front-to
 invariant_of-self-then-front-to c =
-    represents-more _ _ _ _ _ c.self.invariant (may_match _ _ _ _ c.self.invariant c.front.ensures.same c.commits-to.ensures c.if-front-to.true, tt) c.match_to.ensures.setting
+    represents-more _ _ c.self.invariant _ _ _ (may_match _ _ c.self.invariant _ _ c.front.ensures.same c.commits-to.ensures c.if-front-to.true, tt) c.match_to.ensures.setting
     (c.in_ok-matched.ensures.after _ c.self.invariant.state) c.note.ensures
 
 pub invariant_of-self-else-front-to : goal.invariant_of-self-else-front-to
 invariant_of-self-else-front-to c =
-    represents-more _ _ _ _ _ c.self.invariant (tt, tt) c.tick-stats.ensures.setting (c.tick-stats.ensures.after _ c.self.invariant.state) c.note-else-front-to.ensures
+    represents-more _ _ c.self.invariant _ _ _ (tt, tt) c.tick-stats.ensures.setting (c.tick-stats.ensures.after _ c.self.invariant.state) c.note-else-front-to.ensures
 
 pub returns-in_ok-matched-clause-made : goal.returns-in_ok-matched-clause-made
 returns-in_ok-matched-clause-made c =
-    matched_all _ _ _ c.self.inside.hub c.self.inside.entries.items _ _ _ _ (sym (ap (λ (k : OwnedView). k.setting) c.self.view_is)) (sym (ap (λ (k : OwnedView). k.entries) c.self.view_is)) c.self.invariant c.front.ensures.same c.commits-to.ensures c.if-front-to.true c.note.ensures
+    matched_all c.self.inside.hub c.self.inside.entries.items c.self.invariant _ _ _ (sym (ap (λ (k : OwnedView). k.setting) c.self.view_is)) (sym (ap (λ (k : OwnedView). k.entries) c.self.view_is)) _ _ _ c.front.ensures.same c.commits-to.ensures _ c.if-front-to.true c.note.ensures
     (c.in_ok-matched.ensures.told _ c.self.invariant.state)
 
 pub returns-else-front-to-clause-made : goal.returns-else-front-to-clause-made
 returns-else-front-to-clause-made c =
-    ticked_all _ _ _ c.self.inside.hub c.self.inside.entries.items _ _ _ _ (sym (ap (λ (k : OwnedView). k.setting) c.self.view_is)) (sym (ap (λ (k : OwnedView). k.entries) c.self.view_is)) c.self.invariant c.front.ensures.same c.commits-to.ensures c.if-front-to.false c.note-else-front-to.ensures
+    ticked_all c.self.inside.hub c.self.inside.entries.items c.self.invariant _ _ _ (sym (ap (λ (k : OwnedView). k.setting) c.self.view_is)) (sym (ap (λ (k : OwnedView). k.entries) c.self.view_is)) _ _ _ c.front.ensures.same c.commits-to.ensures _ c.if-front-to.false c.note-else-front-to.ensures
     (c.tick-stats.ensures.told _ c.self.invariant.state)

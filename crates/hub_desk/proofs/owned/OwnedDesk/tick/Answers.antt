@@ -6,9 +6,9 @@ use Rattle.hub_desk.proofs.owned.OwnedDesk.tick.Goals as goal
 
 pub invariant_of-self : goal.invariant_of-self
 invariant_of-self c =
-    represents-more _ _ _ _ _ c.self.invariant (tt, tt) c.tick-stats.ensures.setting (c.tick-stats.ensures.after _ c.self.invariant.state) c.note.ensures
+    represents-more _ _ c.self.invariant _ _ _ (tt, tt) c.tick-stats.ensures.setting (c.tick-stats.ensures.after _ c.self.invariant.state) c.note.ensures
 
 pub returns-clause-made : goal.returns-clause-made
 returns-clause-made c =
-    made _ _ _ c.self.inside.hub c.self.inside.entries.items _ _ (sym (ap (λ (k : OwnedView). k.setting) c.self.view_is)) (sym (ap (λ (k : OwnedView). k.entries) c.self.view_is)) c.self.invariant tt c.note.ensures
+    made c.self.inside.hub c.self.inside.entries.items c.self.invariant _ _ _ (sym (ap (λ (k : OwnedView). k.setting) c.self.view_is)) (sym (ap (λ (k : OwnedView). k.entries) c.self.view_is)) _ _ tt c.note.ensures
     (c.tick-stats.ensures.told _ c.self.invariant.state)
