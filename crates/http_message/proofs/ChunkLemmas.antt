@@ -51,34 +51,90 @@ line_of coded text within here = record {
   limit = omega (arith, here.limit);
 }
 
--- the line was found
-pub line_found : (coded most : ℕ) (held : List ℕ) (size : ℕ) → coded ≤ coding_limit → most ≡ capacity_behind coded
-    → EndsIn Line most held size → IsLineHere coded (take size held)
-line_found coded most held size within is ends =
-    line_of coded (take size held) within
-    (subst (λ (n : ℕ). IsHere Line n (take size held)) is (ends_here Line most held size ends))
+-- What is left of the limit of a coding bounds the next text of it.
+module _ (coded most : ℕ) (is : most ≡ capacity_behind coded) where
+  -- the line was found
+  pub line_found : (held : List ℕ) (size : ℕ) → coded ≤ coding_limit → EndsIn Line most held size
+      → IsLineHere coded (take size held)
+  line_found held size within ends =
+      line_of coded (take size held) within
+      (subst (λ (n : ℕ). IsHere Line n (take size held)) is (ends_here Line most held size ends))
 
--- a text that does not end within its limit is refused
-pub line_overlong : (coded got most : ℕ) (held : List ℕ) → most ≡ capacity_behind coded → Overruns Line most held
-    → ComesOut coded got (coded + most) (Broken (overlong_at coded)) (take most held)
-line_overlong coded got most held is over =
-    let text = take most held in
-    let size : length text ≡ most = length-take-le most held over.full in
-    let again : Overruns Line (capacity_behind coded) text =
-    subst (λ (n : ℕ). Overruns Line n text) is
-    (subst (λ (xs : List ℕ). Overruns Line most xs) (append-nil text) (overruns_here Line most held [] over)) in
-    record {
-      decodes = long_line coded got text
-          (line_is coded text ∙ text_overlong Line (capacity_behind coded) text again) (size ∙ is);
-      total_is = omega (arith, size);
+  -- a text that does not end within its limit is refused
+  pub line_overlong : (got : ℕ) (held : List ℕ) → Overruns Line most held
+      → ComesOut coded got (coded + most) (Broken (overlong_at coded)) (take most held)
+  line_overlong got held over =
+      let text = take most held in
+      let size : length text ≡ most = length-take-le most held over.full in
+      let again : Overruns Line (capacity_behind coded) text =
+      subst (λ (n : ℕ). Overruns Line n text) is
+      (subst (λ (xs : List ℕ). Overruns Line most xs) (append-nil text) (overruns_here Line most held [] over)) in
+      record {
+        decodes = long_line coded got text
+            (line_is coded text ∙ text_overlong Line (capacity_behind coded) text again) (size ∙ is);
+        total_is = omega (arith, size);
+      }
+
+  -- and one that does not end is cut short
+  pub line_short : (got : ℕ) (bytes : List ℕ) → IsOpenIn Line most bytes → Decodes coded got bytes Unfinished
+  line_short got bytes cut =
+      short_line coded got bytes
+      (line_is coded bytes ∙ text_short Line (capacity_behind coded) bytes (subst (λ (n : ℕ). IsOpenIn Line n bytes) is cut))
+
+  -- the trailers were found
+  module _ (size : ℕ) (held : List ℕ) (ends : EndsIn Trailers most held size) (within : size ≤ length held) where
+    trailers_found : trailers_at coded (take size held) ≡ Whole (take size held)
+    trailers_found =
+        let text = take size held in
+        let here : IsHere Trailers (capacity_behind coded) text =
+        subst (λ (n : ℕ). IsHere Trailers n text) is (ends_here Trailers most held size ends) in
+        ap (trailers_at coded) (sym (append-nil text)) ∙ trailers_is coded (text ++ []) ∙ here.all []
+
+    -- they are trailers, or none
+    pub trailers_whole : AreTrailers (take size held) → ConcludesSo coded (coded + size) (Decoded []) (take size held)
+    trailers_whole are = record {
+      total_is = omega (arith, length-take-le size held within);
+      ends = λ start got line here zero behind.
+          last start got line (take size held) (here.all (take size held)) zero
+          (subst (λ (n : ℕ). trailers_at n (take size held) ≡ Whole (take size held)) behind trailers_found) are;
     }
 
--- and one that does not end is cut short
-pub line_short : (coded got most : ℕ) → most ≡ capacity_behind coded → (bytes : List ℕ) → IsOpenIn Line most bytes
-    → Decodes coded got bytes Unfinished
-line_short coded got most is bytes cut =
-    short_line coded got bytes
-    (line_is coded bytes ∙ text_short Line (capacity_behind coded) bytes (subst (λ (n : ℕ). IsOpenIn Line n bytes) is cut))
+    pub trailers_bad : AreNoTrailers (take size held)
+        → ConcludesSo coded (coded + size) (Broken BadLength) (take size held)
+    trailers_bad none = record {
+      total_is = omega (arith, length-take-le size held within);
+      ends = λ start got line here zero behind.
+          bad_trailers start got line (take size held) (here.all (take size held)) zero
+          (subst (λ (n : ℕ). trailers_at n (take size held) ≡ Whole (take size held)) behind trailers_found) none;
+    }
+
+  -- they do not end within their limit
+  pub trailers_overlong : (held : List ℕ) → Overruns Trailers most held
+      → ConcludesSo coded (coded + most) (Broken (overlong_at coded)) (take most held)
+  trailers_overlong held over =
+      let text = take most held in
+      let size : length text ≡ capacity_behind coded = length-take-le most held over.full ∙ is in
+      let again : Overruns Trailers (capacity_behind coded) text =
+      subst (λ (n : ℕ). Overruns Trailers n text) is
+      (subst (λ (xs : List ℕ). Overruns Trailers most xs) (append-nil text) (overruns_here Trailers most held [] over)) in
+      let at : trailers_at coded text ≡ Overlong =
+      trailers_is coded text ∙ text_overlong Trailers (capacity_behind coded) text again in
+      record {
+        total_is = omega (arith, length-take-le most held over.full);
+        ends = λ start got line here zero behind.
+            subst (λ (n : ℕ). Decodes start got (line ++ text) (Broken (overlong_at n))) (sym behind)
+            (long_trailers start got line text (here.all text) zero
+            (subst (λ (n : ℕ). trailers_at n text ≡ Overlong) behind at)
+            (subst (λ (n : ℕ). length text ≡ capacity_behind n) behind size));
+      }
+
+  -- they are cut short
+  pub trailers_short : (bytes : List ℕ) → IsOpenIn Trailers most bytes → EndsCoding coded bytes Unfinished
+  trailers_short bytes cut start got line here zero behind =
+      let at : trailers_at coded bytes ≡ Short =
+      trailers_is coded bytes
+      ∙ text_short Trailers (capacity_behind coded) bytes (subst (λ (n : ℕ). IsOpenIn Trailers n bytes) is cut) in
+      short_trailers start got line bytes (here.all bytes) zero (subst (λ (n : ℕ). trailers_at n bytes ≡ Short) behind at)
 
 -- the text is the line, and decides it
 line_alone : (coded : ℕ) (text : List ℕ) → IsLineHere coded text → line_at coded text ≡ Whole text
@@ -188,71 +244,6 @@ content_behind content used whole bytes same is =
 pub content_short : (content used bytes : List ℕ) → used ≡ content → length bytes < 2
     → length (used ++ bytes) < length content + 2
 content_short content used bytes same few = omega (arith, few, ap length same, length-append used bytes)
-
--- the trailers are found
-pub record IsTrailersHere (coded : ℕ) (text : List ℕ) : Type 0 where
-  pub is : trailers_at coded text ≡ Whole text
-
-pub trailers_found : (coded most : ℕ) (held : List ℕ) (size : ℕ) → most ≡ capacity_behind coded
-    → EndsIn Trailers most held size → IsTrailersHere coded (take size held)
-trailers_found coded most held size is ends =
-    let text = take size held in
-    let here : IsHere Trailers (capacity_behind coded) text =
-    subst (λ (n : ℕ). IsHere Trailers n text) is (ends_here Trailers most held size ends) in
-    record { is = ap (trailers_at coded) (sym (append-nil text)) ∙ trailers_is coded (text ++ []) ∙ here.all [] }
-
--- they are trailers, or none
-pub trailers_whole : (coded most size : ℕ) (held : List ℕ) → most ≡ capacity_behind coded → EndsIn Trailers most held size
-    → size ≤ length held → AreTrailers (take size held) → ConcludesSo coded (coded + size) (Decoded []) (take size held)
-trailers_whole coded most size held is ends within are =
-    let text = take size held in
-    record {
-      total_is = omega (arith, length-take-le size held within);
-      ends = λ start got line here zero behind.
-          last start got line text (here.all text) zero
-          (subst (λ (n : ℕ). trailers_at n text ≡ Whole text) behind (trailers_found coded most held size is ends).is) are;
-    }
-
-pub trailers_bad : (coded most size : ℕ) (held : List ℕ) → most ≡ capacity_behind coded → EndsIn Trailers most held size
-    → size ≤ length held → AreNoTrailers (take size held)
-    → ConcludesSo coded (coded + size) (Broken BadLength) (take size held)
-trailers_bad coded most size held is ends within none =
-    let text = take size held in
-    record {
-      total_is = omega (arith, length-take-le size held within);
-      ends = λ start got line here zero behind.
-          bad_trailers start got line text (here.all text) zero
-          (subst (λ (n : ℕ). trailers_at n text ≡ Whole text) behind (trailers_found coded most held size is ends).is) none;
-    }
-
--- they do not end within their limit
-pub trailers_overlong : (coded most : ℕ) (held : List ℕ) → most ≡ capacity_behind coded → Overruns Trailers most held
-    → ConcludesSo coded (coded + most) (Broken (overlong_at coded)) (take most held)
-trailers_overlong coded most held is over =
-    let text = take most held in
-    let size : length text ≡ capacity_behind coded = length-take-le most held over.full ∙ is in
-    let again : Overruns Trailers (capacity_behind coded) text =
-    subst (λ (n : ℕ). Overruns Trailers n text) is
-    (subst (λ (xs : List ℕ). Overruns Trailers most xs) (append-nil text) (overruns_here Trailers most held [] over)) in
-    let at : trailers_at coded text ≡ Overlong =
-    trailers_is coded text ∙ text_overlong Trailers (capacity_behind coded) text again in
-    record {
-      total_is = omega (arith, length-take-le most held over.full);
-      ends = λ start got line here zero behind.
-          subst (λ (n : ℕ). Decodes start got (line ++ text) (Broken (overlong_at n))) (sym behind)
-          (long_trailers start got line text (here.all text) zero
-          (subst (λ (n : ℕ). trailers_at n text ≡ Overlong) behind at)
-          (subst (λ (n : ℕ). length text ≡ capacity_behind n) behind size));
-    }
-
--- they are cut short
-pub trailers_short : (coded most : ℕ) → most ≡ capacity_behind coded → (bytes : List ℕ) → IsOpenIn Trailers most bytes
-    → EndsCoding coded bytes Unfinished
-trailers_short coded most is bytes cut start got line here zero behind =
-    let at : trailers_at coded bytes ≡ Short =
-    trailers_is coded bytes
-    ∙ text_short Trailers (capacity_behind coded) bytes (subst (λ (n : ℕ). IsOpenIn Trailers n bytes) is cut) in
-    short_trailers start got line bytes (here.all bytes) zero (subst (λ (n : ℕ). trailers_at n bytes ≡ Short) behind at)
 
 -- behind the last line
 module _ (at : Progress) (line : ℕ) (held : List ℕ) (a : Announces at.coded line 0 held) where

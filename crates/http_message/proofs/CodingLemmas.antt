@@ -185,159 +185,141 @@ too_short after rest second others content next size short empty is wide two sam
 pub by_content : (after content next rest : List ℕ) → after ≡ content ++ next → after ++ rest ≡ content ++ (next ++ rest)
 by_content after content next rest is = ap (λ xs. xs ++ rest) is ∙ append_assoc content next rest
 
--- two views of the bytes behind a chunk's line
-pub filled_same : (n coded got size : ℕ) (after rest second others : List ℕ) (outcome other : Outcome) → OneBelow n
-    → length after < n → IsFilled coded got size after rest outcome → IsFilled coded got size second others other
-    → after ++ rest ≡ second ++ others → (after ≡ second) × (outcome ≡ other)
-filled_same n coded got size after rest second others outcome other below fewer (cut s r o) (cut t q p) same =
-    (all_same after rest second others r q same, o ∙ sym p)
-filled_same n coded got size after rest second others outcome other below fewer (cut s r o) (filled content next inner wide is p w d) same =
-    absurd (too_short after rest second others content (crlf_bytes ++ next) size s r is wide (omega arith) same)
-filled_same n coded got size after rest second others outcome other below fewer (cut s r o) (misled content bytes wide two apart is p) same =
-    absurd (too_short after rest second others content bytes size s r is wide (omega (arith, two)) same)
-filled_same n coded got size after rest second others outcome other below fewer (filled content next inner wide is o w d) (cut t q p) same =
-    absurd (too_short second others after rest content (crlf_bytes ++ next) size t q is wide (omega arith) (sym same))
-filled_same n coded got size after rest second others outcome other below fewer (filled content next inner wide is o w d) (filled content' next' inner' wide' is' p w' d') same =
-    let whole : content ++ ((crlf_bytes ++ next) ++ rest) ≡ content' ++ ((crlf_bytes ++ next') ++ others) =
-    sym (by_content after content (crlf_bytes ++ next) rest is) ∙ same ∙ by_content second content' (crlf_bytes ++ next') others is' in
-    let parts = split_same content ((crlf_bytes ++ next) ++ rest) content' ((crlf_bytes ++ next') ++ others) (wide ∙ sym wide') whole in
-    let content_same : content ≡ content' = parts.0 in
-    let behind_end = split_same crlf_bytes (next ++ rest) crlf_bytes (next' ++ others) refl parts.1 in
-    let smaller : length next < n =
-    omega (arith, fewer, ap length is, length-append content (crlf_bytes ++ next)) in
-    let inside = below (coded + size + 2) (got + size) next rest next' others inner inner' smaller d w d' w' behind_end.1 in
-    let next_same : next ≡ next' = inside.0 in
-    let inner_same : inner ≡ inner' = inside.1 in
-    (cc, cc)
-filled_same n coded got size after rest second others outcome other below fewer (filled content next inner wide is o w d) (misled content' bytes wide' two apart is' p) same =
-    let whole : content ++ ((crlf_bytes ++ next) ++ rest) ≡ content' ++ (bytes ++ others) =
-    sym (by_content after content (crlf_bytes ++ next) rest is) ∙ same ∙ by_content second content' bytes others is' in
-    let parts = split_same content ((crlf_bytes ++ next) ++ rest) content' (bytes ++ others) (wide ∙ sym wide') whole in
-    absurd (apart (sym (split_same crlf_bytes (next ++ rest) bytes others (sym two) parts.1).0))
-filled_same n coded got size after rest second others outcome other below fewer (misled content bytes wide two apart is o) (cut t q p) same =
-    absurd (too_short second others after rest content bytes size t q is wide (omega (arith, two)) (sym same))
-filled_same n coded got size after rest second others outcome other below fewer (misled content bytes wide two apart is o) (filled content' next inner wide' is' p w d) same =
-    let whole : content ++ (bytes ++ rest) ≡ content' ++ ((crlf_bytes ++ next) ++ others) =
-    sym (by_content after content bytes rest is) ∙ same ∙ by_content second content' (crlf_bytes ++ next) others is' in
-    let parts = split_same content (bytes ++ rest) content' ((crlf_bytes ++ next) ++ others) (wide ∙ sym wide') whole in
-    absurd (apart (split_same bytes rest crlf_bytes (next ++ others) two parts.1).0)
-filled_same n coded got size after rest second others outcome other below fewer (misled content bytes wide two apart is o) (misled content' bytes' wide' two' apart' is' p) same =
-    let whole : content ++ (bytes ++ rest) ≡ content' ++ (bytes' ++ others) =
-    sym (by_content after content bytes rest is) ∙ same ∙ by_content second content' bytes' others is' in
-    let parts = split_same content (bytes ++ rest) content' (bytes' ++ others) (wide ∙ sym wide') whole in
-    let content_same : content ≡ content' = parts.0 in
-    let bytes_same : bytes ≡ bytes' = (split_same bytes rest bytes' others (two ∙ sym two') parts.1).0 in
-    (cc, cc)
+-- Two views of one stream, each of its first bytes before a rest: these are the same, and so is the outcome.
+module _ (n : ℕ) (below : OneBelow n) (rest others : List ℕ) (outcome other : Outcome) where
+  module _ (after second : List ℕ) (fewer : length after < n) (same : after ++ rest ≡ second ++ others) where
+    -- behind a chunk's line
+    filled_same : (coded got size : ℕ) → IsFilled coded got size after rest outcome
+        → IsFilled coded got size second others other → (after ≡ second) × (outcome ≡ other)
+    filled_same coded got size (cut s r o) (cut t q p) = (all_same after rest second others r q same, o ∙ sym p)
+    filled_same coded got size (cut s r o) (filled content next inner wide is p w d) =
+        absurd (too_short after rest second others content (crlf_bytes ++ next) size s r is wide (omega arith) same)
+    filled_same coded got size (cut s r o) (misled content bytes wide two apart is p) =
+        absurd (too_short after rest second others content bytes size s r is wide (omega (arith, two)) same)
+    filled_same coded got size (filled content next inner wide is o w d) (cut t q p) =
+        absurd (too_short second others after rest content (crlf_bytes ++ next) size t q is wide (omega arith) (sym same))
+    filled_same coded got size (filled content next inner wide is o w d) (filled content' next' inner' wide' is' p w' d') =
+        let whole : content ++ ((crlf_bytes ++ next) ++ rest) ≡ content' ++ ((crlf_bytes ++ next') ++ others) =
+        sym (by_content after content (crlf_bytes ++ next) rest is) ∙ same ∙ by_content second content' (crlf_bytes ++ next') others is' in
+        let parts = split_same content ((crlf_bytes ++ next) ++ rest) content' ((crlf_bytes ++ next') ++ others) (wide ∙ sym wide') whole in
+        let content_same : content ≡ content' = parts.0 in
+        let behind_end = split_same crlf_bytes (next ++ rest) crlf_bytes (next' ++ others) refl parts.1 in
+        let smaller : length next < n =
+        omega (arith, fewer, ap length is, length-append content (crlf_bytes ++ next)) in
+        let inside = below (coded + size + 2) (got + size) next rest next' others inner inner' smaller d w d' w' behind_end.1 in
+        let next_same : next ≡ next' = inside.0 in
+        let inner_same : inner ≡ inner' = inside.1 in
+        (cc, cc)
+    filled_same coded got size (filled content next inner wide is o w d) (misled content' bytes wide' two apart is' p) =
+        let whole : content ++ ((crlf_bytes ++ next) ++ rest) ≡ content' ++ (bytes ++ others) =
+        sym (by_content after content (crlf_bytes ++ next) rest is) ∙ same ∙ by_content second content' bytes others is' in
+        let parts = split_same content ((crlf_bytes ++ next) ++ rest) content' (bytes ++ others) (wide ∙ sym wide') whole in
+        absurd (apart (sym (split_same crlf_bytes (next ++ rest) bytes others (sym two) parts.1).0))
+    filled_same coded got size (misled content bytes wide two apart is o) (cut t q p) =
+        absurd (too_short second others after rest content bytes size t q is wide (omega (arith, two)) (sym same))
+    filled_same coded got size (misled content bytes wide two apart is o) (filled content' next inner wide' is' p w d) =
+        let whole : content ++ (bytes ++ rest) ≡ content' ++ ((crlf_bytes ++ next) ++ others) =
+        sym (by_content after content bytes rest is) ∙ same ∙ by_content second content' (crlf_bytes ++ next) others is' in
+        let parts = split_same content (bytes ++ rest) content' ((crlf_bytes ++ next) ++ others) (wide ∙ sym wide') whole in
+        absurd (apart (split_same bytes rest crlf_bytes (next ++ others) two parts.1).0)
+    filled_same coded got size (misled content bytes wide two apart is o) (misled content' bytes' wide' two' apart' is' p) =
+        let whole : content ++ (bytes ++ rest) ≡ content' ++ (bytes' ++ others) =
+        sym (by_content after content bytes rest is) ∙ same ∙ by_content second content' bytes' others is' in
+        let parts = split_same content (bytes ++ rest) content' (bytes' ++ others) (wide ∙ sym wide') whole in
+        let content_same : content ≡ content' = parts.0 in
+        let bytes_same : bytes ≡ bytes' = (split_same bytes rest bytes' others (two ∙ sym two') parts.1).0 in
+        (cc, cc)
 
--- one text is trailers or none
-pub trailers_same : (after second : List ℕ) (outcome other : Outcome) → after ≡ second
-    → (AreTrailers after × (outcome ≡ Decoded [])) ⊎ (AreNoTrailers after × (outcome ≡ Broken BadLength))
-    → (AreTrailers second × (other ≡ Decoded [])) ⊎ (AreNoTrailers second × (other ≡ Broken BadLength)) → outcome ≡ other
-trailers_same after second outcome other same (inl a) (inl b) = a.1 ∙ sym b.1
-trailers_same after second outcome other same (inl a) (inr b) = absurd (b.0.none (subst (λ (xs : List ℕ). AreTrailers xs) same a.0))
-trailers_same after second outcome other same (inr a) (inl b) = absurd (a.0.none (subst (λ (xs : List ℕ). AreTrailers xs) (sym same) b.0))
-trailers_same after second outcome other same (inr a) (inr b) = a.1 ∙ sym b.1
+    -- one text is trailers or none
+    trailers_same : after ≡ second → (AreTrailers after × (outcome ≡ Decoded [])) ⊎ (AreNoTrailers after × (outcome ≡ Broken BadLength))
+        → (AreTrailers second × (other ≡ Decoded [])) ⊎ (AreNoTrailers second × (other ≡ Broken BadLength)) → outcome ≡ other
+    trailers_same bytes_same (inl a) (inl b) = a.1 ∙ sym b.1
+    trailers_same bytes_same (inl a) (inr b) = absurd (b.0.none (subst (λ (xs : List ℕ). AreTrailers xs) bytes_same a.0))
+    trailers_same bytes_same (inr a) (inl b) = absurd (a.0.none (subst (λ (xs : List ℕ). AreTrailers xs) (sym bytes_same) b.0))
+    trailers_same bytes_same (inr a) (inr b) = a.1 ∙ sym b.1
 
--- two views of the bytes behind the last line
-pub ended_same : (coded : ℕ) (after rest second others : List ℕ) (outcome other : Outcome)
-    → IsEnded coded after rest outcome → IsEnded coded second others other
-    → after ++ rest ≡ second ++ others → (after ≡ second) × (outcome ≡ other)
-ended_same coded after rest second others outcome other (cut s r o) (cut t q p) same =
-    (all_same after rest second others r q same, o ∙ sym p)
-ended_same coded after rest second others outcome other (cut s r o) (over t q p) same =
-    let clash : Short ≡ Overlong = sym s ∙ ap (trailers_at coded) same ∙ t in absurd (cc)
-ended_same coded after rest second others outcome other (cut s r o) (ended t q) same =
-    let clash : Short ≡ Whole second = sym s ∙ ap (trailers_at coded) same ∙ t in absurd (cc)
-ended_same coded after rest second others outcome other (over s r o) (cut t q p) same =
-    let clash : Overlong ≡ Short = sym s ∙ ap (trailers_at coded) same ∙ t in absurd (cc)
-ended_same coded after rest second others outcome other (over s r o) (over t q p) same =
-    ((split_same after rest second others (r ∙ sym q) same).0, o ∙ sym p)
-ended_same coded after rest second others outcome other (over s r o) (ended t q) same =
-    let clash : Overlong ≡ Whole second = sym s ∙ ap (trailers_at coded) same ∙ t in absurd (cc)
-ended_same coded after rest second others outcome other (ended s r) (cut t q p) same =
-    let clash : Whole after ≡ Short = sym s ∙ ap (trailers_at coded) same ∙ t in absurd (cc)
-ended_same coded after rest second others outcome other (ended s r) (over t q p) same =
-    let clash : Whole after ≡ Overlong = sym s ∙ ap (trailers_at coded) same ∙ t in absurd (cc)
-ended_same coded after rest second others outcome other (ended s r) (ended t q) same =
-    let both : Whole after ≡ Whole second = sym s ∙ ap (trailers_at coded) same ∙ t in
-    let bytes : after ≡ second = cc in
-    (bytes, trailers_same after second outcome other bytes r q)
+    -- behind the last line
+    ended_same : (coded : ℕ) → IsEnded coded after rest outcome → IsEnded coded second others other
+        → (after ≡ second) × (outcome ≡ other)
+    ended_same coded (cut s r o) (cut t q p) = (all_same after rest second others r q same, o ∙ sym p)
+    ended_same coded (cut s r o) (over t q p) =
+        let clash : Short ≡ Overlong = sym s ∙ ap (trailers_at coded) same ∙ t in absurd (cc)
+    ended_same coded (cut s r o) (ended t q) =
+        let clash : Short ≡ Whole second = sym s ∙ ap (trailers_at coded) same ∙ t in absurd (cc)
+    ended_same coded (over s r o) (cut t q p) =
+        let clash : Overlong ≡ Short = sym s ∙ ap (trailers_at coded) same ∙ t in absurd (cc)
+    ended_same coded (over s r o) (over t q p) =
+        ((split_same after rest second others (r ∙ sym q) same).0, o ∙ sym p)
+    ended_same coded (over s r o) (ended t q) =
+        let clash : Overlong ≡ Whole second = sym s ∙ ap (trailers_at coded) same ∙ t in absurd (cc)
+    ended_same coded (ended s r) (cut t q p) =
+        let clash : Whole after ≡ Short = sym s ∙ ap (trailers_at coded) same ∙ t in absurd (cc)
+    ended_same coded (ended s r) (over t q p) =
+        let clash : Whole after ≡ Overlong = sym s ∙ ap (trailers_at coded) same ∙ t in absurd (cc)
+    ended_same coded (ended s r) (ended t q) =
+        let both : Whole after ≡ Whole second = sym s ∙ ap (trailers_at coded) same ∙ t in
+        let bytes_same : after ≡ second = cc in
+        (bytes_same, trailers_same bytes_same r q)
 
--- two views of the bytes behind a line of one size
-pub sized_same : (n coded got : ℕ) (line : List ℕ) (size : ℕ) (after rest second others : List ℕ) (outcome other : Outcome)
-    → OneBelow n → length after < n → IsSized coded got line size after rest outcome
-    → IsSized coded got line size second others other
-    → after ++ rest ≡ second ++ others → (after ≡ second) × (outcome ≡ other)
-sized_same n coded got line size after rest second others outcome other below fewer (over s f r o) (over t e q p) same =
-    (r ∙ sym q, o ∙ sym p)
-sized_same n coded got line size after rest second others outcome other below fewer (over s f r o) (part t e q) same =
-    absurd (true≢false (sym e ∙ f))
-sized_same n coded got line size after rest second others outcome other below fewer (over s f r o) (end t q) same =
-    absurd (omega (arith, s, t))
-sized_same n coded got line size after rest second others outcome other below fewer (part s f r) (over t e q p) same =
-    absurd (true≢false (sym f ∙ e))
-sized_same n coded got line size after rest second others outcome other below fewer (part s f r) (part t e q) same =
-    filled_same n (coded + length line) got size after rest second others outcome other below fewer r q same
-sized_same n coded got line size after rest second others outcome other below fewer (part s f r) (end t q) same =
-    absurd (omega (arith, s, t))
-sized_same n coded got line size after rest second others outcome other below fewer (end s r) (over t e q p) same =
-    absurd (omega (arith, s, t))
-sized_same n coded got line size after rest second others outcome other below fewer (end s r) (part t e q) same =
-    absurd (omega (arith, s, t))
-sized_same n coded got line size after rest second others outcome other below fewer (end s r) (end t q) same =
-    ended_same (coded + length line) after rest second others outcome other r q same
+    -- behind a line of one size
+    sized_same : (coded got : ℕ) (line : List ℕ) (size : ℕ) → IsSized coded got line size after rest outcome
+        → IsSized coded got line size second others other → (after ≡ second) × (outcome ≡ other)
+    sized_same coded got line size (over s f r o) (over t e q p) = (r ∙ sym q, o ∙ sym p)
+    sized_same coded got line size (over s f r o) (part t e q) = absurd (true≢false (sym e ∙ f))
+    sized_same coded got line size (over s f r o) (end t q) = absurd (omega (arith, s, t))
+    sized_same coded got line size (part s f r) (over t e q p) = absurd (true≢false (sym f ∙ e))
+    sized_same coded got line size (part s f r) (part t e q) = filled_same (coded + length line) got size r q
+    sized_same coded got line size (part s f r) (end t q) = absurd (omega (arith, s, t))
+    sized_same coded got line size (end s r) (over t e q p) = absurd (omega (arith, s, t))
+    sized_same coded got line size (end s r) (part t e q) = absurd (omega (arith, s, t))
+    sized_same coded got line size (end s r) (end t q) = ended_same (coded + length line) r q
 
--- two views of the bytes behind one line
-pub behind_same : (n coded got : ℕ) (line after rest second others : List ℕ) (outcome other : Outcome)
-    → OneBelow n → length after < n → IsBehind coded got line after rest outcome → IsBehind coded got line second others other
-    → after ++ rest ≡ second ++ others → (after ≡ second) × (outcome ≡ other)
-behind_same n coded got line after rest second others outcome other below fewer (none i r o) (none j q p) same =
-    (r ∙ sym q, o ∙ sym p)
-behind_same n coded got line after rest second others outcome other below fewer (none i r o) (sized size is q) same =
-    absurd (i.none is.line is.reads)
-behind_same n coded got line after rest second others outcome other below fewer (sized size is r) (none j q p) same =
-    absurd (j.none is.line is.reads)
-behind_same n coded got line after rest second others outcome other below fewer (sized size is r) (sized size' is' q) same =
-    sized_same n coded got line size after rest second others outcome other below fewer r
-    (subst (λ (m : ℕ). IsSized coded got line m second others other) (size_unique line size' size is' is) q) same
+    -- behind one line
+    behind_same : (coded got : ℕ) (line : List ℕ) → IsBehind coded got line after rest outcome
+        → IsBehind coded got line second others other → (after ≡ second) × (outcome ≡ other)
+    behind_same coded got line (none i r o) (none j q p) = (r ∙ sym q, o ∙ sym p)
+    behind_same coded got line (none i r o) (sized size is q) = absurd (i.none is.line is.reads)
+    behind_same coded got line (sized size is r) (none j q p) = absurd (j.none is.line is.reads)
+    behind_same coded got line (sized size is r) (sized size' is' q) =
+        sized_same coded got line size r
+        (subst (λ (m : ℕ). IsSized coded got line m second others other) (size_unique line size' size is' is) q)
 
--- two views of a stream
-pub seen_same : (n coded got : ℕ) (first rest second others : List ℕ) (outcome other : Outcome)
-    → OneBelow n → length first < suc n → IsSeen coded got first rest outcome → IsSeen coded got second others other
-    → first ++ rest ≡ second ++ others → (first ≡ second) × (outcome ≡ other)
-seen_same n coded got first rest second others outcome other below fewer (cut s r o) (cut t q p) same =
-    (all_same first rest second others r q same, o ∙ sym p)
-seen_same n coded got first rest second others outcome other below fewer (cut s r o) (over t q p) same =
-    let clash : Short ≡ Overlong = sym s ∙ ap (line_at coded) same ∙ t in absurd (cc)
-seen_same n coded got first rest second others outcome other below fewer (cut s r o) (read line after t i q) same =
-    let clash : Short ≡ Whole line = sym s ∙ ap (line_at coded) same ∙ t in absurd (cc)
-seen_same n coded got first rest second others outcome other below fewer (over s r o) (cut t q p) same =
-    let clash : Overlong ≡ Short = sym s ∙ ap (line_at coded) same ∙ t in absurd (cc)
-seen_same n coded got first rest second others outcome other below fewer (over s r o) (over t q p) same =
-    ((split_same first rest second others (r ∙ sym q) same).0, o ∙ sym p)
-seen_same n coded got first rest second others outcome other below fewer (over s r o) (read line after t i q) same =
-    let clash : Overlong ≡ Whole line = sym s ∙ ap (line_at coded) same ∙ t in absurd (cc)
-seen_same n coded got first rest second others outcome other below fewer (read line after s i r) (cut t q p) same =
-    let clash : Whole line ≡ Short = sym s ∙ ap (line_at coded) same ∙ t in absurd (cc)
-seen_same n coded got first rest second others outcome other below fewer (read line after s i r) (over t q p) same =
-    let clash : Whole line ≡ Overlong = sym s ∙ ap (line_at coded) same ∙ t in absurd (cc)
-seen_same n coded got first rest second others outcome other below fewer (read line after s i r) (read line' after' t j q) same =
-    let both : Whole line ≡ Whole line' = sym s ∙ ap (line_at coded) same ∙ t in
-    let one : line' ≡ line = cc in
-    let whole : line ++ (after ++ rest) ≡ line' ++ (after' ++ others) =
-    sym (by_content first line after rest i) ∙ same ∙ by_content second line' after' others j in
-    let parts = split_same line (after ++ rest) line' (after' ++ others) (ap length (sym one)) whole in
-    let some = (line_sized coded (first ++ rest) line s).0 in
-    let smaller : length after < n = omega (arith, fewer, some, ap length i, length-append line after) in
-    let inside = behind_same n coded got line after rest after' others outcome other below smaller r
-    (subst (λ (xs : List ℕ). IsBehind coded got xs after' others other) one q) parts.1 in
-    let after_same : after ≡ after' = inside.0 in
-    (cc, inside.1)
+  -- from its beginning
+  seen_same : (coded got : ℕ) (first second : List ℕ) → length first < suc n → IsSeen coded got first rest outcome
+      → IsSeen coded got second others other → first ++ rest ≡ second ++ others → (first ≡ second) × (outcome ≡ other)
+  seen_same coded got first second fewer (cut s r o) (cut t q p) same =
+      (all_same first rest second others r q same, o ∙ sym p)
+  seen_same coded got first second fewer (cut s r o) (over t q p) same =
+      let clash : Short ≡ Overlong = sym s ∙ ap (line_at coded) same ∙ t in absurd (cc)
+  seen_same coded got first second fewer (cut s r o) (read line after t i q) same =
+      let clash : Short ≡ Whole line = sym s ∙ ap (line_at coded) same ∙ t in absurd (cc)
+  seen_same coded got first second fewer (over s r o) (cut t q p) same =
+      let clash : Overlong ≡ Short = sym s ∙ ap (line_at coded) same ∙ t in absurd (cc)
+  seen_same coded got first second fewer (over s r o) (over t q p) same =
+      ((split_same first rest second others (r ∙ sym q) same).0, o ∙ sym p)
+  seen_same coded got first second fewer (over s r o) (read line after t i q) same =
+      let clash : Overlong ≡ Whole line = sym s ∙ ap (line_at coded) same ∙ t in absurd (cc)
+  seen_same coded got first second fewer (read line after s i r) (cut t q p) same =
+      let clash : Whole line ≡ Short = sym s ∙ ap (line_at coded) same ∙ t in absurd (cc)
+  seen_same coded got first second fewer (read line after s i r) (over t q p) same =
+      let clash : Whole line ≡ Overlong = sym s ∙ ap (line_at coded) same ∙ t in absurd (cc)
+  seen_same coded got first second fewer (read line after s i r) (read line' after' t j q) same =
+      let both : Whole line ≡ Whole line' = sym s ∙ ap (line_at coded) same ∙ t in
+      let one : line' ≡ line = cc in
+      let whole : line ++ (after ++ rest) ≡ line' ++ (after' ++ others) =
+      sym (by_content first line after rest i) ∙ same ∙ by_content second line' after' others j in
+      let parts = split_same line (after ++ rest) line' (after' ++ others) (ap length (sym one)) whole in
+      let some = (line_sized coded (first ++ rest) line s).0 in
+      let smaller : length after < n = omega (arith, fewer, some, ap length i, length-append line after) in
+      let inside = behind_same after after' smaller parts.1 coded got line r
+      (subst (λ (xs : List ℕ). IsBehind coded got xs after' others other) one q) in
+      let after_same : after ≡ after' = inside.0 in
+      (cc, inside.1)
 
 pub one_in : (n : ℕ) → OneBelow n
 one_in zero coded got first rest second others outcome other below a whole b also same = absurd (omega (arith, below))
 one_in (suc n) coded got first rest second others outcome other below a whole b also same =
-    seen_same n coded got first rest second others outcome other (one_in n) below
+    seen_same n (one_in n) rest others outcome other coded got first second below
     (seen coded got first rest outcome a whole) (seen coded got second others other b also) same
 
 -- two codings at the start of a stream are the same, where one that is cut short is all of it

@@ -199,14 +199,6 @@ pub behind_read : {T : Type 0} (source middle last : End) (held rest : List ℕ)
 behind_read source middle last held rest short is behind others answer first cut cut_behind =
     record { took = first.took; waits = first.waits; splits = first.came.splits; cut = cut; cut_behind = cut_behind }
 
--- bytes that came, and are held
-pub behind_grown : (source middle last : End) (held rest : List ℕ) (short behind others : List ℕ → Type 0)
-    (grows : Grows source middle short held rest)
-    → ((bytes : List ℕ) → short bytes → others bytes) → ((bytes : List ℕ) → behind bytes → others bytes)
-    → Behind source middle last held rest grows.got [] short behind others
-behind_grown source middle last held rest short behind others grows cut cut_behind =
-    record { took = grows.took; waits = grows.waits; splits = sym grows.adds; cut = cut; cut_behind = cut_behind }
-
 -- the first of the bytes that are held
 pub behind_held : (source last : End) (held rest : List ℕ) (size : ℕ) (behind others : List ℕ → Type 0) → rest ≡ drop size held
     → ((bytes : List ℕ) → behind bytes → others (take size held ++ bytes))
@@ -217,22 +209,6 @@ behind_held source last held rest size behind others skipped cut_behind = record
   splits = append-nil held ∙ sym (take-append-drop size held) ∙ ap (λ bytes. take size held ++ bytes) (sym skipped);
   cut = λ bytes none. absurd none;
   cut_behind = cut_behind;
-}
-
--- bytes that came, of which the first are used
-pub reads_grown : {T : Type 0} (source last : End) (held grown rest : List ℕ) (size : ℕ) (short others : List ℕ → Type 0)
-    (is : T → List ℕ → Type 0) (answer : T) → Grows source last short held grown → rest ≡ drop size grown
-    → ((bytes : List ℕ) → short bytes → others bytes) → is answer (take size grown)
-    → Reads source last held rest others is (Ok answer)
-reads_grown source last held grown rest size short others is answer grows skipped cut fine = record {
-  got = grows.got;
-  took = grows.took;
-  waits = elim grows.waits [ inl idle ↦ inl idle | inr few ↦ inr (cut held few) ];
-  came = record {
-    used = take size grown;
-    splits = sym grows.adds ∙ sym (take-append-drop size grown) ∙ ap (λ bytes. take size grown ++ bytes) (sym skipped);
-    says = fine;
-  };
 }
 
 -- the first of the bytes that are held are used
@@ -250,14 +226,38 @@ reads_held source held rest size others is answer skipped fine = record {
   };
 }
 
--- no more bytes came
-pub reads_short : {T : Type 0} (source last : End) (held grown rest : List ℕ) (short others : List ℕ → Type 0)
-    (is : T → List ℕ → Type 0) (incomplete : Incomplete) → Grows source last short held grown
-    → ((bytes : List ℕ) → short bytes → others bytes) → short grown × NoMoreBytes source last incomplete
-    → Reads source last held rest others is (Err incomplete)
-reads_short source last held grown rest short others is incomplete grows cut why = record {
-  got = grows.got;
-  took = grows.took;
-  waits = elim grows.waits [ inl idle ↦ inl idle | inr few ↦ inr (cut held few) ];
-  came = (subst others grows.adds (cut grown why.0), why.1);
-}
+-- Bytes that came.
+module _ {source last : End} {held grown : List ℕ} {short : List ℕ → Type 0} (others : List ℕ → Type 0)
+    (grows : Grows source last short held grown) (cut : (bytes : List ℕ) → short bytes → others bytes) where
+  grows_waits : IsIdle source last grows.got ⊎ others held
+  grows_waits = elim grows.waits [ inl idle ↦ inl idle | inr few ↦ inr (cut held few) ]
+
+  -- they are held
+  pub behind_grown : (later : End) (behind : List ℕ → Type 0) → ((bytes : List ℕ) → behind bytes → others bytes)
+      → Behind source last later held grown grows.got [] short behind others
+  behind_grown later behind cut_behind =
+      record { took = grows.took; waits = grows.waits; splits = sym grows.adds; cut = cut; cut_behind = cut_behind }
+
+  -- the first of them are used
+  pub reads_grown : {T : Type 0} (rest : List ℕ) (size : ℕ) (is : T → List ℕ → Type 0) (answer : T) → rest ≡ drop size grown
+      → is answer (take size grown) → Reads source last held rest others is (Ok answer)
+  reads_grown rest size is answer skipped fine = record {
+    got = grows.got;
+    took = grows.took;
+    waits = grows_waits;
+    came = record {
+      used = take size grown;
+      splits = sym grows.adds ∙ sym (take-append-drop size grown) ∙ ap (λ bytes. take size grown ++ bytes) (sym skipped);
+      says = fine;
+    };
+  }
+
+  -- no more came
+  pub reads_short : {T : Type 0} (rest : List ℕ) (is : T → List ℕ → Type 0) (incomplete : Incomplete)
+      → short grown × NoMoreBytes source last incomplete → Reads source last held rest others is (Err incomplete)
+  reads_short rest is incomplete why = record {
+    got = grows.got;
+    took = grows.took;
+    waits = grows_waits;
+    came = (subst others grows.adds (cut grown why.0), why.1);
+  }

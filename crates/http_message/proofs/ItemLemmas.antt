@@ -31,33 +31,10 @@ use Rattle.http_message.specs.declared.incomplete.Incomplete.TheVariants.{InputE
 use Rattle.http_message.specs.Limits.{head_limit, most_fields, body_limit}
 use Rattle.http_message.proofs.BeginningLemmas.{settled_text, settled_bare_cr, settled_large, settles_take}
 
--- the length of the text
-pub text_size : (held : List ℕ) (empty_lines size : ℕ) → IsTextAt held empty_lines size → length (take size (drop empty_lines held)) ≡ size
-text_size held empty_lines size at =
-    length-take-le size (drop empty_lines held) (omega (arith, at.within, length-drop empty_lines held))
-
 -- the empty lines and the text of a head decide what the stream begins with, whatever follows them
 pub record Beginnings (first text : List ℕ) : Type 0 where
   pub beginning : (more : List ℕ) → beginning_of (first ++ more) ≡ Text text
   pub behind : (more : List ℕ) → drop (empty_lines_before_head (first ++ more)) (first ++ more) ≡ text ++ more
-
-pub text_beginnings : (held : List ℕ) (empty_lines size : ℕ) → IsTextAt held empty_lines size
-    → Beginnings (take (empty_lines + size) held) (take size (drop empty_lines held))
-text_beginnings held empty_lines size at =
-    let text = take size (drop empty_lines held) in
-    let first = take (empty_lines + size) held in
-    let settled = settled_text held text at.beginning in
-    let whole : empty_lines_before_head held + length text ≡ empty_lines + size = omega (arith, text_size held empty_lines size at, at.empty_lines_is) in
-    let long : length first ≡ empty_lines + size = length-take-le (empty_lines + size) held at.within in
-    record {
-      beginning = λ more. ap (λ n. beginning_of (take n held ++ more)) (sym whole) ∙ settled.settles.all more;
-      behind = λ more.
-          let empty_lines_same : empty_lines_before_head (first ++ more) ≡ empty_lines =
-          ap (λ n. empty_lines_before_head (take n held ++ more)) (sym whole) ∙ settled.settles.empty_lines_same more ∙ sym at.empty_lines_is in
-          ap (λ n. drop n (first ++ more)) empty_lines_same
-          ∙ drop-append-le empty_lines first more (omega (arith, long))
-          ∙ ap (λ xs. xs ++ more) (drop-take empty_lines size held);
-    }
 
 -- the text of a head, with what it frames behind it
 pub item_behind : (first text coded : List ℕ) (item : Item) → Beginnings first text → IsItemOf text coded item
@@ -65,14 +42,6 @@ pub item_behind : (first text coded : List ℕ) (item : Item) → Beginnings fir
 item_behind first text coded item beginnings is =
     let P : Beginning → Type 0 = λ beginning. IsItemBy beginning (first ++ coded) item in
     record { is = subst P (sym (beginnings.beginning coded)) (coded, beginnings.behind coded, is) }
-
--- and without
-pub item_alone : (held : List ℕ) (empty_lines size : ℕ) (item : Item) → IsTextAt held empty_lines size
-    → IsItemOf (take size (drop empty_lines held)) [] item → IsItem (take (empty_lines + size) held) item
-item_alone held empty_lines size item at is =
-    let P : List ℕ → Type 0 = λ bytes. IsItem bytes item in
-    subst P (append-nil (take (empty_lines + size) held))
-    (item_behind (take (empty_lines + size) held) (take size (drop empty_lines held)) [] item (text_beginnings held empty_lines size at) is)
 
 -- a bare CR, and a window without a head
 pub item_bare_cr : (held : List ℕ) (empty_lines : ℕ) → IsBareCrAt held empty_lines
@@ -102,23 +71,6 @@ bad_first held rest refused used is rest_is some limit within = record {
   some = some;
   limit = limit;
 }
-
-pub bad_text : (held rest : List ℕ) (refused : FramingRefusal) (empty_lines size : ℕ) → IsTextAt held empty_lines size
-    → IsItemOf (take size (drop empty_lines held)) [] (unframed refused false false) → rest ≡ drop (empty_lines + size) held
-    → BeginsBad held rest refused (empty_lines + size)
-bad_text held rest refused empty_lines size at is rest_is =
-    bad_first held rest refused (empty_lines + size) (item_alone held empty_lines size (unframed refused false false) at is) rest_is
-    (omega (arith, at.some)) at.limit at.within
-
--- a text that is no head, or a head that is refused
-pub bad_head_of : (held rest : List ℕ) (refused : FramingRefusal) (empty_lines size : ℕ) → IsTextAt held empty_lines size
-    → (IsNoHead (take size (drop empty_lines held)) × (refused ≡ BadHead)) ⊎ IsRefusedHead (take size (drop empty_lines held)) refused
-    → rest ≡ drop (empty_lines + size) held → BeginsBad held rest refused (empty_lines + size)
-bad_head_of held rest refused empty_lines size at (inl none) rest_is =
-    let P : FramingRefusal → Type 0 = λ r. BeginsBad held rest r (empty_lines + size) in
-    subst P (sym none.1) (bad_text held rest BadHead empty_lines size at (no_head none.0 refl refl) rest_is)
-bad_head_of held rest refused empty_lines size at (inr is) rest_is =
-    bad_text held rest refused empty_lines size at (bad_head is.head refused is.is is.framing_is refl refl) rest_is
 
 pub headed_bad : (all rest text : List ℕ) (spans : List HeaderSpan) (headed : Headed)
     (refused : FramingRefusal) (used : ℕ) → headed ≡ Bad refused used → BeginsBad all rest refused used
@@ -203,42 +155,84 @@ framed_continues head Chunked coded (request m) is (chunked bytes body decodes) 
     let f = frames head Chunked is in rw f refl
 framed_continues head Chunked coded item is (broken bytes refused decodes) = refl
 
--- the text that was copied
-pub text_copied : (held bytes copied rest : List ℕ) (empty_lines size : ℕ) → IsTextAt held empty_lines size → bytes ≡ held
-    → copied ≡ take (empty_lines + size - empty_lines) (drop empty_lines bytes)
-    → (take size (copied ++ rest) ≡ take size (drop empty_lines held)) × (size ≤ length (copied ++ rest))
-text_copied held bytes copied rest empty_lines size at same is =
-    let count : empty_lines + size - empty_lines ≡ size = omega arith in
-    let text : copied ≡ take size (drop empty_lines held) = is ∙ ap (λ xs. take (empty_lines + size - empty_lines) (drop empty_lines xs)) same
-    ∙ ap (λ n. take n (drop empty_lines held)) count in
-    let long : length copied ≡ size = ap length text ∙ text_size held empty_lines size at in
-    (take_at copied rest size long ∙ text, omega (arith, length-append copied rest, long))
+-- The text of a head is among the bytes that are held.
+module _ {held : List ℕ} {empty_lines size : ℕ} (at : IsTextAt held empty_lines size) where
+  text_size : length (take size (drop empty_lines held)) ≡ size
+  text_size = length-take-le size (drop empty_lines held) (omega (arith, at.within, length-drop empty_lines held))
 
--- the bytes begin with the head that was judged
-pub framed_first :
-    (held rest buffer : List ℕ) (spans : List HeaderSpan) (empty_lines size : ℕ) (judged : Judged)
-    → IsTextAt held empty_lines size → take size buffer ≡ take size (drop empty_lines held) → size ≤ length buffer
-    → rest ≡ drop (empty_lines + size) held → IsFramedHead (take size (drop empty_lines held)) spans judged
-    → BeginsFramed held rest buffer spans
-    (record { used = empty_lines + size; text = size; parts = judged.parts; framing = judged.framing; expects_continue = judged.expects_continue; is_head_request = judged.is_head_request })
-framed_first held rest buffer spans empty_lines size judged at same fits rest_is is =
-    let beginnings = text_beginnings held empty_lines size at in
-    record {
-      first = take (empty_lines + size) held;
-      head = is.head;
-      splits = sym (take-append-drop (empty_lines + size) held) ∙ ap (λ xs. take (empty_lines + size) held ++ xs) (sym rest_is);
-      size_is = length-take-le (empty_lines + size) held at.within;
-      some = omega (arith, at.some);
-      limit = at.limit;
-      text_within = fits;
-      at = rw same is.at;
-      framing_is = is.framing_is;
-      fits = frames_fits judged.framing (values (codes "transfer-encoding") (map name_and_value is.head.fields)) (frames is.head judged.framing is.framing_is);
-      expects_is = is.expected_is;
-      head_is = is.heads_is;
-      beginning = λ more. beginnings.beginning more ∙ ap Text (sym same);
-      behind = λ more. beginnings.behind more ∙ ap (λ xs. xs ++ more) (sym same);
-    }
+  text_beginnings : Beginnings (take (empty_lines + size) held) (take size (drop empty_lines held))
+  text_beginnings =
+      let text = take size (drop empty_lines held) in
+      let first = take (empty_lines + size) held in
+      let settled = settled_text held text at.beginning in
+      let whole : empty_lines_before_head held + length text ≡ empty_lines + size = omega (arith, text_size, at.empty_lines_is) in
+      let long : length first ≡ empty_lines + size = length-take-le (empty_lines + size) held at.within in
+      record {
+        beginning = λ more. ap (λ n. beginning_of (take n held ++ more)) (sym whole) ∙ settled.settles.all more;
+        behind = λ more.
+            let empty_lines_same : empty_lines_before_head (first ++ more) ≡ empty_lines =
+            ap (λ n. empty_lines_before_head (take n held ++ more)) (sym whole) ∙ settled.settles.empty_lines_same more ∙ sym at.empty_lines_is in
+            ap (λ n. drop n (first ++ more)) empty_lines_same
+            ∙ drop-append-le empty_lines first more (omega (arith, long))
+            ∙ ap (λ xs. xs ++ more) (drop-take empty_lines size held);
+      }
+
+  -- an item that is its text alone
+  item_alone : (item : Item) → IsItemOf (take size (drop empty_lines held)) [] item → IsItem (take (empty_lines + size) held) item
+  item_alone item is =
+      let P : List ℕ → Type 0 = λ bytes. IsItem bytes item in
+      subst P (append-nil (take (empty_lines + size) held))
+      (item_behind (take (empty_lines + size) held) (take size (drop empty_lines held)) [] item text_beginnings is)
+
+  bad_text : (rest : List ℕ) (refused : FramingRefusal)
+      → IsItemOf (take size (drop empty_lines held)) [] (unframed refused false false) → rest ≡ drop (empty_lines + size) held
+      → BeginsBad held rest refused (empty_lines + size)
+  bad_text rest refused is rest_is =
+      bad_first held rest refused (empty_lines + size) (item_alone (unframed refused false false) is) rest_is
+      (omega (arith, at.some)) at.limit at.within
+
+  -- a text that is no head, or a head that is refused
+  pub bad_head_of : (rest : List ℕ) (refused : FramingRefusal)
+      → (IsNoHead (take size (drop empty_lines held)) × (refused ≡ BadHead)) ⊎ IsRefusedHead (take size (drop empty_lines held)) refused
+      → rest ≡ drop (empty_lines + size) held → BeginsBad held rest refused (empty_lines + size)
+  bad_head_of rest refused (inl none) rest_is =
+      let P : FramingRefusal → Type 0 = λ r. BeginsBad held rest r (empty_lines + size) in
+      subst P (sym none.1) (bad_text rest BadHead (no_head none.0 refl refl) rest_is)
+  bad_head_of rest refused (inr is) rest_is = bad_text rest refused (bad_head is.head refused is.is is.framing_is refl refl) rest_is
+
+  -- the text that was copied
+  pub text_copied : (bytes copied rest : List ℕ) → bytes ≡ held
+      → copied ≡ take (empty_lines + size - empty_lines) (drop empty_lines bytes)
+      → (take size (copied ++ rest) ≡ take size (drop empty_lines held)) × (size ≤ length (copied ++ rest))
+  text_copied bytes copied rest same is =
+      let count : empty_lines + size - empty_lines ≡ size = omega arith in
+      let text : copied ≡ take size (drop empty_lines held) = is ∙ ap (λ xs. take (empty_lines + size - empty_lines) (drop empty_lines xs)) same
+      ∙ ap (λ n. take n (drop empty_lines held)) count in
+      let long : length copied ≡ size = ap length text ∙ text_size in
+      (take_at copied rest size long ∙ text, omega (arith, length-append copied rest, long))
+
+  -- the bytes begin with the head that was judged
+  pub framed_first : (rest buffer : List ℕ) (spans : List HeaderSpan) (judged : Judged)
+      → take size buffer ≡ take size (drop empty_lines held) → size ≤ length buffer
+      → rest ≡ drop (empty_lines + size) held → IsFramedHead (take size (drop empty_lines held)) spans judged
+      → BeginsFramed held rest buffer spans
+      (record { used = empty_lines + size; text = size; parts = judged.parts; framing = judged.framing; expects_continue = judged.expects_continue; is_head_request = judged.is_head_request })
+  framed_first rest buffer spans judged same fits rest_is is = record {
+    first = take (empty_lines + size) held;
+    head = is.head;
+    splits = sym (take-append-drop (empty_lines + size) held) ∙ ap (λ xs. take (empty_lines + size) held ++ xs) (sym rest_is);
+    size_is = length-take-le (empty_lines + size) held at.within;
+    some = omega (arith, at.some);
+    limit = at.limit;
+    text_within = fits;
+    at = rw same is.at;
+    framing_is = is.framing_is;
+    fits = frames_fits judged.framing (values (codes "transfer-encoding") (map name_and_value is.head.fields)) (frames is.head judged.framing is.framing_is);
+    expects_is = is.expected_is;
+    head_is = is.heads_is;
+    beginning = λ more. text_beginnings.beginning more ∙ ap Text (sym same);
+    behind = λ more. text_beginnings.behind more ∙ ap (λ xs. xs ++ more) (sym same);
+  }
 
 -- why no head came, by whether all the bytes are blank
 pub has_no_head : (source source' : End) (all : List ℕ) (incomplete : Incomplete) (blank : Bool) → NoMoreBytes source source' incomplete

@@ -165,67 +165,7 @@ pub decides : (sought : Sought) (bytes : List ℕ) (n : ℕ) (more : List ℕ) �
 decides Line bytes n more is = line_decides bytes n more is
 decides Trailers bytes n more is = trailers_decide bytes n more is
 
--- what the bytes begin with, by where it ends
-pub text_whole : (sought : Sought) (most : ℕ) (bytes : List ℕ) (n : ℕ) → EndsIn sought most bytes n
-    → text_at sought most bytes ≡ Whole (take n bytes)
-text_whole sought most bytes n ends = ap (λ o. cut_by o (nat_le most (length bytes)) bytes) ends.at
-
-pub text_overlong : (sought : Sought) (most : ℕ) (bytes : List ℕ) → Overruns sought most bytes
-    → text_at sought most bytes ≡ Overlong
-text_overlong sought most bytes over =
-    ap (λ o. cut_by o (nat_le most (length bytes)) bytes) over.none
-    ∙ ap (λ b. cut_by None b bytes) (le-leb most (length bytes) over.full)
-
-pub text_short : (sought : Sought) (most : ℕ) (bytes : List ℕ) → IsOpenIn sought most bytes
-    → text_at sought most bytes ≡ Short
-text_short sought most bytes cut =
-    ap (λ o. cut_by o (nat_le most (length bytes)) bytes) cut.none
-    ∙ ap (λ b. cut_by None b bytes) (lt-leb most (length bytes) cut.short)
-
--- the bytes of a whole text decide it
-pub record IsHere (sought : Sought) (most : ℕ) (text : List ℕ) : Type 0 where
-  pub all : (more : List ℕ) → text_at sought most (text ++ more) ≡ Whole text
-  pub some : 0 < length text
-  pub limit : length text ≤ most
-
-pub ends_within : (sought : Sought) (most : ℕ) (bytes : List ℕ) (n : ℕ) → EndsIn sought most bytes n
-    → (1 ≤ n) × (n ≤ length bytes) × (n ≤ most)
-ends_within sought most bytes n ends =
-    let bounds = bounds_of sought (take most bytes) n ends.at in (
-      bounds.0,
-      omega (arith, bounds.1, length-take most bytes),
-      omega (arith, bounds.1, length-take most bytes),
-    )
-
-pub ends_here : (sought : Sought) (most : ℕ) (bytes : List ℕ) (n : ℕ) → EndsIn sought most bytes n
-    → IsHere sought most (take n bytes)
-ends_here sought most bytes n ends =
-    let within = ends_within sought most bytes n ends in
-    let size : length (take n bytes) ≡ n = length-take-le n bytes within.1 in
-    record {
-      all = λ more.
-          let cut : take most (take n bytes ++ more) ≡ take n (take most bytes) ++ take (most - n) more =
-          take_past most (take n bytes) more (omega (arith, size, within.2))
-          ∙ ap (λ m. take n bytes ++ take (most - m) more) size
-          ∙ ap (λ xs. xs ++ take (most - n) more) (sym (take-take n most bytes within.2)) in
-          text_whole sought most (take n bytes ++ more) n
-          (record { at = ap (length_of sought) cut ∙ decides sought (take most bytes) n (take (most - n) more) ends.at })
-          ∙ ap Whole (take_at (take n bytes) more n size);
-      some = omega (arith, within.0, size);
-      limit = omega (arith, within.2, size);
-    }
-
--- bytes that reach the limit decide that no text ends within it
-pub overruns_here : (sought : Sought) (most : ℕ) (bytes more : List ℕ) → Overruns sought most bytes
-    → Overruns sought most (take most bytes ++ more)
-overruns_here sought most bytes more over =
-    let size : length (take most bytes) ≡ most = length-take-le most bytes over.full in
-    record {
-      none = ap (length_of sought) (take_at (take most bytes) more most size) ∙ over.none;
-      full = omega (arith, size, length-append (take most bytes) more);
-    }
-
--- and back: by what the bytes begin with
+-- where a text ends, by what the bytes begin with
 pub cut_whole : (o : Option ℕ) (full : Bool) (bytes text : List ℕ) → cut_by o full bytes ≡ Whole text
     → (n : ℕ) × (o ≡ Some n) × (take n bytes ≡ text)
 cut_whole (Some n) full bytes text is = (n, refl, cc)
@@ -244,21 +184,76 @@ cut_short (Some n) full bytes is = absurd (cc)
 cut_short None true bytes is = absurd (cc)
 cut_short None false bytes is = (refl, refl)
 
-pub whole_here : (sought : Sought) (most : ℕ) (bytes text : List ℕ) → text_at sought most bytes ≡ Whole text
-    → IsHere sought most text
-whole_here sought most bytes text is =
-    let (n, at, same) = cut_whole (length_of sought (take most bytes)) (nat_le most (length bytes)) bytes text is in
-    let P : List ℕ → Type 0 = λ xs. IsHere sought most xs in
-    subst P same (ends_here sought most bytes n (record { at = at }))
+-- the bytes of a whole text decide it
+pub record IsHere (sought : Sought) (most : ℕ) (text : List ℕ) : Type 0 where
+  pub all : (more : List ℕ) → text_at sought most (text ++ more) ≡ Whole text
+  pub some : 0 < length text
+  pub limit : length text ≤ most
 
-pub overlong_here : (sought : Sought) (most : ℕ) (bytes more : List ℕ) → text_at sought most bytes ≡ Overlong
-    → length bytes ≡ most → text_at sought most (bytes ++ more) ≡ Overlong
-overlong_here sought most bytes more is size =
-    let cut = cut_overlong (length_of sought (take most bytes)) (nat_le most (length bytes)) bytes is in
-    let whole : take most bytes ≡ bytes = take_all most bytes (omega (arith, size)) in
-    text_overlong sought most (bytes ++ more)
-    (subst (λ (xs : List ℕ). Overruns sought most (xs ++ more)) whole
-    (overruns_here sought most bytes more (record { none = cut.0; full = omega (arith, size) })))
+module _ (sought : Sought) (most : ℕ) where
+  -- what the bytes begin with, by where it ends
+  pub text_whole : (bytes : List ℕ) (n : ℕ) → EndsIn sought most bytes n → text_at sought most bytes ≡ Whole (take n bytes)
+  text_whole bytes n ends = ap (λ o. cut_by o (nat_le most (length bytes)) bytes) ends.at
+
+  pub text_overlong : (bytes : List ℕ) → Overruns sought most bytes → text_at sought most bytes ≡ Overlong
+  text_overlong bytes over =
+      ap (λ o. cut_by o (nat_le most (length bytes)) bytes) over.none
+      ∙ ap (λ b. cut_by None b bytes) (le-leb most (length bytes) over.full)
+
+  pub text_short : (bytes : List ℕ) → IsOpenIn sought most bytes → text_at sought most bytes ≡ Short
+  text_short bytes cut =
+      ap (λ o. cut_by o (nat_le most (length bytes)) bytes) cut.none
+      ∙ ap (λ b. cut_by None b bytes) (lt-leb most (length bytes) cut.short)
+
+  module _ (bytes : List ℕ) where
+    pub ends_within : (n : ℕ) → EndsIn sought most bytes n → (1 ≤ n) × (n ≤ length bytes) × (n ≤ most)
+    ends_within n ends =
+        let bounds = bounds_of sought (take most bytes) n ends.at in (
+          bounds.0,
+          omega (arith, bounds.1, length-take most bytes),
+          omega (arith, bounds.1, length-take most bytes),
+        )
+
+    pub ends_here : (n : ℕ) → EndsIn sought most bytes n → IsHere sought most (take n bytes)
+    ends_here n ends =
+        let within = ends_within n ends in
+        let size : length (take n bytes) ≡ n = length-take-le n bytes within.1 in
+        record {
+          all = λ more.
+              let cut : take most (take n bytes ++ more) ≡ take n (take most bytes) ++ take (most - n) more =
+              take_past most (take n bytes) more (omega (arith, size, within.2))
+              ∙ ap (λ m. take n bytes ++ take (most - m) more) size
+              ∙ ap (λ xs. xs ++ take (most - n) more) (sym (take-take n most bytes within.2)) in
+              text_whole (take n bytes ++ more) n
+              (record { at = ap (length_of sought) cut ∙ decides sought (take most bytes) n (take (most - n) more) ends.at })
+              ∙ ap Whole (take_at (take n bytes) more n size);
+          some = omega (arith, within.0, size);
+          limit = omega (arith, within.2, size);
+        }
+
+    -- bytes that reach the limit decide that no text ends within it
+    pub overruns_here : (more : List ℕ) → Overruns sought most bytes → Overruns sought most (take most bytes ++ more)
+    overruns_here more over =
+        let size : length (take most bytes) ≡ most = length-take-le most bytes over.full in
+        record {
+          none = ap (length_of sought) (take_at (take most bytes) more most size) ∙ over.none;
+          full = omega (arith, size, length-append (take most bytes) more);
+        }
+
+    pub whole_here : (text : List ℕ) → text_at sought most bytes ≡ Whole text → IsHere sought most text
+    whole_here text is =
+        let (n, at, same) = cut_whole (length_of sought (take most bytes)) (nat_le most (length bytes)) bytes text is in
+        let P : List ℕ → Type 0 = λ xs. IsHere sought most xs in
+        subst P same (ends_here n (record { at = at }))
+
+    pub overlong_here : (more : List ℕ) → text_at sought most bytes ≡ Overlong → length bytes ≡ most
+        → text_at sought most (bytes ++ more) ≡ Overlong
+    overlong_here more is size =
+        let cut = cut_overlong (length_of sought (take most bytes)) (nat_le most (length bytes)) bytes is in
+        let whole : take most bytes ≡ bytes = take_all most bytes (omega (arith, size)) in
+        text_overlong (bytes ++ more)
+        (subst (λ (xs : List ℕ). Overruns sought most (xs ++ more)) whole
+        (overruns_here more (record { none = cut.0; full = omega (arith, size) })))
 
 -- behind no empty line, trailers end where a head would
 pub line_here : (bytes : List ℕ) (size : ℕ) → IsLine bytes size → empty_line bytes ≡ size

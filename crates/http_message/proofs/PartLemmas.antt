@@ -33,8 +33,8 @@ pub line_end_reads : (source last : End) (held grown rest : List ℕ) (whole : B
     → whole ≡ bytes_eq (take 2 grown) crlf_bytes
     → Reads source last held rest (λ bytes. length bytes < 2) IsLineEnd (Ok whole)
 line_end_reads source last held grown rest whole grows skipped two is =
-    reads_grown source last held grown rest 2 (λ bytes. length bytes < 2) (λ bytes. length bytes < 2) IsLineEnd whole grows skipped
-    (λ bytes few. few) (record { two = length-take-le 2 grown two; whole_is = is })
+    reads_grown (λ bytes. length bytes < 2) grows (λ bytes few. few) rest 2 IsLineEnd whole skipped
+    (record { two = length-take-le 2 grown two; whole_is = is })
 
 -- a content, and two bytes behind it
 pub content_reads : {T : Type 0} (source middle last : End) (held rest held' into : List ℕ) (filled : T) (result : Result Bool Incomplete)
@@ -100,23 +100,21 @@ module _ (source middle : End) (held grown : List ℕ) (at : Progress) (most : �
       → Reads source last held held' (IsCutShort at.coded at.got) (IsPart at body body') result
   part_reads last held' body body' result =
       reads_behind
-      (behind_grown source middle last held grown (IsOpenIn Line most) (IsCutShort at.coded at.got) (IsCutShort at.coded at.got) grows
-      (line_short at.coded at.got most is) (λ bytes cut. cut))
+      (behind_grown (IsCutShort at.coded at.got) grows (line_short at.coded most is at.got) last (IsCutShort at.coded at.got)
+      (λ bytes cut. cut))
       held' (IsPart at body body') (IsPart at body body') result (λ reply bytes came. came)
 
   pub part_overlong : (rest body body' : List ℕ) → Overruns Line most grown → rest ≡ drop most grown
       → Reads source middle held rest (IsCutShort at.coded at.got) (IsPart at body body')
       (Ok (part.Broken (overlong_at at.coded) (at.coded + most)))
   part_overlong rest body body' over skipped =
-      reads_grown source middle held grown rest most (IsOpenIn Line most) (IsCutShort at.coded at.got) (IsPart at body body')
-      (part.Broken (overlong_at at.coded) (at.coded + most)) grows skipped (line_short at.coded at.got most is)
-      (line_overlong at.coded at.got most grown is over)
+      reads_grown (IsCutShort at.coded at.got) grows (line_short at.coded most is at.got) rest most (IsPart at body body')
+      (part.Broken (overlong_at at.coded) (at.coded + most)) skipped (line_overlong at.coded most is at.got grown over)
 
   pub part_stops : (rest body body' : List ℕ) (incomplete : Incomplete) → IsOpenIn Line most grown × NoMoreBytes source middle incomplete
       → Reads source middle held rest (IsCutShort at.coded at.got) (IsPart at body body') (Err incomplete)
   part_stops rest body body' incomplete =
-      reads_short source middle held grown rest (IsOpenIn Line most) (IsCutShort at.coded at.got) (IsPart at body body') incomplete grows
-      (line_short at.coded at.got most is)
+      reads_short (IsCutShort at.coded at.got) grows (line_short at.coded most is at.got) rest (IsPart at body body') incomplete
 
 -- a part behind the chunks so far
 module _ (source middle last : End) (held grown held' body body' : List ℕ) (at : Progress)

@@ -19,9 +19,9 @@ use q_outside::Source;
 /// How far a coding has come.
 #[derive(Clone, Copy, Debug, PartialEq, Eq)]
 pub struct Progress {
-    /// So many of its bytes.
+    /// The number of its bytes up to here.
     pub coded: usize,
-    /// So many bytes of its body.
+    /// The number of bytes of its body up to here.
     pub got: usize,
 }
 

@@ -18,7 +18,7 @@ pub enum HeadFound {
     BareCr { empty_lines: usize },
     /// Behind the empty lines the text of a head, of this length.
     Text { empty_lines: usize, size: usize },
-    /// So many bytes that a head had to end among them, and none does.
+    /// No head ends within the first `HEAD_LIMIT` bytes, and these are all there.
     TooLarge,
 }
 

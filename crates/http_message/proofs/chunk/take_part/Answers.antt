@@ -19,8 +19,8 @@ take_announced-requires-clause-within g c =
 pub take_announced-requires-clause-here : goal.take_announced-requires-clause-here
 take_announced-requires-clause-here g c =
     let found = rw c.in-Whole.is at c.in_ok-line.ensures.found in
-    line_found c.args.at.coded c.capacity_behind-capacity.result c.find_text.new.input c.in-Whole.line c.requires.at.coded
-    c.capacity_behind-capacity.ensures found
+    line_found c.args.at.coded c.capacity_behind-capacity.result c.capacity_behind-capacity.ensures c.find_text.new.input
+    c.in-Whole.line c.requires.at.coded found
 
 pub returns-in-Whole : goal.returns-in-Whole
 returns-in-Whole g c =

@@ -7,17 +7,16 @@ use Rattle.http_message.proofs.headed.judge_text.Goals as goal
 
 pub returns-in-Err : goal.returns-in-Err
 returns-in-Err c =
-    let copied = text_copied c.args.input.now c.bytes.result.now c.copy_from_slice.new.self (drop c.args.size c.args.text.now)
-    c.args.empty_lines c.args.size c.requires.at c.bytes.ensures c.copy_from_slice.ensures.after in
+    let copied = text_copied c.requires.at c.bytes.result.now c.copy_from_slice.new.self (drop c.args.size c.args.text.now)
+    c.bytes.ensures c.copy_from_slice.ensures.after in
     let P : List ℕ → Type 0 = λ text. (IsNoHead text × (c.in-Err.refused ≡ BadHead)) ⊎ IsRefusedHead text c.in-Err.refused in
     headed_bad _ _ _ _ c.refuse.result _ _ c.refuse.ensures.is
-    (bad_head_of c.args.input.now c.refuse.new.input c.in-Err.refused c.args.empty_lines c.args.size c.requires.at
+    (bad_head_of c.requires.at c.refuse.new.input c.in-Err.refused
     (subst P copied.0 c.in-Err.ensures) c.refuse.ensures.skips)
 
 pub returns-in-Ok : goal.returns-in-Ok
 returns-in-Ok c =
-    let copied = text_copied c.args.input.now c.bytes.result.now c.copy_from_slice.new.self (drop c.args.size c.args.text.now)
-    c.args.empty_lines c.args.size c.requires.at c.bytes.ensures c.copy_from_slice.ensures.after in
+    let copied = text_copied c.requires.at c.bytes.result.now c.copy_from_slice.new.self (drop c.args.size c.args.text.now)
+    c.bytes.ensures c.copy_from_slice.ensures.after in
     let P : List ℕ → Type 0 = λ text. IsFramedHead text c.judge.new.spans c.in-Ok.judged in
-    framed_first c.args.input.now c.skip.new.self _ c.judge.new.spans c.args.empty_lines c.args.size c.in-Ok.judged c.requires.at
-    copied.0 copied.1 c.skip.ensures (subst P copied.0 c.in-Ok.ensures)
+    framed_first c.requires.at c.skip.new.self _ c.judge.new.spans c.in-Ok.judged copied.0 copied.1 c.skip.ensures (subst P copied.0 c.in-Ok.ensures)

@@ -3,8 +3,6 @@ use Rattle.std.proofs.lemmas.List.{length-take-le}
 use Rattle.std.proofs.lemmas.Result.{err_from_is_err_and}
 use Rattle.http_message.specs.Coded.{EndsCoding, IsEnding}
 use Rattle.http_message.specs.Coding.{Unfinished}
-use Rattle.http_message.specs.Line.{IsOpenIn}
-use Rattle.http_message.specs.declared.line.Sought.TheVariants.{Trailers}
 use Rattle.http_message.proofs.ChunkLemmas.{trailers_whole, trailers_bad, trailers_overlong, trailers_short}
 use Rattle.http_message.proofs.InputLemmas.{reads_grown, reads_short}
 use Rattle.http_message.proofs.LineLemmas.{ends_within}
@@ -14,9 +12,9 @@ pub returns-in_err-size : goal.returns-in_err-size
 returns-in_err-size g c =
     let p = err_from_is_err_and c.from_residual.result c.from_residual.ensures.1 in
     rw (p.1, p.2)
-    (reads_short _ _ _ c.find_text.new.input _ (IsOpenIn Trailers c.capacity_behind-capacity.result) (λ (bytes : List ℕ). EndsCoding c.args.coded bytes Unfinished)
-    (IsEnding c.args.coded) c.in_err-size.field-0.0 c.find_text.ensures.grows
-    (trailers_short c.args.coded c.capacity_behind-capacity.result c.capacity_behind-capacity.ensures) c.in_err-size.ensures.found)
+    (reads_short (λ (bytes : List ℕ). EndsCoding c.args.coded bytes Unfinished) c.find_text.ensures.grows
+    (trailers_short c.args.coded c.capacity_behind-capacity.result c.capacity_behind-capacity.ensures) _
+    (IsEnding c.args.coded) c.in_err-size.field-0.0 c.in_err-size.ensures.found)
 
 pub slice_bounds-are_trailers-end : goal.slice_bounds-are_trailers-end
 slice_bounds-are_trailers-end g c =
@@ -37,26 +35,26 @@ skip-requires g c =
 pub returns-then-whole : goal.returns-then-whole
 returns-then-whole g c =
     let found = rw c.in-Whole.is at c.in_ok-size.ensures.found in
-    reads_grown _ _ _ c.find_text.new.input _ c.in-Whole.size (IsOpenIn Trailers c.capacity_behind-capacity.result) (λ (bytes : List ℕ). EndsCoding c.args.coded bytes Unfinished)
-    (IsEnding c.args.coded) _ c.find_text.ensures.grows c.skip.ensures
-    (trailers_short c.args.coded c.capacity_behind-capacity.result c.capacity_behind-capacity.ensures)
-    (trailers_whole c.args.coded c.capacity_behind-capacity.result c.in-Whole.size c.find_text.new.input c.capacity_behind-capacity.ensures found
-    (ends_within _ _ _ _ found).1 (rw c.bytes.ensures at (c.if-whole.ensures.yes refl)))
+    reads_grown (λ (bytes : List ℕ). EndsCoding c.args.coded bytes Unfinished) c.find_text.ensures.grows
+    (trailers_short c.args.coded c.capacity_behind-capacity.result c.capacity_behind-capacity.ensures) _ c.in-Whole.size
+    (IsEnding c.args.coded) _ c.skip.ensures
+    (trailers_whole c.args.coded c.capacity_behind-capacity.result c.capacity_behind-capacity.ensures c.in-Whole.size c.find_text.new.input
+    found (ends_within _ _ _ _ found).1 (rw c.bytes.ensures at (c.if-whole.ensures.yes refl)))
 
 pub returns-else-whole : goal.returns-else-whole
 returns-else-whole g c =
     let found = rw c.in-Whole.is at c.in_ok-size.ensures.found in
-    reads_grown _ _ _ c.find_text.new.input _ c.in-Whole.size (IsOpenIn Trailers c.capacity_behind-capacity.result) (λ (bytes : List ℕ). EndsCoding c.args.coded bytes Unfinished)
-    (IsEnding c.args.coded) _ c.find_text.ensures.grows c.skip.ensures
-    (trailers_short c.args.coded c.capacity_behind-capacity.result c.capacity_behind-capacity.ensures)
-    (trailers_bad c.args.coded c.capacity_behind-capacity.result c.in-Whole.size c.find_text.new.input c.capacity_behind-capacity.ensures found
-    (ends_within _ _ _ _ found).1 (rw c.bytes.ensures at (c.if-whole.ensures.no refl)))
+    reads_grown (λ (bytes : List ℕ). EndsCoding c.args.coded bytes Unfinished) c.find_text.ensures.grows
+    (trailers_short c.args.coded c.capacity_behind-capacity.result c.capacity_behind-capacity.ensures) _ c.in-Whole.size
+    (IsEnding c.args.coded) _ c.skip.ensures
+    (trailers_bad c.args.coded c.capacity_behind-capacity.result c.capacity_behind-capacity.ensures c.in-Whole.size c.find_text.new.input
+    found (ends_within _ _ _ _ found).1 (rw c.bytes.ensures at (c.if-whole.ensures.no refl)))
 
 pub returns-in-Overlong : goal.returns-in-Overlong
 returns-in-Overlong g c =
     let found = rw c.in-Overlong.is at c.in_ok-size.ensures.found in
     rw c.overlong_at.ensures
-    (reads_grown _ _ _ c.find_text.new.input _ c.capacity_behind-capacity.result (IsOpenIn Trailers c.capacity_behind-capacity.result) (λ (bytes : List ℕ). EndsCoding c.args.coded bytes Unfinished)
-    (IsEnding c.args.coded) _ c.find_text.ensures.grows c.skip-in-Overlong.ensures
-    (trailers_short c.args.coded c.capacity_behind-capacity.result c.capacity_behind-capacity.ensures)
-    (trailers_overlong c.args.coded c.capacity_behind-capacity.result c.find_text.new.input c.capacity_behind-capacity.ensures found))
+    (reads_grown (λ (bytes : List ℕ). EndsCoding c.args.coded bytes Unfinished) c.find_text.ensures.grows
+    (trailers_short c.args.coded c.capacity_behind-capacity.result c.capacity_behind-capacity.ensures) _ c.capacity_behind-capacity.result
+    (IsEnding c.args.coded) _ c.skip-in-Overlong.ensures
+    (trailers_overlong c.args.coded c.capacity_behind-capacity.result c.capacity_behind-capacity.ensures c.find_text.new.input found))
