@@ -36,7 +36,9 @@ fn text_of(at: u64) -> [u8; 29]
 
 impl DateText {
     /// The text of the first moment of 1970.
-    pub fn new() -> DateText {
+    pub fn new() -> DateText
+        ensures { result.at ≡ 0 }
+    {
         DateText {
             at: 0,
             text: text_of(0),

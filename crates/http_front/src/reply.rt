@@ -3,7 +3,7 @@
 //! A reply's head is written into a buffer that was made before the request was taken, so an accepted
 //! write is answered whatever memory there is. The body follows it there where it fits, so that the sink is
 //! given the reply in one piece.
-ghost use Rattle.std.specs.Prelude.{◌≡◌, ℕ, ◌≤◌, ◌++◌, List, [], length, MatchBool, IfOk};
+ghost use Rattle.std.specs.Prelude.{◌≡◌, ℕ, ◌+◌, ◌<◌, ◌≤◌, ◌++◌, List, [], length, IsFalse, MatchBool, IfOk};
 ghost use Rattle.http_front.specs.ReplyText.{IsHeadText, head_of, body_of, clock_of};
 
 use crate::body::{NUMBERS_CAPACITY, body_of};
@@ -69,7 +69,8 @@ impl ReplyRoom {
 
     /// Writes a piece after what is there, where it fits, and answers whether it did.
     pub(crate) fn put_where_it_fits(&mut self, piece: &[u8]) -> bool
-        ensures { MatchBool result (self.new ≡ self.old ++ piece.now) (self.new ≡ self.old) }
+        ensures text { MatchBool result (self.new ≡ self.old ++ piece.now) (self.new ≡ self.old) }
+        ensures fits { IsFalse result → REPLY_CAPACITY < length self.old + length piece.now }
     {
         if piece.len() > REPLY_CAPACITY - self.len {
             return false;
