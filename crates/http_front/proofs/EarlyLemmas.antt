@@ -16,10 +16,10 @@ use Rattle.q_doc.specs.Tree.{Tree}
 use Rattle.q_doc.specs.declared.refusal.DocRefusal.{DocRefusal}
 use Rattle.q_doc.specs.declared.refusal.DocRefusal.TheVariants as doc
 use Rattle.percent_encoding.specs.Percent.{percent_decode}
-use Rattle.http_front.specs.Answered.{and_then, unless}
+use Rattle.http_front.specs.Answered.{and_then}
 use Rattle.http_front.specs.Asks.{ask_at, ask_by, ask_of, check_read, condition_by, document_by, document_in, fields_or_not, has_host, has_length, if_none, has_no_coding, is_head_request, method_by, method_in, name_in, name_or_not, put_of, record_by, tags_or_not, write}
 use Rattle.http_front.specs.Early.{decodes_at, is_early, is_early_answer}
-use Rattle.http_front.specs.Free.{is_bare, is_bare_call, is_free_at, is_free_call, is_free_query, is_free_record, is_free_with}
+use Rattle.http_front.specs.Free.{is_bare, is_bare_call, is_free_at, is_free_call, is_free_with}
 use Rattle.http_front.specs.Query.{NamedValue, fields_in, fields_of, pieces_of, takes_fields}
 use Rattle.http_front.specs.Routes.{route_of, served_of, collection_in, id_in, queried_in, method_of, allows, methods_of}
 use Rattle.http_front.specs.Target.{local_part, path_of, query_of}
@@ -140,42 +140,62 @@ free_query : (m : Message) (name : Result (List ℕ) Refused) (ask : List ℕ �
 free_query m (Err refused) ask early = refl
 free_query m (Ok collection) ask early = absurd (true≢false (sym early ∙ late_query false m (ask collection)))
 
--- a request without a query
-free_call : (m : Message) (path : List ℕ) (found : Route) (method : Method) → allows (methods_of found) method ≡ true
-    → is_early_answer false (ask_by m path method found []) ≡ true → is_free_call m path found method ≡ true
-free_call m path Record method allowed early = free_record false m method (name_in (collection_in path)) (name_in (id_in path)) allowed early
-free_call m path Query method allowed early = free_query m (name_in (queried_in path)) (λ collection. asks.Query collection [] (is_head_request method)) early
-free_call m path Filter method allowed early = absurd (true≢false (sym early))
-free_call m path Purges method allowed early = absurd (true≢false (sym early))
-free_call m path Match method allowed early = absurd (true≢false (sym early))
-free_call m path Stats method allowed early = absurd (true≢false (sym early))
-
--- a request of a route that takes fields, once these are decoded
+-- a query by its name, once the fields are decoded
 late_named : (m : Message) (name : Result (List ℕ) NameRefusal) (ask : List ℕ → Ask)
     → is_early_answer true (and_then (name_or_not name) (λ collection. and_then (check_read m) (λ checked. Ok (ask collection)))) ≡ false
 late_named m (Err refusal) ask = refl
 late_named m (Ok collection) ask = late_query true m (ask collection)
 
-late_queried : (m : Message) (path : List ℕ) (method : Method) (values : Option (List NamedValue))
-    → is_early_answer true (and_then (fields_or_not values) (λ fields. ask_by m path method Query fields)) ≡ false
-unfolding name_in
-late_queried m path method None = refl
-late_queried m path method (Some values) = late_named m (read_name (percent_decode (queried_in path))) (λ collection. asks.Query collection values (is_head_request method))
+not_true : (b : Bool) → not b ≡ true → b ≡ false
+not_true true is = absurd (true≢false (sym is))
+not_true false is = refl
 
-late_purges : (m : Message) (path : List ℕ) (method : Method) (values : Option (List NamedValue))
-    → is_early_answer true (and_then (fields_or_not values) (λ fields. ask_by m path method Purges fields)) ≡ false
-late_purges m path method None = refl
-late_purges m path method (Some values) = refl
+module _ (m : Message) (path : List ℕ) (method : Method) where
+  -- a request without a query
+  free_call : (found : Route) → allows (methods_of found) method ≡ true
+      → is_early_answer false (ask_by m path method found []) ≡ true → is_free_call m path found method ≡ true
+  free_call Record allowed early = free_record false m method (name_in (collection_in path)) (name_in (id_in path)) allowed early
+  free_call Query allowed early = free_query m (name_in (queried_in path)) (λ collection. asks.Query collection [] (is_head_request method)) early
+  free_call Filter allowed early = absurd (true≢false (sym early))
+  free_call Purges allowed early = absurd (true≢false (sym early))
+  free_call Match allowed early = absurd (true≢false (sym early))
+  free_call Stats allowed early = absurd (true≢false (sym early))
 
-free_fields : (m : Message) (path query : List ℕ) (found : Route) (method : Method)
-    → is_early_answer (takes_fields found) (and_then (fields_or_not (fields_of found (pieces_of query))) (λ values. ask_by m path method found values)) ≡ true
-    → not (takes_fields found) ≡ true
-free_fields m path query Record method early = refl
-free_fields m path query Query method early = absurd (true≢false (sym early ∙ late_queried m path method (fields_of Query (pieces_of query))))
-free_fields m path query Filter method early = refl
-free_fields m path query Purges method early = absurd (true≢false (sym early ∙ late_purges m path method (fields_of Purges (pieces_of query))))
-free_fields m path query Match method early = refl
-free_fields m path query Stats method early = refl
+  -- one of a route that takes fields, once these are decoded
+  late_queried : (values : Option (List NamedValue))
+      → is_early_answer true (and_then (fields_or_not values) (λ fields. ask_by m path method Query fields)) ≡ false
+  unfolding name_in
+  late_queried None = refl
+  late_queried (Some values) = late_named m (read_name (percent_decode (queried_in path))) (λ collection. asks.Query collection values (is_head_request method))
+
+  late_purges : (values : Option (List NamedValue))
+      → is_early_answer true (and_then (fields_or_not values) (λ fields. ask_by m path method Purges fields)) ≡ false
+  late_purges None = refl
+  late_purges (Some values) = refl
+
+  free_fields : (query : List ℕ) (found : Route)
+      → is_early_answer (takes_fields found) (and_then (fields_or_not (fields_of found (pieces_of query))) (λ values. ask_by m path method found values)) ≡ true
+      → not (takes_fields found) ≡ true
+  free_fields query Record early = refl
+  free_fields query Query early = absurd (true≢false (sym early ∙ late_queried (fields_of Query (pieces_of query))))
+  free_fields query Filter early = refl
+  free_fields query Purges early = absurd (true≢false (sym early ∙ late_purges (fields_of Purges (pieces_of query))))
+  free_fields query Match early = refl
+  free_fields query Stats early = refl
+
+  -- fields that were decoded are of a route that takes them, or there is no query
+  pub free_values : (query : Option (List ℕ)) (found : Route) (values : List NamedValue) → Some values ≡ fields_in found query
+      → method_in m found ≡ Ok method → is_free_at m path query (Some found) ≡ true → is_free_call m path found method ≡ true
+  free_values query found values is method_is free =
+      let known : is_free_with m path query found (Ok method) ≡ true = ap (is_free_with m path query found) (sym method_is) ∙ free in
+      by query is known
+    where
+      by : (query : Option (List ℕ)) → Some values ≡ fields_in found query → is_free_with m path query found (Ok method) ≡ true
+          → is_free_call m path found method ≡ true
+      by None is known = known
+      by (Some text) is known =
+          let none = no_fields_in found (Some text) text refl (not_true (takes_fields found) known) in
+          absurd (let clash : ◌≡◌ {A = Option (List NamedValue)} (Some values) None = is ∙ none in cc)
 
 free_with : (m : Message) (path : List ℕ) (query : Option (List ℕ)) (found : Route) (r : Result Method Refused)
     → ((method : Method) → r ≡ Ok method → allows (methods_of found) method ≡ true)
@@ -185,8 +205,8 @@ free_with : (m : Message) (path : List ℕ) (query : Option (List ℕ)) (found :
 unfolding fields_in
 free_with m path None found (Err refused) allowed early = refl
 free_with m path (Some query) found (Err refused) allowed early = refl
-free_with m path None found (Ok method) allowed early = free_call m path found method (allowed method refl) early
-free_with m path (Some query) found (Ok method) allowed early = free_fields m path query found method early
+free_with m path None found (Ok method) allowed early = free_call m path method found (allowed method refl) early
+free_with m path (Some query) found (Ok method) allowed early = free_fields m path method query found early
 
 allowed_by : (methods : Allow) (found : Option Method) (method : Method) → method_by methods found ≡ Ok method → allows methods method ≡ true
 allowed_by methods None method is = absurd (cc)
@@ -208,22 +228,3 @@ pub early_free : (s : Served) (m : Message) (local : List ℕ) → has_host m �
 unfolding ask_of
 early_free s m local hosted local_is early =
     free_at m (path_of local) (query_of local) (served_of s (route_of (path_of local))) (rw (hosted, local_is) at early)
-
-not_true : (b : Bool) → not b ≡ true → b ≡ false
-not_true true is = absurd (true≢false (sym is))
-not_true false is = refl
-
--- fields that were decoded are of a route that takes them, or there is no query
-pub free_values : (m : Message) (path : List ℕ) (query : Option (List ℕ)) (found : Route) (method : Method) (values : List NamedValue)
-    → Some values ≡ fields_in found query → method_in m found ≡ Ok method → is_free_at m path query (Some found) ≡ true
-    → is_free_call m path found method ≡ true
-free_values m path query found method values is method_is free =
-    let known : is_free_with m path query found (Ok method) ≡ true = ap (is_free_with m path query found) (sym method_is) ∙ free in
-    by query is known
-  where
-    by : (query : Option (List ℕ)) → Some values ≡ fields_in found query → is_free_with m path query found (Ok method) ≡ true
-        → is_free_call m path found method ≡ true
-    by None is known = known
-    by (Some text) is known =
-        let none = no_fields_in found (Some text) text refl (not_true (takes_fields found) known) in
-        absurd (let clash : ◌≡◌ {A = Option (List NamedValue)} (Some values) None = is ∙ none in cc)
