@@ -2,7 +2,6 @@
 use Rattle.std.proofs.Common.{◌≡◌, ℕ, ◌+◌, ◌<◌, Bool, true, false, cond, ◌==◌, if◌then◌else◌, nat_lt, List, [], ◌∷◌, ◌++◌, length, map, drop, Result, Ok, Err, refl, sym, ap, ◌∙◌, subst, arith, append-nil}
 use Rattle.std.proofs.lemmas.Bool.{lt-ltb}
 use Rattle.query_core.specs.Filters.{Filter, constant, compared, listed, having, present}
-use Rattle.query_lang.specs.declared.filter_reader.PathUse.TheVariants.{Tested}
 use Rattle.query_lang.specs.declared.filter_reader.ValueTest.TheVariants.{Compare as AsksCompare, Has as AsksHas}
 use Rattle.query_lang.specs.declared.filter_reader.Pending.TheVariants as pending
 use Rattle.query_lang.specs.declared.token.Reserved.TheVariants.{And, Or, Not, In, Has}
@@ -16,13 +15,14 @@ use Rattle.query_lang.specs.declared.refusal.QueryRefusal.{QueryRefusal}
 use Rattle.query_lang.specs.declared.refusal.QueryRefusal.TheVariants.{TooMany, TooDeep}
 use Rattle.std.proofs.lemmas.Bool.Decides.{nat_tests}
 use Rattle.query_lang.specs.declared.operands.Join.TheVariants as join
-use Rattle.query_lang.specs.Grammar.{FilterTree, alternatives, OrTail, no_or, or_and, AndTree, conjuncts, AndTail, no_and, and_not, NotTree, negation, one, Atom, nested, always, never, existing, comparing, listing, holding, filter_tokens, or_tokens, and_tokens, further_tokens, not_tokens, atom_tokens, filter_meaning, not_meaning, atom_meaning, any_of, FilterFits, OrsFit, AndFits, FurtherFit, NotFits, AtomFits, Segment, path_tokens, path_keys, Value, truth_value, value_token, value_tree, value_tokens, more_values}
+use Rattle.query_lang.specs.Grammar.{FilterTree, alternatives, OrTail, no_or, or_and, AndTree, conjuncts, AndTail, no_and, and_not, NotTree, negation, one, Atom, nested, always, never, existing, comparing, listing, holding, filter_tokens, or_tokens, and_tokens, further_tokens, not_tokens, atom_tokens, filter_meaning, not_meaning, atom_meaning, any_of, FilterFits, OrsFit, AndFits, FurtherFit, NotFits, AtomFits, Segment, path_keys, Value, truth_value, value_token, value_tree, value_tokens, more_values}
+use Rattle.query_lang.specs.Reading.{after_token}
 use Rattle.query_lang.specs.Tokens.{Token, word, sign}
 use Rattle.query_lang.proofs.Capped.{plus, atom_plus, with_not, plus_negated}
 use Rattle.query_lang.proofs.Frames.{operand_at, joint_at, inner, after_filter, after_ors, after_and, after_further, and_outer, closed_filter, closed_at, close_with, close_plus, framed, keep, most, total, together_height, together_kept, together_leaves, any_together, filter_outer}
 use Rattle.query_lang.specs.declared.refusal.Cause.TheVariants as cause
 use Rattle.query_lang.proofs.Capped.{above_limit}
-use Rattle.query_lang.proofs.Runs.{outcome, go_on, NoDot}
+use Rattle.query_lang.proofs.Runs.{outcome, NoDot}
 use Rattle.query_lang.proofs.Steps.{tested_path, existing_path, exists_operand, asked_value, further_values, first_value}
 
 -- what a tail of a filter is followed by
@@ -42,37 +42,30 @@ list_values s path [] rest = refl
 list_values s path (v ∷ vs) rest = first_value s path v (more_values vs (sign CloseList ∷ rest)) ∙ further_values s path (value_tree v ∷ []) vs (sign CloseList ∷ rest)
 
 -- atoms but nested filters
-plain_exists : (s : State) (seg : Segment) (ss : List Segment) (rest : List Token) → length ss < 8 → NoDot rest
-    → outcome (operand_at s) (atom_tokens (existing seg ss) rest) ≡ outcome (plus (present (path_keys seg ss)) s) rest
-plain_exists s seg ss rest below other = existing_path s seg ss rest below ∙ exists_operand s (path_keys seg ss) rest other
+module _ (s : State) (seg : Segment) (ss : List Segment) (below : length ss < 8) where
+  plain_exists : (rest : List Token) → NoDot rest → outcome (operand_at s) (atom_tokens (existing seg ss) rest) ≡ outcome (plus (present (path_keys seg ss)) s) rest
+  plain_exists rest other = existing_path s seg ss rest below ∙ exists_operand s (path_keys seg ss) rest other
 
-plain_asked : (s : State) (seg : Segment) (ss : List Segment) (t : Token) (v : Value) (rest : List Token) → length ss < 8
-    → outcome (operand_at s) (path_tokens seg ss (t ∷ value_token v ∷ rest)) ≡ outcome (record s { pending = pending.Path Tested (path_keys seg ss) }) (t ∷ value_token v ∷ rest)
-plain_asked s seg ss t v rest below = tested_path s seg ss (t ∷ value_token v ∷ rest) below
+  plain_compared : (op : Op) (v : Value) (rest : List Token) → outcome (operand_at s) (atom_tokens (comparing seg ss op v) rest) ≡ outcome (plus (compared (path_keys seg ss) op (value_tree v)) s) rest
+  unfolding on_token on_path
+  plain_compared op v rest =
+      tested_path s seg ss (sign (Compare op) ∷ value_token v ∷ rest) below
+      ∙ asked_value s (path_keys seg ss) (AsksCompare op) v rest
+      ∙ ap (λ after. outcome after rest) (atom_plus (compared (path_keys seg ss) op (value_tree v)) 0 s refl refl)
 
-pub plain_compared : (s : State) (seg : Segment) (ss : List Segment) (op : Op) (v : Value) (rest : List Token) → length ss < 8
-    → outcome (operand_at s) (atom_tokens (comparing seg ss op v) rest) ≡ outcome (plus (compared (path_keys seg ss) op (value_tree v)) s) rest
-unfolding on_token on_path
-plain_compared s seg ss op v rest below =
-    tested_path s seg ss (sign (Compare op) ∷ value_token v ∷ rest) below
-    ∙ asked_value s (path_keys seg ss) (AsksCompare op) v rest
-    ∙ ap (λ after. outcome after rest) (atom_plus (compared (path_keys seg ss) op (value_tree v)) 0 s refl refl)
+  plain_having : (v : Value) (rest : List Token) → outcome (operand_at s) (atom_tokens (holding seg ss v) rest) ≡ outcome (plus (having (path_keys seg ss) (value_tree v)) s) rest
+  unfolding on_token on_path
+  plain_having v rest =
+      tested_path s seg ss (word Has ∷ value_token v ∷ rest) below
+      ∙ asked_value s (path_keys seg ss) AsksHas v rest
+      ∙ ap (λ after. outcome after rest) (atom_plus (having (path_keys seg ss) (value_tree v)) 0 s refl refl)
 
-pub plain_having : (s : State) (seg : Segment) (ss : List Segment) (v : Value) (rest : List Token) → length ss < 8
-    → outcome (operand_at s) (atom_tokens (holding seg ss v) rest) ≡ outcome (plus (having (path_keys seg ss) (value_tree v)) s) rest
-unfolding on_token on_path
-plain_having s seg ss v rest below =
-    tested_path s seg ss (word Has ∷ value_token v ∷ rest) below
-    ∙ asked_value s (path_keys seg ss) AsksHas v rest
-    ∙ ap (λ after. outcome after rest) (atom_plus (having (path_keys seg ss) (value_tree v)) 0 s refl refl)
-
-pub plain_listed : (s : State) (seg : Segment) (ss : List Segment) (vs : List Value) (rest : List Token) → length ss < 8
-    → outcome (operand_at s) (atom_tokens (listing seg ss vs) rest) ≡ outcome (plus (listed (path_keys seg ss) (map value_tree vs)) s) rest
-unfolding on_token on_path on_list
-plain_listed s seg ss vs rest below =
-    tested_path s seg ss (word In ∷ sign OpenList ∷ value_tokens vs (sign CloseList ∷ rest)) below
-    ∙ list_values s (path_keys seg ss) vs rest
-    ∙ ap (λ after. outcome after rest) (atom_plus (listed (path_keys seg ss) (map value_tree vs)) (length (map value_tree vs)) s refl refl)
+  plain_listed : (vs : List Value) (rest : List Token) → outcome (operand_at s) (atom_tokens (listing seg ss vs) rest) ≡ outcome (plus (listed (path_keys seg ss) (map value_tree vs)) s) rest
+  unfolding on_token on_path on_list
+  plain_listed vs rest =
+      tested_path s seg ss (word In ∷ sign OpenList ∷ value_tokens vs (sign CloseList ∷ rest)) below
+      ∙ list_values s (path_keys seg ss) vs rest
+      ∙ ap (λ after. outcome after rest) (atom_plus (listed (path_keys seg ss) (map value_tree vs)) (length (map value_tree vs)) s refl refl)
 
 plain_constant : (s : State) (b : Bool) (rest : List Token) → outcome (atom (constant b) 0 (operand_at s)) rest ≡ outcome (plus (constant b) s) rest
 plain_constant s b rest = ap (λ after. outcome after rest) (atom_plus (constant b) 0 (operand_at s) refl refl)
@@ -83,7 +76,7 @@ unfolding on_token on_joint
 closing t s rest =
     let x = after_filter t (inner s) in
     let (f, fs, means, whole) = closed_filter t (record s { outer = s.level ∷ s.outer }) in
-    ap (go_on (λ after. outcome after rest)) (closed_at x s.level s.outer (ap (λ w. w.outer) whole) ∙ ap (λ w. Ok (close_with w s.level s.outer)) whole)
+    ap (after_token (λ after. outcome after rest) 102 0) (closed_at x s.level s.outer (ap (λ w. w.outer) whole) ∙ ap (λ w. Ok (close_with w s.level s.outer)) whole)
     ∙ ap (λ after. outcome after rest) (close_plus s (s.level ∷ s.outer) f fs ∙ ap (λ g. plus g s) (sym means))
 
 at_or : (s : State) (ts : List Token) → outcome (joint_at s) (word Or ∷ ts) ≡ outcome (operand_at (join_all s)) ts
@@ -157,10 +150,10 @@ mutual
       ∙ closing t s rest
   read_atom always s rest fits other = at_constant s true rest
   read_atom never s rest fits other = at_constant s false rest
-  read_atom (existing seg ss) s rest fits other = plain_exists s seg ss rest fits other
-  read_atom (comparing seg ss op v) s rest fits other = plain_compared s seg ss op v rest fits
-  read_atom (listing seg ss vs) s rest fits other = plain_listed s seg ss vs rest fits
-  read_atom (holding seg ss v) s rest fits other = plain_having s seg ss v rest fits
+  read_atom (existing seg ss) s rest fits other = plain_exists s seg ss fits rest other
+  read_atom (comparing seg ss op v) s rest fits other = plain_compared s seg ss fits op v rest
+  read_atom (listing seg ss vs) s rest fits other = plain_listed s seg ss fits vs rest
+  read_atom (holding seg ss v) s rest fits other = plain_having s seg ss fits v rest
 
 -- ---- whole filters
 

@@ -12,6 +12,7 @@ pub mod SignSpelling
 pub mod NumberSpelling
 pub mod TokenSpelling
 pub mod TextReading
+pub mod Readings
 pub mod FilterTextReading
 pub mod OrderTextReading
 pub mod QueryTextReading

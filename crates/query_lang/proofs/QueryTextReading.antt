@@ -26,7 +26,7 @@ use Rattle.query_lang.specs.OrderText.{IsOrderText}
 use Rattle.query_lang.specs.Queries.{◌>>=◌, bytes_of, filter_field, number_field, kind_field, read_query}
 use Rattle.query_lang.specs.QueryText.{IsFilterField, no_filter, filter_text, IsNumberField, no_number, number_text, IsKindField, no_kind, objects_text, ids_text, IsQueryText}
 use Rattle.query_lang.specs.Refusals.{Gives}
-use Rattle.query_lang.specs.Tokens.{Token, word, name, quoted, number, bad_number, sign, Lexeme, ends, found, unfinished, bad_text, unknown}
+use Rattle.query_lang.specs.Tokens.{Token, number, bad_number, Lexeme, found}
 use Rattle.query_lang.proofs.FilterTextReading.{text_read, read_text}
 use Rattle.query_lang.proofs.NumberSpelling.{number_read, at_number, first_digit, no_letter, number_lexeme, or_left}
 use Rattle.query_lang.proofs.OrderTextReading.{order_text_read, read_order_text}
@@ -84,86 +84,81 @@ starts_no_letter b starts =
       | inr other ↦ (let minus : (b == 45) ≡ true = rw other at starts in let is : b ≡ 45 = eqb-true b 45 minus in ap is_letter is)
     ]
 
-number_within_found : (field low high total : ℕ) (rest : List ℕ) (z : ℤ) (n : ℕ) → number_within field low high total (length rest) z ≡ Ok n → (z ≡ pos n) × (low ≤ n) × (n ≤ high) × (length rest ≡ 0)
-number_within_found field low high total rest (pos m) n e =
-    elim (tested (nat_le low m && nat_le m high)) [
-      | inl within ↦ elim (tested (length rest == 0)) [
-        | inl none ↦ (
-            let ok : ◌≡◌ {A = Result ℕ QueryRefusal} (Ok m) (Ok n) = rw (within, none) at e in
-            let same : m ≡ n = cc in
-            let (above, below) = and_parts (nat_le low m) (nat_le m high) within in
-            (ap pos same, subst (λ k. low ≤ k) same (leb-true low m above), subst (λ k. k ≤ high) same (leb-true m high below), eqb-true (length rest) 0 none))
-        | inr some ↦ (let no = rw (within, some) at e in cc)
-      ]
-      | inr outside ↦ (let no = rw outside at e in cc)
-    ]
-number_within_found field low high total rest (negsuc m) n e = cc
-
-number_token_found : (field low high total : ℕ) (rest : List ℕ) (t : Token) (n : ℕ) → number_of_token field low high total (length rest) t ≡ Ok n → (t ≡ number (pos n)) × (low ≤ n) × (n ≤ high) × (length rest ≡ 0)
-number_token_found field low high total rest (number z) n e =
-    let (is, above, below, none) = number_within_found field low high total rest z n e in
-    (ap number is, above, below, none)
-number_token_found field low high total rest bad_number n e = cc
-number_token_found field low high total rest (word r) n e = cc
-number_token_found field low high total rest (name s) n e = cc
-number_token_found field low high total rest (quoted s) n e = cc
-number_token_found field low high total rest (sign s) n e = cc
-
 nothing_left : (rest : List ℕ) → length rest ≡ 0 → rest ≡ []
 nothing_left [] e = refl
 nothing_left (b ∷ bs) e = absurd (omega arith)
 
-number_lexeme_found : (field low high default b : ℕ) (bs : List ℕ) (n : ℕ) (x : Lexeme) → lexeme_at (b ∷ bs) ≡ x → number_of_lexeme field low high (length (b ∷ bs)) x ≡ Ok n → IsNumberField low high default (b ∷ bs) n
-number_lexeme_found field low high default b bs n (found t left span rest) is e =
-    let (token, above, below, none) = number_token_found field low high (length (b ∷ bs)) rest t n e in
-    let f = token_written (b ∷ bs) t left span rest is (λ bad. let no : number (pos n) ≡ bad_number = sym token ∙ bad in cc) in
-    let f' = subst (StartsWith (b ∷ bs) rest) token f in
-    number_text (f'.parts ∙ ap (λ r. decimal n ++ r) (nothing_left rest none) ∙ append-nil (decimal n)) above below
-number_lexeme_found field low high default b bs n ends is e = cc
-number_lexeme_found field low high default b bs n (unfinished what left) is e = cc
-number_lexeme_found field low high default b bs n (bad_text left there) is e = cc
-number_lexeme_found field low high default b bs n (unknown left) is e = cc
-
-read_number_found : (field low high default b : ℕ) (bs : List ℕ) (n : ℕ) → read_number field low high (b ∷ bs) ≡ Ok n → IsNumberField low high default (b ∷ bs) n
-unfolding read_number
-read_number_found field low high default b bs n e =
-    elim (tested (is_digit b || b == 45)) [
-      | inl starts ↦ number_lexeme_found field low high default b bs n (number_at (b ∷ bs)) (at_number b bs (starts_no_letter b starts) starts) (rw starts at e)
-      | inr other ↦ (let no = rw other at e in cc)
-    ]
-
--- a number of a field is one in decimal
-pub number_found : (field low high default : ℕ) (bytes : List ℕ) (n : ℕ) → number_field field low high default bytes ≡ Ok n → IsNumberField low high default bytes n
-unfolding number_field
-number_found field low high default [] n e = no_number refl (let same : default ≡ n = cc in sym same)
-number_found field low high default (b ∷ bs) n e =
-    read_number_found field low high default b bs n (ap (λ t. cond t (Ok default) (read_number field low high (b ∷ bs))) (sym (some_byte (length bs))) ∙ e)
-
-read_decimal : (field low high n : ℕ) → n < 2 ^ 63 → low ≤ n → n ≤ high → read_number field low high (decimal n) ≡ Ok n
-unfolding read_number
-read_decimal field low high n small above below =
-    let ds = decimal n in
-    let (numeral, value) = decimal_is_IsNumeral n (omega arith) in
-    let digit = first_digit ds numeral.1 numeral.0 in
-    let starts = or_left (is_digit (first ds)) (first ds == 45) digit in
-    let whole : number_at ds ≡ found (number (pos n)) (length ds) ds [] =
-    sym (number_lexeme ds numeral.0 (no_letter (first ds) digit) starts)
-    ∙ subst (λ x. lexeme_at x ≡ found (number (pos n)) (length x) ds []) (append-nil ds) (number_read (pos n) [] (lt-ltb n (2 ^ 63) small) refl) in
-    let within : (nat_le low n && nat_le n high) ≡ true = rw (le-leb low n above, le-leb n high below) refl in
-    ap (λ b. cond b (number_of_lexeme field low high (length ds) (number_at ds)) (Err (Syntax field 0))) starts
-    ∙ ap (number_of_lexeme field low high (length ds)) whole
-    ∙ ap (λ b. cond b (Ok n) (Err (BadNumber field 0))) within
-
 some_decimal : (n : ℕ) → n < 2 ^ 63 → (length (decimal n) == 0) ≡ false
 some_decimal n small = let (numeral, value) = decimal_is_IsNumeral n (omega arith) in ne_eqb (length (decimal n)) 0 (λ e. omega (arith, numeral.0))
 
-pub number_only : (field low high default : ℕ) (bytes : List ℕ) (n : ℕ) → high < 2 ^ 63 → IsNumberField low high default bytes n → number_field field low high default bytes ≡ Ok n
-unfolding number_field
-number_only field low high default bytes n small (no_number empty is) = ap (number_field field low high default) empty ∙ ap Ok (sym is)
-number_only field low high default bytes n small (number_text is above below) =
-    ap (number_field field low high default) is
-    ∙ ap (λ t. cond t (Ok default) (read_number field low high (decimal n))) (some_decimal n (omega arith))
-    ∙ read_decimal field low high n (omega arith) above below
+-- a number of a field, between a least and a greatest
+module _ (field low high : ℕ) where
+  number_within_found : (total : ℕ) (rest : List ℕ) (z : ℤ) (n : ℕ) → number_within field low high total (length rest) z ≡ Ok n → (z ≡ pos n) × (low ≤ n) × (n ≤ high) × (length rest ≡ 0)
+  number_within_found total rest (pos m) n e =
+      elim (tested (nat_le low m && nat_le m high)) [
+        | inl within ↦ elim (tested (length rest == 0)) [
+          | inl none ↦ (
+              let ok : ◌≡◌ {A = Result ℕ QueryRefusal} (Ok m) (Ok n) = rw (within, none) at e in
+              let same : m ≡ n = cc in
+              let (above, below) = and_parts (nat_le low m) (nat_le m high) within in
+              (ap pos same, subst (λ k. low ≤ k) same (leb-true low m above), subst (λ k. k ≤ high) same (leb-true m high below), eqb-true (length rest) 0 none))
+          | inr some ↦ (let no = rw (within, some) at e in cc)
+        ]
+        | inr outside ↦ (let no = rw outside at e in cc)
+      ]
+  number_within_found total rest (negsuc m) n e = cc
+
+  number_token_found : (total : ℕ) (rest : List ℕ) (t : Token) (n : ℕ) → number_of_token field low high total (length rest) t ≡ Ok n → (t ≡ number (pos n)) × (low ≤ n) × (n ≤ high) × (length rest ≡ 0)
+  number_token_found total rest (number z) n e =
+      let (is, above, below, none) = number_within_found total rest z n e in
+      (ap number is, above, below, none)
+  number_token_found total rest t n e = cc
+
+  number_lexeme_found : (default b : ℕ) (bs : List ℕ) (n : ℕ) (x : Lexeme) → lexeme_at (b ∷ bs) ≡ x → number_of_lexeme field low high (length (b ∷ bs)) x ≡ Ok n → IsNumberField low high default (b ∷ bs) n
+  number_lexeme_found default b bs n (found t left span rest) is e =
+      let (token, above, below, none) = number_token_found (length (b ∷ bs)) rest t n e in
+      let f = token_written t left span rest (b ∷ bs) is (λ bad. let no : number (pos n) ≡ bad_number = sym token ∙ bad in cc) in
+      let f' = subst (StartsWith (b ∷ bs) rest) token f in
+      number_text (f'.parts ∙ ap (λ r. decimal n ++ r) (nothing_left rest none) ∙ append-nil (decimal n)) above below
+  number_lexeme_found default b bs n x is e = cc
+
+  read_number_found : (default b : ℕ) (bs : List ℕ) (n : ℕ) → read_number field low high (b ∷ bs) ≡ Ok n → IsNumberField low high default (b ∷ bs) n
+  unfolding read_number
+  read_number_found default b bs n e =
+      elim (tested (is_digit b || b == 45)) [
+        | inl starts ↦ number_lexeme_found default b bs n (number_at (b ∷ bs)) (at_number b bs (starts_no_letter b starts) starts) (rw starts at e)
+        | inr other ↦ (let no = rw other at e in cc)
+      ]
+
+  -- a number of a field is one in decimal
+  pub number_found : (default : ℕ) (bytes : List ℕ) (n : ℕ) → number_field field low high default bytes ≡ Ok n → IsNumberField low high default bytes n
+  unfolding number_field
+  number_found default [] n e = no_number refl (let same : default ≡ n = cc in sym same)
+  number_found default (b ∷ bs) n e =
+      read_number_found default b bs n (ap (λ t. cond t (Ok default) (read_number field low high (b ∷ bs))) (sym (some_byte (length bs))) ∙ e)
+
+  read_decimal : (n : ℕ) → n < 2 ^ 63 → low ≤ n → n ≤ high → read_number field low high (decimal n) ≡ Ok n
+  unfolding read_number
+  read_decimal n small above below =
+      let ds = decimal n in
+      let (numeral, value) = decimal_is_IsNumeral n (omega arith) in
+      let digit = first_digit ds numeral.1 numeral.0 in
+      let starts = or_left (is_digit (first ds)) (first ds == 45) digit in
+      let whole : number_at ds ≡ found (number (pos n)) (length ds) ds [] =
+      sym (number_lexeme ds numeral.0 (no_letter (first ds) digit) starts)
+      ∙ subst (λ x. lexeme_at x ≡ found (number (pos n)) (length x) ds []) (append-nil ds) (number_read (pos n) [] (lt-ltb n (2 ^ 63) small) refl) in
+      let within : (nat_le low n && nat_le n high) ≡ true = rw (le-leb low n above, le-leb n high below) refl in
+      ap (λ b. cond b (number_of_lexeme field low high (length ds) (number_at ds)) (Err (Syntax field 0))) starts
+      ∙ ap (number_of_lexeme field low high (length ds)) whole
+      ∙ ap (λ b. cond b (Ok n) (Err (BadNumber field 0))) within
+
+  pub number_only : (default : ℕ) (bytes : List ℕ) (n : ℕ) → high < 2 ^ 63 → IsNumberField low high default bytes n → number_field field low high default bytes ≡ Ok n
+  unfolding number_field
+  number_only default bytes n small (no_number empty is) = ap (number_field field low high default) empty ∙ ap Ok (sym is)
+  number_only default bytes n small (number_text is above below) =
+      ap (number_field field low high default) is
+      ∙ ap (λ t. cond t (Ok default) (read_number field low high (decimal n))) (some_decimal n (omega arith))
+      ∙ read_decimal n (omega arith) above below
 
 -- ---- kinds
 

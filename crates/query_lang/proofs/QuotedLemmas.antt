@@ -35,36 +35,25 @@ pub scan_at : (whole : QuotedScan) (xs : List ℕ) (i n : ℕ) → i < length xs
     → whole ≡ with_prefix (take i xs) (scan n (get_or xs i 0 ∷ drop (i + 1) xs))
 scan_at whole xs i n h before = before ∙ ap (λ r. with_prefix (take i xs) (scan n r)) (drop_more xs i 0 h)
 
--- the scan one byte further
-pub scan_turn : (whole : QuotedScan) (xs : List ℕ) (i n m : ℕ) → i < length xs
-    → whole ≡ with_prefix (take i xs) (scan n (drop i xs))
-    → scan n (get_or xs i 0 ∷ drop (i + 1) xs) ≡ with_byte (get_or xs i 0) (scan m (drop (i + 1) xs))
-    → whole ≡ with_prefix (take (i + 1) xs) (scan m (drop (i + 1) xs))
-scan_turn whole xs i n m h before step =
-    scan_at whole xs i n h before ∙ ap (with_prefix (take i xs)) step ∙ with_prefix_byte (take i xs) (get_or xs i 0) (scan m (drop (i + 1) xs))
-    ∙ ap (λ prefix. with_prefix prefix (scan m (drop (i + 1) xs))) (sym (take_more xs i 0 h))
+-- a turn of the scan, at an offset where n bytes of an escape are left, and m after it
+module _ (whole : QuotedScan) (xs : List ℕ) (i n m : ℕ) (h : i < length xs) (before : whole ≡ with_prefix (take i xs) (scan n (drop i xs))) where
+  -- the scan one byte further
+  scan_turn : scan n (get_or xs i 0 ∷ drop (i + 1) xs) ≡ with_byte (get_or xs i 0) (scan m (drop (i + 1) xs)) → whole ≡ with_prefix (take (i + 1) xs) (scan m (drop (i + 1) xs))
+  scan_turn step =
+      scan_at whole xs i n h before ∙ ap (with_prefix (take i xs)) step ∙ with_prefix_byte (take i xs) (get_or xs i 0) (scan m (drop (i + 1) xs))
+      ∙ ap (λ prefix. with_prefix prefix (scan m (drop (i + 1) xs))) (sym (take_more xs i 0 h))
 
--- inside an escape
-pub turn_inside : (whole : QuotedScan) (xs : List ℕ) (i n m : ℕ) → i < length xs → 0 < n → m ≡ n - 1
-    → whole ≡ with_prefix (take i xs) (scan n (drop i xs))
-    → whole ≡ with_prefix (take (i + 1) xs) (scan m (drop (i + 1) xs))
-turn_inside whole xs i n m h some less before =
-    scan_turn whole xs i n m h before (scan_inside n (get_or xs i 0) (drop (i + 1) xs) some ∙ ap (λ k. with_byte (get_or xs i 0) (scan k (drop (i + 1) xs))) (sym less))
+  -- inside an escape
+  pub turn_inside : 0 < n → m ≡ n - 1 → whole ≡ with_prefix (take (i + 1) xs) (scan m (drop (i + 1) xs))
+  turn_inside some less = scan_turn (scan_inside n (get_or xs i 0) (drop (i + 1) xs) some ∙ ap (λ k. with_byte (get_or xs i 0) (scan k (drop (i + 1) xs))) (sym less))
 
--- at the backslash of an escape
-pub turn_escape : (whole : QuotedScan) (xs : List ℕ) (i n m byte : ℕ) → i < length xs → n ≡ 0 → get_or xs i 0 ≡ 92
-    → decodes byte m ≡ escape (drop (i + 1) xs)
-    → whole ≡ with_prefix (take i xs) (scan n (drop i xs))
-    → whole ≡ with_prefix (take (i + 1) xs) (scan m (drop (i + 1) xs))
-turn_escape whole xs i n m byte h none at found before =
-    scan_turn whole xs i n m h before (rw (none, at, ← found) refl)
+  -- at the backslash of an escape
+  pub turn_escape : (byte : ℕ) → n ≡ 0 → get_or xs i 0 ≡ 92 → decodes byte m ≡ escape (drop (i + 1) xs) → whole ≡ with_prefix (take (i + 1) xs) (scan m (drop (i + 1) xs))
+  turn_escape byte none at found = scan_turn (rw (none, at, ← found) refl)
 
--- at a byte that is itself
-pub turn_plain : (whole : QuotedScan) (xs : List ℕ) (i n m : ℕ) → i < length xs → n ≡ 0 → m ≡ n → get_or xs i 0 ≢ 34 → get_or xs i 0 ≢ 92 → 32 ≤ get_or xs i 0
-    → whole ≡ with_prefix (take i xs) (scan n (drop i xs))
-    → whole ≡ with_prefix (take (i + 1) xs) (scan m (drop (i + 1) xs))
-turn_plain whole xs i n m h none same quote backslash control before =
-    scan_turn whole xs i n m h before (rw (same, none, ne_eqb _ _ quote, ne_eqb _ _ backslash, le-ltb _ _ control) refl)
+  -- at a byte that is itself
+  pub turn_plain : n ≡ 0 → m ≡ n → get_or xs i 0 ≢ 34 → get_or xs i 0 ≢ 92 → 32 ≤ get_or xs i 0 → whole ≡ with_prefix (take (i + 1) xs) (scan m (drop (i + 1) xs))
+  turn_plain none same quote backslash control = scan_turn (rw (same, none, ne_eqb _ _ quote, ne_eqb _ _ backslash, le-ltb _ _ control) refl)
 
 -- a slice up to the end is what is left
 pub slice_to_end : (ys xs : List ℕ) (i : ℕ) → i ≤ length xs → ys ≡ xs → take (length ys - i) (drop i ys) ≡ drop i xs

@@ -13,9 +13,10 @@ use Rattle.query_lang.specs.declared.token.Reserved.TheVariants.{And, Or, Not, I
 use Rattle.query_lang.specs.declared.token.Sign.TheVariants.{Compare, Open, Close, OpenList, CloseList, Comma, Dot}
 use Rattle.query_lang.specs.FilterReading.{State, on_token, on_operand, segment_at, item_at, on_exists, on_path, on_value, on_first_item, on_after_item, on_joint, closed, ended, judged, judged_if, at_end, atom, asked, without_pending, value_of}
 use Rattle.query_lang.specs.Grammar.{Segment, bare, in_quotes, segment_token, segment_key, path_tokens, path_keys, Value, text_value, number_value, truth_value, null_value, value_token, value_tree, more_values}
+use Rattle.query_lang.specs.Reading.{after_token}
 use Rattle.query_lang.specs.Tokens.{Token, word, name, quoted, number, bad_number, sign}
 use Rattle.query_lang.proofs.Capped.{plus, atom_plus}
-use Rattle.query_lang.proofs.Runs.{outcome, go_on, NoDot}
+use Rattle.query_lang.proofs.Runs.{outcome, NoDot}
 
 -- the state, where this much of an atom was read
 abbrev pub where_pending : State → pending.the_data → State
@@ -166,7 +167,7 @@ exists_operand s path [] other =
     ap (λ after. judged_if 0 (at_end after)) whole ∙ ends_alike (plus (present path) s) s.outer refl
 exists_operand s path (t ∷ ts) other =
     let whole = atom_plus (present path) 0 (record s { pending = pending.Operand }) refl refl in
-    ap (go_on (λ after. outcome after ts)) (exists_joint (record s { pending = pending.Operand }) path t ts other
+    ap (after_token (λ after. outcome after ts) 102 0) (exists_joint (record s { pending = pending.Operand }) path t ts other
     ∙ ap (λ after. on_joint after t) whole ∙ sym (joint_ignores (plus (present path) s) t))
 
 -- the first value of a list

@@ -1,5 +1,5 @@
 -- What comes next in a text is a token as it is written, and the other way round.
-use Rattle.std.proofs.Common.{◌≡◌, ℕ, zero, suc, ◌+◌, ◌<◌, Bool, true, false, not, ◌&&◌, ◌||◌, ◌==◌, List, [], ◌∷◌, ◌++◌, ◌⊎◌, ◌^◌, nat_lt, ltb-true, length, get_or, take, drop, ℤ, pos, negsuc, Option, Some, None, refl, sym, ap, ◌∙◌, subst, inl, inr, arith, append_assoc, length-append, drop-drop, take_at, drop_at, eqb-true}
+use Rattle.std.proofs.Common.{◌≡◌, ℕ, zero, suc, ◌+◌, ◌<◌, Bool, true, false, not, ◌&&◌, ◌||◌, ◌==◌, List, [], ◌∷◌, ◌++◌, ◌⊎◌, ◌^◌, nat_lt, ltb-true, length, get_or, take, drop, ℤ, pos, Option, Some, None, refl, sym, ap, ◌∙◌, subst, inl, inr, arith, append_assoc, length-append, drop-drop, take_at, drop_at, eqb-true}
 use Rattle.std.proofs.lemmas.Bool.Decides.{nat_tests}
 use Rattle.std.proofs.lemmas.List.{take-append-drop}
 use Rattle.std.specs.List.{prefix_len, list_all, flat_map}
@@ -7,15 +7,15 @@ use Rattle.std.proofs.lemmas.Fmt.{decimal_is_IsNumeral}
 use Rattle.std.specs.Fmt.{decimal}
 use Rattle.std.specs.Str.Parse.{IsNumeral, without_leading_sign, signed_digits_value}
 use Rattle.query_core.specs.Print.{starts_word, quoted_byte, quoted as quoted_text}
-use Rattle.query_core.specs.declared.filter.Op.TheVariants.{Equal, Unequal, Less, AtMost, Greater, AtLeast}
+use Rattle.query_core.specs.declared.filter.Op.TheVariants.{Equal}
 use Rattle.query_lang.specs.Bytes.{is_blank, is_letter, is_digit, is_word_byte, after_blanks}
 use Rattle.query_lang.specs.Lexing.{lexeme, lexeme_at, word_token, number_of_digits, number_token, minus_len, quoted_at, by_scan, by_sign, sign_at, fits}
 use Rattle.query_lang.specs.Quoted.{QuotedScan, closed, open_end, bad, scan, unescaped}
 use Rattle.query_lang.specs.Spelling.{spelled, word_text, IsToken, ends_before, Begins}
 use Rattle.query_lang.specs.Tokens.{Token, word, name, quoted, number, bad_number, sign, found}
-use Rattle.query_lang.specs.declared.token.Reserved.TheVariants.{And, Or, Not, In, Has, Exists, True, False, Null, Asc, Desc}
+use Rattle.query_lang.specs.declared.token.Reserved.TheVariants.{And}
 use Rattle.query_lang.specs.declared.token.Sign.{Sign}
-use Rattle.query_lang.specs.declared.token.Sign.TheVariants.{Compare, Open, Close, OpenList, CloseList, Comma, Dot}
+use Rattle.query_lang.specs.declared.token.Sign.TheVariants.{Compare}
 use Rattle.query_lang.proofs.NumberSpelling.{number_read, numeral_written, first_digit, first_append, at_number}
 use Rattle.query_lang.proofs.NumeralLemmas.{numeral_run}
 use Rattle.query_lang.proofs.QuotedSpelling.{scan_spelled, unescape_spelled, scan_written}
@@ -62,12 +62,6 @@ pub record StartsWith (bytes rest : List ℕ) (t : Token) : Type 0 where
   pub parts : bytes ≡ spelled t ++ rest
   pub is_token : IsToken t
   pub longest : ends_before t rest ≡ true
-
-found_is : (t t' : Token) (left left' : ℕ) (span span' rest rest' bytes : List ℕ) → found t left span rest ≡ found t' left' span' rest' → StartsWith bytes rest t → StartsWith bytes rest' t'
-found_is t t' left left' span span' rest rest' bytes e f =
-    let same : t ≡ t' = cc in
-    let behind : rest ≡ rest' = cc in
-    subst (λ r. StartsWith bytes r t') behind (subst (StartsWith bytes rest) same f)
 
 not_false : (b : Bool) → b ≡ false → not b ≡ true
 not_false b e = ap not e
@@ -157,57 +151,59 @@ sign_begins b bs s n e =
       longest = is.longest;
     }
 
-by_sign_begins : (b : ℕ) (bs : List ℕ) (o : Option (Sign × ℕ)) → sign_at b (first bs) ≡ o → (t : Token) (left : ℕ) (span rest : List ℕ) → by_sign (b ∷ bs) o ≡ found t left span rest → StartsWith (b ∷ bs) rest t
-by_sign_begins b bs (Some p) is t left span rest e =
-    found_is (sign p.0) t (length (b ∷ bs)) left (take p.1 (b ∷ bs)) span (drop p.1 (b ∷ bs)) rest (b ∷ bs) e (sign_begins b bs p.0 p.1 is)
-by_sign_begins b bs None is t left span rest e =
-    elim (tested (b == 33 && length (b ∷ bs) == 1)) [
-      | inl cut_off ↦ (let no = rw cut_off at e in cc)
-      | inr other ↦ (let no = rw other at e in cc)
-    ]
-
-by_scan_begins : (bs : List ℕ) (x : QuotedScan) → scan 0 bs ≡ x → (t : Token) (left : ℕ) (span rest : List ℕ) → by_scan (34 ∷ bs) x ≡ found t left span rest → StartsWith (34 ∷ bs) rest t
-by_scan_begins bs (closed body) is t left span rest e =
-    found_is (quoted (unescaped 0 body)) t (length (34 ∷ bs)) left (take (length body + 2) (34 ∷ bs)) span (drop (length body + 2) (34 ∷ bs)) rest (34 ∷ bs) e (quoted_begins bs body is)
-by_scan_begins bs open_end is t left span rest e = cc
-by_scan_begins bs (bad at) is t left span rest e = cc
-
-by_digits_begins : (bytes : List ℕ) (count : ℕ) → prefix_len is_digit (drop (minus_len bytes) bytes) ≡ count → (is_digit (first bytes) || first bytes == 45) ≡ true
-    → (t : Token) (left : ℕ) (span rest : List ℕ) → number_of_digits bytes count ≡ found t left span rest → (t ≡ bad_number → ⊥) → StartsWith bytes rest t
-by_digits_begins bytes count is starts t left span rest e good =
-    elim (tested (nat_lt 0 count)) [
-      | inl some ↦ (
-          let token = number_token (take (minus_len bytes + count) bytes) in
-          let got : found token (length bytes) (take (minus_len bytes + count) bytes) (drop (minus_len bytes + count) bytes) ≡ found t left span rest = rw some at e in
-          let same : token ≡ t = cc in
-          found_is token t (length bytes) left (take (minus_len bytes + count) bytes) span (drop (minus_len bytes + count) bytes) rest bytes got
-          (number_begins bytes count is (ltb-true 0 count some) starts (λ b. good (sym same ∙ b))))
-      | inr none ↦ elim (tested (length (drop (minus_len bytes) bytes) == 0)) [
-        | inl cut_off ↦ (let no = rw (none, cut_off) at e in cc)
-        | inr other ↦ (let no = rw (none, other) at e in cc)
-      ]
-    ]
-
 pub at_sign : (b : ℕ) (bs : List ℕ) → is_letter b ≡ false → (is_digit b || b == 45) ≡ false → (b == 34) ≡ false → lexeme_at (b ∷ bs) ≡ by_sign (b ∷ bs) (sign_at b (first bs))
 at_sign b bs letter digit quote = rw (some_byte (length bs), letter, digit, quote) refl
 
--- what is found in a text is written there
-pub token_written : (bytes : List ℕ) (t : Token) (left : ℕ) (span rest : List ℕ) → lexeme_at bytes ≡ found t left span rest → (t ≡ bad_number → ⊥) → StartsWith bytes rest t
-token_written [] t left span rest e good = cc
-token_written (b ∷ bs) t left span rest e good =
-    elim (tested (is_letter b)) [
-      | inl letter ↦ (
-          let n = prefix_len is_word_byte (b ∷ bs) in
-          found_is (word_token (take n (b ∷ bs))) t (length (b ∷ bs)) left (take n (b ∷ bs)) span (drop n (b ∷ bs)) rest (b ∷ bs) (sym (at_word (b ∷ bs) (some_byte (length bs)) letter) ∙ e) (word_begins b bs letter))
-      | inr no_word ↦ elim (tested (is_digit b || b == 45)) [
-        | inl starts ↦ by_digits_begins (b ∷ bs) _ refl starts t left span rest (sym (at_number b bs no_word starts) ∙ e) good
-        | inr no_number ↦ elim (tested (b == 34)) [
-          | inl quote ↦ subst (λ x. StartsWith (x ∷ bs) rest t) (sym (eqb-true b 34 quote))
-              (by_scan_begins bs (scan 0 bs) refl t left span rest (sym (at_quote bs) ∙ subst (λ x. lexeme_at (x ∷ bs) ≡ found t left span rest) (eqb-true b 34 quote) e))
-          | inr no_quote ↦ by_sign_begins b bs (sign_at b (first bs)) refl t left span rest (sym (at_sign b bs no_word no_number no_quote) ∙ e)
+module _ (t : Token) (left : ℕ) (span rest : List ℕ) where
+  found_is : {t' : Token} {left' : ℕ} {span' rest' : List ℕ} (bytes : List ℕ) → found t' left' span' rest' ≡ found t left span rest → StartsWith bytes rest' t' → StartsWith bytes rest t
+  found_is {t'} {left'} {span'} {rest'} bytes e f =
+      let same : t' ≡ t = cc in
+      let behind : rest' ≡ rest = cc in
+      subst (λ r. StartsWith bytes r t) behind (subst (StartsWith bytes rest') same f)
+
+  by_sign_begins : (b : ℕ) (bs : List ℕ) (o : Option (Sign × ℕ)) → sign_at b (first bs) ≡ o → by_sign (b ∷ bs) o ≡ found t left span rest → StartsWith (b ∷ bs) rest t
+  by_sign_begins b bs (Some p) is e = found_is (b ∷ bs) e (sign_begins b bs p.0 p.1 is)
+  by_sign_begins b bs None is e =
+      elim (tested (b == 33 && length (b ∷ bs) == 1)) [
+        | inl cut_off ↦ (let no = rw cut_off at e in cc)
+        | inr other ↦ (let no = rw other at e in cc)
+      ]
+
+  by_scan_begins : (bs : List ℕ) (x : QuotedScan) → scan 0 bs ≡ x → by_scan (34 ∷ bs) x ≡ found t left span rest → StartsWith (34 ∷ bs) rest t
+  by_scan_begins bs (closed body) is e = found_is (34 ∷ bs) e (quoted_begins bs body is)
+  by_scan_begins bs open_end is e = cc
+  by_scan_begins bs (bad at) is e = cc
+
+  by_digits_begins : (bytes : List ℕ) (count : ℕ) → prefix_len is_digit (drop (minus_len bytes) bytes) ≡ count → (is_digit (first bytes) || first bytes == 45) ≡ true
+      → number_of_digits bytes count ≡ found t left span rest → (t ≡ bad_number → ⊥) → StartsWith bytes rest t
+  by_digits_begins bytes count is starts e good =
+      elim (tested (nat_lt 0 count)) [
+        | inl some ↦ (
+            let token = number_token (take (minus_len bytes + count) bytes) in
+            let got : found token (length bytes) (take (minus_len bytes + count) bytes) (drop (minus_len bytes + count) bytes) ≡ found t left span rest = rw some at e in
+            let same : token ≡ t = cc in
+            found_is bytes got (number_begins bytes count is (ltb-true 0 count some) starts (λ b. good (sym same ∙ b))))
+        | inr none ↦ elim (tested (length (drop (minus_len bytes) bytes) == 0)) [
+          | inl cut_off ↦ (let no = rw (none, cut_off) at e in cc)
+          | inr other ↦ (let no = rw (none, other) at e in cc)
         ]
       ]
-    ]
+
+  -- what is found in a text is written there
+  pub token_written : (bytes : List ℕ) → lexeme_at bytes ≡ found t left span rest → (t ≡ bad_number → ⊥) → StartsWith bytes rest t
+  token_written [] e good = cc
+  token_written (b ∷ bs) e good =
+      elim (tested (is_letter b)) [
+        | inl letter ↦ found_is (b ∷ bs) (sym (at_word (b ∷ bs) (some_byte (length bs)) letter) ∙ e) (word_begins b bs letter)
+        | inr no_word ↦ elim (tested (is_digit b || b == 45)) [
+          | inl starts ↦ by_digits_begins (b ∷ bs) _ refl starts (sym (at_number b bs no_word starts) ∙ e) good
+          | inr no_number ↦ elim (tested (b == 34)) [
+            | inl quote ↦ subst (λ x. StartsWith (x ∷ bs) rest t) (sym (eqb-true b 34 quote))
+                (by_scan_begins bs (scan 0 bs) refl (sym (at_quote bs) ∙ subst (λ x. lexeme_at (x ∷ bs) ≡ found t left span rest) (eqb-true b 34 quote) e))
+            | inr no_quote ↦ by_sign_begins b bs (sign_at b (first bs)) refl (sym (at_sign b bs no_word no_number no_quote) ∙ e)
+          ]
+        ]
+      ]
 
 -- ---- blanks
 
@@ -220,37 +216,15 @@ blank_digit b digit = grind (arith, nat_tests)
 -- no token begins with a blank
 pub no_blank : (t : Token) (rest : List ℕ) → IsToken t → is_blank (first (spelled t ++ rest)) ≡ false
 no_blank (word And) rest is = refl
-no_blank (word Or) rest is = refl
-no_blank (word Not) rest is = refl
-no_blank (word In) rest is = refl
-no_blank (word Has) rest is = refl
-no_blank (word Exists) rest is = refl
-no_blank (word True) rest is = refl
-no_blank (word False) rest is = refl
-no_blank (word Null) rest is = refl
-no_blank (word Asc) rest is = refl
-no_blank (word Desc) rest is = refl
 no_blank (name []) rest is = let bare = name_read [] is in let no : false ≡ true = bare.1 in cc
 no_blank (name (b ∷ bs)) rest is = blank_letter b (name_read (b ∷ bs) is).1
-no_blank (quoted s) rest is = refl
 no_blank (number (pos n)) rest is =
     let low = ltb-true n (2 ^ 63) is in
     let (numeral, value) = decimal_is_IsNumeral n (omega arith) in
     ap is_blank (first_append (decimal n) rest numeral.0) ∙ blank_digit (first (decimal n)) (first_digit (decimal n) numeral.1 numeral.0)
-no_blank (number (negsuc n)) rest is = refl
 no_blank bad_number rest is = absurd is
 no_blank (sign (Compare Equal)) rest is = refl
-no_blank (sign (Compare Unequal)) rest is = refl
-no_blank (sign (Compare Less)) rest is = refl
-no_blank (sign (Compare AtMost)) rest is = refl
-no_blank (sign (Compare Greater)) rest is = refl
-no_blank (sign (Compare AtLeast)) rest is = refl
-no_blank (sign Open) rest is = refl
-no_blank (sign Close) rest is = refl
-no_blank (sign OpenList) rest is = refl
-no_blank (sign CloseList) rest is = refl
-no_blank (sign Comma) rest is = refl
-no_blank (sign Dot) rest is = refl
+no_blank t rest is = refl
 
 -- blanks before a token are passed over
 pub blanks_passed : (blanks : List ℕ) (t : Token) (rest : List ℕ) → list_all is_blank blanks ≡ true → IsToken t → after_blanks (blanks ++ (spelled t ++ rest)) ≡ spelled t ++ rest
@@ -268,7 +242,7 @@ pub next_written : (text : List ℕ) (t : Token) (left : ℕ) (span rest : List 
 unfolding lexeme
 next_written text t left span rest e good =
     let n = prefix_len is_blank text in
-    let f = token_written (after_blanks text) t left span rest e good in (
+    let f = token_written t left span rest (after_blanks text) e good in (
       take n text,
       record {
         blank = run_passes is_blank text;

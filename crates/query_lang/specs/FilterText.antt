@@ -24,9 +24,9 @@ decided f =
     if nat_lt most_leaves (leaves f) then Err (TooMany (capped (leaves f)))
     else (if nat_lt most_height (height f) then Err (TooDeep (capped (height f))) else Ok f)
 
--- the answer is a filter, or reports a limit of whole filters
-abbrev pub IsWhole : Result Filter QueryRefusal → Type 0
-IsWhole (Ok f) = Unit {0}
+-- the answer is a value, as a filter, or reports a limit of whole filters
+abbrev pub IsWhole : {A : Type 0} → Result A QueryRefusal → Type 0
+IsWhole (Ok value) = Unit {0}
 IsWhole (Err (TooMany leaves)) = Unit {0}
 IsWhole (Err (TooDeep depth)) = Unit {0}
 IsWhole (Err (Syntax field place)) = ⊥
