@@ -1,6 +1,5 @@
 -- Pieces that were given one behind the other.
 use Rattle.std.proofs.Common.{◌≡◌, ℕ, ◌+◌, ◌<◌, ◌≤◌, List, [], ◌∷◌, ◌++◌, Result, Ok, Err, length, length-append, take, drop, get_or, sym, subst, ap, ◌∙◌, arith}
-use Rattle.std.specs.List.{flat_map}
 use Rattle.std.proofs.lemmas.Grind.{flat_map-append}
 use Rattle.std.proofs.lemmas.List.{append-nil, take_more, take-append-drop, take-append-le, take_all}
 use Rattle.q_outside.specs.Ends.{End, Gives, GaveBytes, GavePart, Gave}

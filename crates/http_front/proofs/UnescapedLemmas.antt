@@ -19,7 +19,7 @@ use Rattle.q_base.specs.declared.name.NameRefusal.{NameRefusal}
 use Rattle.q_base.specs.declared.name.NameRefusal.TheVariants.{Empty, TooLong, Memory}
 use Rattle.http_message.specs.Message.{Message}
 use Rattle.http_front.specs.Answered.{and_then}
-use Rattle.http_front.specs.Asks.{ask_at, ask_by, ask_of, fields_or_not, has_host, method_in, name_in, name_or_not, put_of, record_by}
+use Rattle.http_front.specs.Asks.{ask_at, ask_by, ask_of, fields_or_not, has_host, method_in, name_in, name_or_not, record_by}
 use Rattle.http_front.specs.Free.{is_bare_put, is_free_at, is_free_with}
 use Rattle.http_front.specs.Query.{fields_in}
 use Rattle.http_front.specs.Routes.{route_of, served_of, serves, collection_in, id_in}
@@ -27,7 +27,6 @@ use Rattle.http_front.specs.Target.{local_part, path_of, query_of, or_root}
 use Rattle.http_front.specs.declared.refused.Refused.{Refused}
 use Rattle.http_front.specs.declared.ask.Ask.{Ask}
 use Rattle.http_front.specs.declared.routes.Method.{Method}
-use Rattle.http_front.specs.declared.routes.Method.TheVariants.{Get, Head, Post, Put, Delete}
 use Rattle.http_front.specs.declared.routes.Served.{Served}
 use Rattle.http_front.specs.declared.routes.Route.{Route}
 use Rattle.http_front.specs.declared.routes.Route.TheVariants.{Record}

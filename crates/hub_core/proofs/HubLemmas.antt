@@ -1,5 +1,5 @@
 -- The steps of the hub's calls.
-use Rattle.std.proofs.Common.{◌≡◌, ℕ, ◌+◌, ◌≤◌, max, nat_lt, List, [], ◌∷◌, ◌++◌, None, length, slice_index_or, All, if◌then◌else◌, refl, sym, ap, ap₂, ◌∙◌, subst, inl}
+use Rattle.std.proofs.Common.{◌≡◌, ℕ, ◌+◌, ◌≤◌, max, nat_lt, List, [], ◌∷◌, ◌++◌, length, slice_index_or, All, if◌then◌else◌, refl, sym, ap, ap₂, ◌∙◌, subst, inl}
 use Rattle.std.specs.List.{list_any}
 use Rattle.std.specs.List.Sorted.{IsPermutation}
 use Rattle.query_normal.specs.Bits.{flat_bits}
@@ -8,7 +8,6 @@ use Rattle.query_normal.specs.declared.key.KeyShape.{KeyShape}
 use Rattle.issued_expiries.specs.Copies.{Copy, latest_where, SameCopies}
 use Rattle.flat_snapshot.specs.PageText.{page_with}
 use Rattle.commit_book.specs.Contents.{Contents}
-use Rattle.commit_book.specs.Names.{AreNamesOf}
 use Rattle.commit_book.specs.declared.change.Change.{Change}
 use Rattle.hub_model.specs.Record.{is_recorded, record_of, bits_of, page_of}
 use Rattle.hub_model.specs.Setting.{Setting}
@@ -19,7 +18,7 @@ use Rattle.hub_model.proofs.Recorded.{record-permutes, bits-permute}
 use Rattle.hub_model.proofs.Untils.{recorded_until}
 use Rattle.hub_core.specs.declared.invalidations.Invalidation.{Invalidation}
 use Rattle.hub_core.specs.Invalidations.{AreInvalidationsOf, invalidated_until}
-use Rattle.hub_core.specs.HubState.{HubView, IsAt, IsLean, hub_of}
+use Rattle.hub_core.specs.HubState.{HubView, IsAt, hub_of}
 use Rattle.hub_core.specs.CopiesView.{CopiesView, Passes, lifetime, invalidated_keys, until_in, AreInvalidated, IsInvalidationReserved, CanInvalidate}
 use Rattle.hub_core.proofs.IssueLemmas.{active-later}
 use Rattle.hub_core.proofs.MatchLemmas.{invalidations-raise}

@@ -1,5 +1,5 @@
 -- What the invalidations of a match raise.
-use Rattle.std.proofs.Common.{◌≡◌, ℕ, zero, suc, ◌+◌, ◌<◌, ◌≤◌, ◌==◌, Bool, true, false, ◌&&◌, ◌||◌, ◌⊎◌, max, nat_lt, nat_le, List, [], ◌∷◌, ◌++◌, length, map, All, is_some, Option, Some, None, unwrap_or, slice_get, slice_index_or, get_or, take, option_map, option_and_then, bytes_eq, if◌then◌else◌, refl, sym, ap, ap₂, ◌∙◌, subst, arith, inl, inr}
+use Rattle.std.proofs.Common.{◌≡◌, ℕ, zero, suc, ◌+◌, ◌<◌, ◌≤◌, ◌==◌, Bool, true, false, ◌&&◌, ◌||◌, ◌⊎◌, max, nat_lt, nat_le, List, [], ◌∷◌, ◌++◌, length, map, is_some, Option, Some, None, unwrap_or, slice_get, slice_index_or, get_or, take, option_map, option_and_then, bytes_eq, if◌then◌else◌, refl, sym, ap, ap₂, ◌∙◌, arith, inl, inr}
 use Rattle.std.specs.List.{list_any}
 use Rattle.std.proofs.lemmas.Bool.{cases_Bool, cases_lt, lt-ltb, le-ltb, le-leb, lt-leb, ltb-true, leb-true, eq-eqb, eqb-true, or_left, or_right}
 use Rattle.std.proofs.Math.Bool.{and-true, and-false, and_comm, or-false}
@@ -22,7 +22,7 @@ use Rattle.hub_core.specs.Invalidations.{key_of, altered_key, is_key, is_invalid
 use Rattle.hub_core.specs.HubState.{HasCopies, copy_of}
 use Rattle.hub_core.specs.CopiesView.{until_below}
 use Rattle.hub_core.proofs.CopyLemmas.{latest, latest-cons}
-use Rattle.hub_core.proofs.GreatestLemmas.{best, best-cons, best-append, best-hit, best-le}
+use Rattle.hub_core.proofs.GreatestLemmas.{best, best-cons, best-append, best-le}
 use Rattle.hub_core.proofs.IssueLemmas.{inactive-none}
 
 -- ---- the last copy of a key

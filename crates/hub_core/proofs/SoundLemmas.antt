@@ -5,7 +5,7 @@ use Rattle.std.proofs.lemmas.Bool.{cases_Bool, ltb-true}
 use Rattle.query_normal.specs.Keys.{same_key}
 use Rattle.query_normal.specs.SameKey.{same_key-Decides}
 use Rattle.query_normal.specs.declared.key.KeyShape.{KeyShape}
-use Rattle.issued_expiries.specs.Copies.{Copy, unexpired, latest_of, latest_where, is_active, active_keys, SameCopies, with_copy}
+use Rattle.issued_expiries.specs.Copies.{Copy, unexpired, latest_of, is_active, active_keys, SameCopies, with_copy}
 use Rattle.issued_expiries.specs.Expiries.{Issued}
 use Rattle.expiring_filter.specs.Filter.{Filter}
 use Rattle.expiring_filter.specs.Held.{Expires, put_until, is_among}

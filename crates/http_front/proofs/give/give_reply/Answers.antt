@@ -1,4 +1,4 @@
-use Rattle.std.proofs.Common.{◌≡◌, ◌++◌, refl, ◌∙◌, ap}
+use Rattle.std.proofs.Common.{◌++◌, ◌∙◌, ap}
 use Rattle.http_front.proofs.GiveLemmas.{reply_given}
 use Rattle.http_front.proofs.give.give_reply.Goals as goal
 

@@ -1,5 +1,5 @@
 -- the loop goes commit by commit
-use Rattle.std.proofs.Common.{◌≡◌, ◌≤◌, ℕ, List, ap, sym, subst, rules, arith}
+use Rattle.std.proofs.Common.{◌≡◌, ℕ, List, ap, sym, subst, rules, arith}
 use Rattle.issued_expiries.specs.Copies.{Copy}
 use Rattle.hub_core.specs.declared.invalidations.Invalidation.{Invalidation}
 use Rattle.hub_core.specs.CopiesView.{CopiesView}

@@ -1,5 +1,5 @@
 use Rattle.std.proofs.Common.{◌∙◌, ap, sym, get_or, arith}
-use Rattle.http_front.proofs.PieceLemmas.{failed_inside, given_more, all_given}
+use Rattle.http_front.proofs.PieceLemmas.{failed_inside}
 use Rattle.http_front.proofs.pieces.PartsBody.give.Goals as goal
 
 pub returns-in-Err : goal.returns-in-Err

@@ -1,5 +1,5 @@
 -- the copies and the invalidated keys move to the same clock
-use Rattle.std.proofs.Common.{ℕ, ap, sym, ◌∙◌, subst}
+use Rattle.std.proofs.Common.{ℕ, ap, ◌∙◌, subst}
 use Rattle.expiring_filter.specs.Filter.{Filter}
 use Rattle.expiring_filter.specs.Held.{Expires}
 use Rattle.hub_core.specs.CopiesView.{CopiesView, while_later, until_in}

@@ -1,5 +1,5 @@
 -- a copy that may be kept at all is later than the clock, and its key was active or one more may be
-use Rattle.std.proofs.Common.{◌≡◌, ◌<◌, ◌+◌, nat_lt, ◌&&◌, ap, sym, ◌∙◌, subst, arith}
+use Rattle.std.proofs.Common.{◌<◌, ◌+◌, nat_lt, ◌&&◌, ap, sym, ◌∙◌, subst, arith}
 use Rattle.query_normal.specs.Keys.{same_key}
 use Rattle.issued_expiries.specs.Copies.{is_active, active_keys}
 use Rattle.hub_core.specs.CopiesView.{CopiesView, may_issue, IsReadyFor}
