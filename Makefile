@@ -9,6 +9,8 @@ fmt: ## lays out every crate
 	@for crate in $(CRATES); do (cd crates/$$crate && rt fmt) || exit 1; done
 lint: ## tests the style that rt does not, the marks of what must be believed, the claims and the map
 	@status=0; for test in lint words claims map believe; do sh tools/$$test.sh || status=1; done; exit $$status
+test: ## runs every test and example without a proof, in minutes
+	@sh tools/test.sh
 edits: ## tries the must-fail edits; CRATE=name for one crate
 	rt must-fail $(CRATE)
 plant: named ## lists wrong bodies that the contracts of CRATE=name let through
@@ -27,4 +29,4 @@ ci: fmt lint ## the gate, as a merge runs it, after the layout and the style
 
 named:
 	@test -n "$(CRATE)" || { echo "say which: CRATE=name" >&2; exit 2; }
-.PHONY: help check fmt lint edits plant crate program run example ci named
+.PHONY: help check fmt lint test edits plant crate program run example ci named
