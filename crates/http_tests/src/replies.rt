@@ -1,9 +1,9 @@
 //! Replies, to the byte.
+use http::StatusCode;
 use http_front::{
     Allow, DocumentReason, Head, Parts, Refused, ReplyRoom, Shape, Told, give_pieces, give_reply,
     reply_text, write_body,
 };
-use http::StatusCode;
 use http_message::FramingRefusal;
 use hub_model::{Answer, Found, Matched, Outcome, Stats, Written};
 use q_base::{Commit, Moment, SharedText, Text};

@@ -1,7 +1,7 @@
 //! What no clause says: that a key is made where there is memory.
 
-use query_normal::Key;
 use q_base::Name;
+use query_normal::Key;
 use std::test::Fail;
 
 #[test]

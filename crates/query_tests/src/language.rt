@@ -1,8 +1,8 @@
 //! Texts with their answers.
 
-use query_lang::{Fields, QueryRefusal, read_query};
 use q_base::Name;
 use query_core::{Kind, Query, print_query};
+use query_lang::{Fields, QueryRefusal, read_query};
 use std::alloc::Global;
 use std::test::Fail;
 

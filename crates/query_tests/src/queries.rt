@@ -1,11 +1,11 @@
 //! What no contract says: that calls succeed where there is memory, on worked queries.
 
+use q_base::Name;
+use q_doc::{Doc, Node, NodeText, Path, Shape, Text};
 use query_core::{
     Docs, Filter, Form, Op, Order, Query, Row, compare_rows, print_filter, print_order,
     print_query, satisfies, window,
 };
-use q_base::Name;
-use q_doc::{Doc, Node, NodeText, Path, Shape, Text};
 use std::alloc::{AllocError, Global};
 use std::test::Fail;
 
