@@ -1,5 +1,5 @@
 -- A run of the program, of what serving its connection did.
-use Rattle.std.proofs.Common.{◌≡◌, ℕ, min, List, [], ◌∷◌, Option, Some, None, Result, Ok, Err, refl, sym, ap, ◌∙◌, subst, inl, inr}
+use Rattle.std.proofs.Common.{◌≡◌, ℕ, min, List, [], ◌∷◌, Option, Some, refl, sym, ap, ◌∙◌, subst, inl, inr}
 use Rattle.std.specs.List.{enumerate_from}
 use Rattle.dialogue.specs.Dialogue.{Sides}
 use Rattle.hub_model.specs.declared.entry.Entry.{Entry}
@@ -9,7 +9,7 @@ use Rattle.q_base.specs.declared.moment.TheConstants.{GREATEST_SECONDS}
 use Rattle.q_outside.specs.Ends.{End, Ticks}
 use Rattle.q_outside.specs.declared.clocks.FixedClock.{FixedClock}
 use Rattle.q_outside.specs.declared.served.Served.{Served}
-use Rattle.quaestor_prog.specs.Run.{AreAt, AreTimed, Pipes, IsRun}
+use Rattle.quaestor_prog.specs.Run.{AreAt, AreTimed, IsRun}
 use Rattle.quaestor_prog.specs.Status.{status_of}
 use Rattle.clap.specs.Words.{Text, Kinds, fault_of}
 use Rattle.quaestor_prog.specs.Commands.{AskHelp, IsAnswered, pipe_app}

@@ -1,5 +1,5 @@
 -- What options show is one configuration and one clock.
-use Rattle.std.proofs.Common.{◌≡◌, ◌||◌, ◌<◌, ◌≤◌, ◌^◌, ℕ, Bool, true, false, List, [], ◌∷◌, Option, Some, None, Result, Ok, Err, nat_lt, if◌then◌else◌, refl, sym, ap, ◌∙◌, subst, arith, decimal}
+use Rattle.std.proofs.Common.{◌≡◌, ◌||◌, ◌<◌, ◌≤◌, ◌^◌, ℕ, Bool, true, false, List, [], ◌∷◌, Option, Some, None, Result, Ok, nat_lt, if◌then◌else◌, refl, sym, ap, ◌∙◌, subst, arith, decimal}
 use Rattle.std.proofs.lemmas.Fmt.{decimal_injective}
 use Rattle.std.specs.Prelude.{map, slice_get, option_map, codes}
 use Rattle.std.specs.Borrow.{Bor}
@@ -7,7 +7,7 @@ use Rattle.clap.specs.Words.{Row, Text, first_of}
 use Rattle.hub_core.specs.Config.{configured}
 use Rattle.hub_core.specs.declared.config.ConfigRefusal.{ConfigRefusal}
 use Rattle.hub_model.specs.Setting.{Setting, IsWithinLimits}
-use Rattle.quaestor_prog.specs.Words.{IsNumber, IsClock, IsConfiguration, AreOptions, IsPipe}
+use Rattle.quaestor_prog.specs.Words.{IsNumber, IsClock, IsConfiguration, IsPipe}
 
 -- the first word, as a text
 pub first_is : {A : Type 0} (f : A → Text) (xs : List A) (x : A) (t : Text) → slice_get xs 0 ≡ Some x → f x ≡ t → slice_get (map f xs) 0 ≡ Some t

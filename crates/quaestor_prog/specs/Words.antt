@@ -36,6 +36,10 @@ pub record IsPipe (words : List Text) (g : Setting) (at : Option ℕ) : Type 0 w
   pub taken : fault_of pipe_app words ≡ []
   pub options : AreOptions (matches_of pipe_app words) g at
 
+-- the words run a command, or ask for a help or for the version
+abbrev pub AreTaken : List Text → Type 0
+AreTaken words = ((g : Setting) × (at : Option ℕ) × IsPipe words g at) ⊎ AskHelp words
+
 -- what the words ask for
 abbrev pub Asks : List Text → Invocation → Type 0
 Asks words (Pipe p) = IsPipe words p.config p.clock

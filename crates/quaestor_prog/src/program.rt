@@ -1,10 +1,10 @@
 //! The top call.
-ghost use Rattle.std.specs.Prelude.{◌⊎◌, ℕ, Option, None, IfOk, IfSome, map, string_bytes};
+ghost use Rattle.std.specs.Prelude.{◌⊎◌, ℕ, Option, None, IfOk, IfSome, IfNone, map, string_bytes};
 ghost use Rattle.hub_model.specs.Setting.{Setting};
 ghost use Rattle.q_outside.specs.Ends.{Ticks};
 ghost use Rattle.quaestor_prog.specs.Commands.{AskHelp};
 ghost use Rattle.quaestor_prog.specs.Run.{AreTimed, IsHelped, IsRefused, IsRun, IsText, IsUnbegun, IsUsage};
-ghost use Rattle.quaestor_prog.specs.Words.{IsPipe};
+ghost use Rattle.quaestor_prog.specs.Words.{AreTaken, IsPipe};
 
 use crate::refusal::Refusal;
 use crate::status::Status;
@@ -68,7 +68,8 @@ pub fn run<S: Source, K: Sink, C: Clock>(
 
 /// Why no command takes the words, for a message. None where one takes them.
 pub fn refusal_of<'a>(alloc: Global, words: &'a [String]) -> Result<Option<Refusal<'a>>, Memory>
-    ensures { IfOk result (λ o. IfSome o (λ _. (g : Setting) (at : Option ℕ) → IsPipe (map string_bytes words.entry.now) g at → ⊥)) }
+    ensures some { IfOk result (λ o. IfSome o (λ _. AreTaken (map string_bytes words.entry.now) → ⊥)) }
+    ensures none { IfOk result (λ o. IfNone o (AreTaken (map string_bytes words.entry.now))) }
 {
     match read_words(alloc, words)? {
         Invocation::Invalid(refusal) => Ok(Some(refusal)),
