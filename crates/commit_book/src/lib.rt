@@ -9,6 +9,8 @@ mod index;
 pub mod laws;
 mod refusal;
 mod row;
+#[cfg(test)]
+mod tests;
 
 pub use book::Book;
 pub use change::{Change, CommitRow};

@@ -6,3 +6,6 @@ mod filter;
 pub mod laws;
 
 pub use filter::CountingFilter;
+
+#[cfg(test)]
+mod tests;

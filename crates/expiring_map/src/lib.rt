@@ -10,3 +10,6 @@ mod timed;
 
 pub use map::ExpiringMap;
 pub use timed::Timed;
+
+#[cfg(test)]
+mod tests;

@@ -10,3 +10,6 @@ pub use laws::pages_have_one_encoding;
 pub use page::Page;
 pub use read::PageRefusal;
 pub use write::{set_bit, write_head, write_page};
+
+#[cfg(test)]
+mod tests;

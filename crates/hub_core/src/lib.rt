@@ -12,3 +12,6 @@ pub use config::{Config, ConfigRefusal};
 pub use hub::Hub;
 pub use laws::hubs_represent_histories;
 pub use page_room::PageRoom;
+
+#[cfg(test)]
+mod tests;

@@ -9,3 +9,6 @@ pub mod laws;
 pub use commit_book::Change;
 pub use commits::Commits;
 pub use entry::{Answer, Condition, Entry, Found, Matched, Outcome, Stats, Tags, Written};
+
+#[cfg(test)]
+mod tests;

@@ -1,7 +1,7 @@
 //! What no clause says: the worked case of the capacity, that calls succeed where there is memory,
 //! and that look-ups take none.
 
-use commit_book::{Book, BookRefusal, Change};
+use crate::{Book, BookRefusal, Change};
 use q_base::Name;
 use q_doc::Doc;
 use std::alloc::Global;

@@ -4,8 +4,8 @@ ghost use Rattle.std.specs.Prelude.{◌≡◌, IfOk};
 ghost use Rattle.hub_model.specs.Setting.{default_setting};
 ghost use Rattle.hub_core.specs.PageRoom.{IsRoomFor};
 
+use crate::{Config, Hub, PageRoom};
 use flat_snapshot::{set_bit, write_head};
-use hub_core::{Config, Hub, PageRoom};
 use hub_model::{Change, Commits, Condition, Found, Outcome, Tags, Written};
 use q_base::{Moment, Name};
 use q_doc::Doc;

@@ -1,6 +1,6 @@
 -- the buffer was made for the hub
 use Rattle.hub_core.specs.PageRoom.{IsRoomFor}
-use Rattle.hub_tests.proofs.hubs.follow.Given as goal
+use Rattle.hub_core.proofs.tests.follow.Given as goal
 
 abbrev pub invariant-loop-step : goal.invariant-loop-step
 invariant-loop-step l = IsRoomFor l.hub.setting l.room
