@@ -14,6 +14,8 @@ use Rattle.query_lang.specs.FilterReading.{segment_of}
 use Rattle.query_lang.specs.Grammar.{Segment, bare, in_quotes, segment_token, segment_key, path_tokens, path_keys, Item, item_tokens, more_items, order_tokens, item_meaning, order_meaning, ItemsFit, direction_tokens, is_descending}
 use Rattle.query_lang.specs.OrderReading.{State, start, step, on_token, on_item, on_segment, on_path, on_joint, without_pending, ended, order_rules, read_order}
 use Rattle.query_lang.specs.OrderText.{IsOrderText}
+use Rattle.query_lang.specs.Lexing.{lexeme}
+use Rattle.query_lang.specs.Reading.{tokens}
 use Rattle.query_lang.specs.Spelling.{Tokenizes}
 use Rattle.query_lang.specs.Tokens.{Token, word, bad_number, sign}
 use Rattle.query_lang.proofs.Readings.{Follows, taken, segment_taken, written_read, read_written, outcome_has}
@@ -292,3 +294,9 @@ read_order_text bytes o e =
     let reads : ◌≡◌ {A = Result Order QueryRefusal} (Ok (order_meaning items)) (Ok o) = sym (order_read items few fits) ∙ ap (outcome start) item_list ∙ same ∙ e in
     let means : order_meaning items ≡ o = cc in
     record { items = items; tokenizes = subst (Tokenizes bytes) (sym item_list) tokenizes; few = few; fits = fits; means = means }
+
+-- a text of no byte is the empty order
+pub no_order : (bytes : List ℕ) → length bytes ≡ 0 → read_order bytes ≡ Ok []
+unfolding read_order tokens lexeme ended
+no_order [] e = refl
+no_order (b ∷ bs) e = absurd cc

@@ -1,9 +1,10 @@
 //! Queries, read from the five fields of a request.
-ghost use Rattle.std.specs.Prelude.{◌≡◌, ◌+◌, ◌-◌, ◌<◌, ◌≤◌, ◌^◌, length, Ok, IfOk};
+ghost use Rattle.std.specs.Prelude.{◌≡◌, ◌+◌, ◌-◌, ◌<◌, ◌≤◌, ◌^◌, [], length, Ok, IfOk};
 ghost use Rattle.query_core.specs.Limits.{IsQuery};
 ghost use Rattle.query_core.specs.declared.query.Query.{Query};
 ghost use Rattle.query_core.specs.declared.query.Kind.{Kind};
 ghost use Rattle.query_lang.specs.Numbers.{read_number, number_within};
+ghost use Rattle.query_lang.specs.OrderReading.{read_order};
 ghost use Rattle.query_lang.specs.Queries.{read_query, filter_field, number_field, kind_field, bytes_of};
 ghost use Rattle.query_lang.specs.QueryText.{IsQueryText};
 ghost use Rattle.query_lang.specs.Refusals.{Gives};
@@ -15,7 +16,7 @@ use crate::reading::{read_filter, read_order};
 use crate::refusal::QueryRefusal;
 use crate::token::{Lexeme, TokenKind};
 use q_base::Name;
-use query_core::{Filter, Form, Kind, Query};
+use query_core::{Filter, Form, Kind, Order, Query};
 use std::alloc::Global;
 
 /// The fields of a query. An absent field and an empty one mean the same.
@@ -49,6 +50,8 @@ pub fn read_query(
 
     // Which refusal it is, and its offset.
     ensures exact { Gives (λ read. read) result (read_query collection fields.now) }
+    // Without a filter and an order there is an answer whatever memory there is.
+    ensures plain { bytes_of fields.now.f ≡ [] → bytes_of fields.now.o ≡ [] → result ≡ read_query collection fields.now }
 {
     read_fields(alloc, collection, fields)
 }
@@ -61,10 +64,11 @@ fn read_fields(
     fields: &Fields<'_>,
 ) -> Result<(Query, Kind), QueryRefusal>
     ensures gives { Gives (λ read. read) result (read_query collection fields.now) }
+    ensures plain { bytes_of fields.now.f ≡ [] → bytes_of fields.now.o ≡ [] → result ≡ read_query collection fields.now }
     ensures is_query { IfOk result (λ read. IsQuery read.0) }
 {
     let filter = filter_field(alloc, text_of(fields.f))?;
-    let order = read_order(alloc, text_of(fields.o))?;
+    let order = order_field(alloc, text_of(fields.o))?;
     let skip = number_field(text_of(fields.s), b's', 0, MAX_SKIP, 0)?;
     let take = number_field(text_of(fields.n), b'n', 1, MAX_TAKE, DEFAULT_TAKE)?;
     let kind = kind_field(text_of(fields.k))?;
@@ -90,7 +94,8 @@ fn text_of(field: Option<&str>) -> &str
 /// The filter of a field.
 #[tactic(auto, unfolding(crate::specs::Queries::filter_field))]
 fn filter_field(alloc: Global, text: &str) -> Result<Filter, QueryRefusal>
-    ensures { Gives (λ filter. filter) result (filter_field text.now) }
+    ensures gives { Gives (λ filter. filter) result (filter_field text.now) }
+    ensures empty { text.now ≡ [] → result ≡ filter_field text.now }
 {
     if text.is_empty() {
         return Ok(Filter {
@@ -98,6 +103,18 @@ fn filter_field(alloc: Global, text: &str) -> Result<Filter, QueryRefusal>
         });
     }
     read_filter(alloc, text)
+}
+
+/// The order of a field. An empty one takes no memory.
+#[tactic(auto, using(crate::proofs::OrderTextReading::no_order))]
+fn order_field(alloc: Global, text: &str) -> Result<Order, QueryRefusal>
+    ensures gives { Gives (λ order. order) result (read_order text.now) }
+    ensures empty { text.now ≡ [] → result ≡ read_order text.now }
+{
+    if text.is_empty() {
+        return Ok(Order::of(Vec::new(alloc)));
+    }
+    read_order(alloc, text)
 }
 
 /// The number of a field.
@@ -109,7 +126,7 @@ fn number_field(
     high: u32,
     default: u32,
 ) -> Result<u32, QueryRefusal>
-    ensures { Gives (λ number. number) result (number_field field low high default text.now) }
+    ensures { result ≡ number_field field low high default text.now }
 {
     if text.is_empty() {
         return Ok(default);
@@ -120,7 +137,7 @@ fn number_field(
 /// The number from `low` to `high` that a text is, without blanks.
 #[tactic(auto, unfolding(crate::specs::Numbers::read_number))]
 fn read_number(text: &str, field: u8, low: u32, high: u32) -> Result<u32, QueryRefusal>
-    ensures { Gives (λ number. number) result (read_number field low high text.now) }
+    ensures { result ≡ read_number field low high text.now }
 {
     let byte = first(text);
     if !byte.is_ascii_digit() && byte != b'-' {
@@ -153,7 +170,7 @@ fn number_within(
     left: usize,
     number: i64,
 ) -> Result<u32, QueryRefusal>
-    ensures { Gives (λ number. number) result (number_within field low high total left number) }
+    ensures { result ≡ number_within field low high total left number }
 {
     let Ok(number) = u32::try_from(number) else {
         return Err(QueryRefusal::BadNumber { field, place: 0 });
@@ -171,7 +188,7 @@ fn number_within(
 /// The kind of a field.
 #[tactic(auto, unfolding(crate::specs::Queries::kind_field))]
 fn kind_field(text: &str) -> Result<Kind, QueryRefusal>
-    ensures { Gives (λ kind. kind) result (kind_field text.now) }
+    ensures { result ≡ kind_field text.now }
 {
     if text.is_empty() || text == "objects" {
         Ok(Kind::Objects)
