@@ -1,5 +1,5 @@
 -- Believed. What the calls of a desk do that match all commits or fetch a page; and what contracts see of a desk that owns its hub.
-use Rattle.std.specs.Prelude.{◌≡◌, ℕ, ◌++◌, nat_lt, if◌then◌else◌, List, length, Some}
+use Rattle.std.specs.Prelude.{◌≡◌, ℕ, ◌++◌, ◌<◌, nat_lt, if◌then◌else◌, List, length, Some}
 use Rattle.hub_core.specs.PageRoom.{PageRoomView}
 use Rattle.hub_model.specs.declared.entry.Entry.{Entry}
 use Rattle.hub_model.specs.declared.entry.Entry.TheVariants.{Match, Fetch, Tick}
@@ -15,6 +15,10 @@ use Rattle.query_normal.specs.Pages.{Page}
 -- the entry that matches all commits of a state: a match up to the last one, or a tick where the front is there already
 abbrev pub matching : State → ℕ → Entry
 matching s moment = if nat_lt s.front (length s.journal) then Match moment (length s.journal) else Tick moment
+
+-- there are commits that were not matched yet
+abbrev pub IsBehind : State → Type 0
+IsBehind s = s.front < length s.journal
 
 -- the front and the clock in the reply to such an entry
 abbrev pub IsFrontOf : Replied → Matched → Type 0

@@ -7,7 +7,7 @@ ghost use Rattle.hub_model.specs.Desk.{Makes, Learns};
 ghost use Rattle.hub_model.specs.Reply.{wrote, read, counted};
 ghost use Rattle.hub_model.specs.Setting.{Setting};
 ghost use Rattle.hub_model.specs.Step.{is_accepted, state_of};
-ghost use Rattle.hub_desk.specs.Desk.{MatchesAll, Fetches};
+ghost use Rattle.hub_desk.specs.Desk.{MatchesAll, Fetches, IsBehind};
 
 use hub_core::PageRoom;
 use hub_model::{Answer, Change, Condition, Matched, Stats, Tags, Written};
@@ -73,11 +73,13 @@ pub trait Desk {
         ensures setting { setting self.new ≡ setting self.old };
 
     /// Matches all commits against the issued copies: one entry, which is a tick
-    /// where the front is the last commit already.
+    /// where the front is the last commit already. It answers Memory only where it is not: a tick
+    /// needs no memory.
     fn match_all(&mut self, moment: Moment) -> Result<Matched, Memory>
         requires { is_ready self.old }
         ensures made { IfOk result (λ m. MatchesAll (setting self.old) (seen self.old) (seen self.new) (mine self.old) (mine self.new) moment m) }
         ensures memory { OnErr result (Learns (setting self.old) (seen self.old) (seen self.new) (mine self.old) (mine self.new)) }
+        ensures behind { OnErr result (IsBehind (state_of (setting self.old) (seen self.new))) }
         ensures again { OnErr result (is_ready self.new) }
         ensures anchor { anchor self.new ≡ anchor self.old }
         ensures setting { setting self.new ≡ setting self.old };
