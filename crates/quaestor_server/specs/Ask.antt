@@ -11,7 +11,7 @@ use Rattle.http_front.specs.declared.shape.Shape.{Shape}
 use Rattle.http_front.specs.declared.told.Told.{Told}
 use Rattle.http_front.specs.declared.told.Told.TheVariants as answers
 use Rattle.http_message.specs.Item.{Item, request, unframed}
-use Rattle.hub_desk.specs.Desk.{matching, IsFrontOf}
+use Rattle.hub_desk.specs.Desk.{matching, IsFrontOf, IsBehind}
 use Rattle.hub_model.specs.declared.entry.Entry.{Entry}
 use Rattle.hub_model.specs.declared.entry.Entry.TheVariants as entries
 use Rattle.hub_model.specs.declared.entry.Matched.{Matched}
@@ -59,11 +59,11 @@ abbrev pub IsFresh : Setting → List Entry → Entry → Type 0
 IsFresh g known (entries.Read moment key tags at) = length (state_of g known).journal ≤ at
 IsFresh g known e = Unit {0}
 
--- the entry of this request may run out of memory after a history: that of a write that would be accepted, of a read or of a match, and no other
+-- the entry of this request may run out of memory after a history: that of a write that would be accepted, of a read, or of a match where there are commits to match, and no other
 abbrev pub MayRunOut : Setting → List Entry → Result Ask Refused → Type 0
 MayRunOut g known (Ok (Write change condition)) = is_accepted g (state_of g known) change condition ≡ true
 MayRunOut g known (Ok (Read key tags head)) = Unit {0}
-MayRunOut g known (Ok MatchAll) = Unit {0}
+MayRunOut g known (Ok MatchAll) = IsBehind (state_of g known)
 MayRunOut g known (Ok (Fetch head)) = ⊥
 MayRunOut g known (Ok (Query collection fields head)) = ⊥
 MayRunOut g known (Ok (Purges fields head)) = ⊥
