@@ -9,6 +9,7 @@ use Rattle.quaestor_prog.specs.Commands.{number_rule, versioned, pipe_app, progr
 use Rattle.quaestor_prog.specs.Words.{Asks, IsAnswerOf}
 use Rattle.quaestor_prog.specs.declared.words.Invocation.{Invocation}
 use Rattle.quaestor_prog.specs.declared.words.Invocation.TheVariants.{Pipe, Help, Invalid}
+use Rattle.quaestor_prog.specs.declared.refusal.Refusal.TheVariants as why
 use Rattle.quaestor_prog.proofs.Singles.{Single, fault_single}
 
 -- one option after another makes the command
@@ -68,21 +69,32 @@ pub program_no_help : (words : List Text) → (NamesPipe words → ⊥) → faul
 program_no_help words other taken (inl h) = other h.0
 program_no_help words other taken (inr h) = nothing_answered _ taken h.1
 
+-- an error that is not out of memory has one of the kinds
+pub among_kinds : (kinds : Kinds) (of own : ErrorKind) → (of ≡ kind.OutOfMemory) ⊎ IsAmong of kinds → of ≢ kind.OutOfMemory → own ≡ of → IsAmong own kinds
+among_kinds kinds of own (inl memory) some e = absurd (some memory)
+among_kinds kinds of own (inr among) some e = subst (λ k. IsAmong k kinds) (sym e) among
+
 -- clap's error says what the words of `pipe` ask for, or those of the program
 pub asks_pipe : {E : Type 0} (words : List Text) (of : ErrorKind) (r : Result Invocation E) → NamesPipe words → (of ≡ kind.OutOfMemory) ⊎ IsAmong of (fault_of pipe_app words) → IsAnswerOf of r → IfOk r (Asks words)
 asks_pipe words of (Ok (Pipe p)) named k a = absurd a
 asks_pipe words of (Ok (Help t)) named k a = inl (named, answered _ of k a)
-asks_pipe words of (Ok (Invalid r)) named k a = (
+asks_pipe words of (Ok (Invalid (why.Words e))) named k a = (
   (λ g at p. not_taken _ of k a.0 p.taken),
   (λ h. ⊎_elim (λ q. unanswered _ of (pipe_single words) k a.0 a.1 a.2 q.1) (λ q. q.0 named) h),
+  inl (named, among_kinds _ of _ k a.0 a.3),
 )
+asks_pipe words of (Ok (Invalid why.NoCommand)) named k a = absurd a
+asks_pipe words of (Ok (Invalid (why.Value v))) named k a = absurd a
 asks_pipe words of (Err e) named k a = tt
 
 pub asks_program : {E : Type 0} (words : List Text) (of : ErrorKind) (r : Result Invocation E) → (NamesPipe words → ⊥) → (of ≡ kind.OutOfMemory) ⊎ IsAmong of (fault_of program_app words) → IsAnswerOf of r → IfOk r (Asks words)
 asks_program words of (Ok (Pipe p)) other k a = absurd a
 asks_program words of (Ok (Help t)) other k a = inr (other, answered _ of k a)
-asks_program words of (Ok (Invalid r)) other k a = (
+asks_program words of (Ok (Invalid (why.Words e))) other k a = (
   (λ g at p. other p.named),
   (λ h. ⊎_elim (λ q. other q.0) (λ q. unanswered _ of (program_single words) k a.0 a.1 a.2 q.1) h),
+  inr (other, among_kinds _ of _ k a.0 a.3),
 )
+asks_program words of (Ok (Invalid why.NoCommand)) other k a = absurd a
+asks_program words of (Ok (Invalid (why.Value v))) other k a = absurd a
 asks_program words of (Err e) other k a = tt

@@ -4,7 +4,7 @@ ghost use Rattle.hub_model.specs.Setting.{Setting};
 ghost use Rattle.q_outside.specs.Ends.{Ticks};
 ghost use Rattle.quaestor_prog.specs.Commands.{AskHelp};
 ghost use Rattle.quaestor_prog.specs.Run.{AreTimed, IsHelped, IsRefused, IsRun, IsText, IsUnbegun, IsUsage};
-ghost use Rattle.quaestor_prog.specs.Words.{AreTaken, IsPipe};
+ghost use Rattle.quaestor_prog.specs.Words.{AreTaken, IsPipe, IsReason};
 
 use crate::refusal::Refusal;
 use crate::status::Status;
@@ -70,6 +70,7 @@ pub fn run<S: Source, K: Sink, C: Clock>(
 pub fn refusal_of<'a>(alloc: Global, words: &'a [String]) -> Result<Option<Refusal<'a>>, Memory>
     ensures some { IfOk result (λ o. IfSome o (λ _. AreTaken (map string_bytes words.entry.now) → ⊥)) }
     ensures none { IfOk result (λ o. IfNone o (AreTaken (map string_bytes words.entry.now))) }
+    ensures reason { IfOk result (λ o. IfSome o (IsReason (map string_bytes words.entry.now))) }
 {
     match read_words(alloc, words)? {
         Invocation::Invalid(refusal) => Ok(Some(refusal)),

@@ -3,7 +3,7 @@ ghost use Rattle.std.specs.Prelude.{◌≡◌, ℕ, ◌<◌, ◌≤◌, ◌^◌,
 ghost use Rattle.clap.specs.Words.{first_of, found_of, kind_of, rows_of};
 ghost use Rattle.hub_model.specs.Setting.{Setting};
 ghost use Rattle.quaestor_prog.specs.Commands.{NamesPipe};
-ghost use Rattle.quaestor_prog.specs.Words.{AreOptions, Asks, IsAnswerOf, IsClock, IsConfiguration, IsNumber};
+ghost use Rattle.quaestor_prog.specs.Words.{AreOptions, Asks, IsAnswerOf, IsBadValue, IsClock, IsConfiguration, IsNumber, IsRange};
 
 use crate::commands::{pipe_command, program_command};
 use crate::refusal::{BadValue, Refusal};
@@ -84,6 +84,7 @@ fn answer_of<'a>(error: Error) -> Result<Invocation<'a>, Memory>
 fn pipe_options<'a>(matches: &ArgMatches<'a>) -> Result<PipeOptions, BadValue<'a>>
     ensures ok { IfOk result (λ p. AreOptions (rows_of (found_of matches.now)) p.config p.clock) }
     ensures err { IfErr result (λ _. (g : Setting) (at : Option ℕ) → AreOptions (rows_of (found_of matches.now)) g at → ⊥) }
+    ensures value { IfErr result (IsBadValue (rows_of (found_of matches.now))) }
 {
     let config = config_of(matches)?;
     let clock = clock_of(matches)?;
@@ -94,6 +95,7 @@ fn pipe_options<'a>(matches: &ArgMatches<'a>) -> Result<PipeOptions, BadValue<'a
 fn config_of<'a>(matches: &ArgMatches<'a>) -> Result<Config, BadValue<'a>>
     ensures ok { IfOk result (IsConfiguration (rows_of (found_of matches.now))) }
     ensures err { IfErr result (λ _. (g : Setting) → IsConfiguration (rows_of (found_of matches.now)) g → ⊥) }
+    ensures value { IfErr result (IsBadValue (rows_of (found_of matches.now))) }
 {
     let log2_bits = number_of(matches, "bits", 10, 22, 17)?;
     let hashes = number_of(matches, "hashes", 1, 16, 6)?;
@@ -126,9 +128,11 @@ fn number_of<'a>(
     most: u64,
     default: u64,
 ) -> Result<u64, BadValue<'a>>
-    requires { (least ≤ default) × (default ≤ most) }
+    requires default { (least ≤ default) × (default ≤ most) }
+    requires range { IsRange option.now least most }
     ensures ok { IfOk result (λ n. IsNumber (first_of option.now (rows_of (found_of matches.now))) default n × (least ≤ n) × (n ≤ most)) }
     ensures err { IfErr result (λ _. (n : ℕ) → IsNumber (first_of option.now (rows_of (found_of matches.now))) default n → least ≤ n → n ≤ most → ⊥) }
+    ensures value { IfErr result (IsBadValue (rows_of (found_of matches.now))) }
 {
     match value_of(matches, option) {
         Some(found) => match number_within(found, least, most) {
@@ -148,6 +152,7 @@ fn number_of<'a>(
 fn clock_of<'a>(matches: &ArgMatches<'a>) -> Result<Option<u64>, BadValue<'a>>
     ensures ok { IfOk result (IsClock (first_of (codes "clock") (rows_of (found_of matches.now)))) }
     ensures err { IfErr result (λ _. (at : Option ℕ) → IsClock (first_of (codes "clock") (rows_of (found_of matches.now))) at → ⊥) }
+    ensures value { IfErr result (IsBadValue (rows_of (found_of matches.now))) }
 {
     match value_of(matches, "clock") {
         Some(found) => match read_number(found) {

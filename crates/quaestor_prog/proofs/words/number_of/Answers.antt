@@ -10,4 +10,4 @@ pub returns-in-None-number_within-clause-err : goal.returns-in-None-number_withi
 returns-in-None-number_within-clause-err c = λ n is. c.in-None-number_within.ensures.none n (number_is _ _ _ _ (shown _ _ _ c.value_of.ensures c.in-Some.is) is)
 
 pub returns-in-None-clause-ok : goal.returns-in-None-clause-ok
-returns-in-None-clause-ok c = (number_none _ _ (not_shown _ _ c.value_of.ensures c.in-None.is), c.requires.0, c.requires.1)
+returns-in-None-clause-ok c = (number_none _ _ (not_shown _ _ c.value_of.ensures c.in-None.is), c.requires.default.0, c.requires.default.1)

@@ -1,7 +1,7 @@
 -- clap's answer, of the command that it read
 use Rattle.std.proofs.Common.{refl, sym, subst}
 use Rattle.quaestor_prog.specs.Commands.{pipe_app}
-use Rattle.quaestor_prog.specs.Words.{AreOptions}
+use Rattle.quaestor_prog.specs.Words.{AreOptions, IsBadValue}
 use Rattle.quaestor_prog.proofs.CommandLemmas.{rows_are, taken_are, kinds_are, taken_no_help, asks_pipe}
 use Rattle.quaestor_prog.proofs.words.read_pipe.Goals as goal
 
@@ -16,6 +16,11 @@ pub returns-in-Ok : goal.returns-in-Ok
 returns-in-Ok c = (
   (λ g at p. c.in-Err-pipe_options.ensures.err g at (subst (λ rows. AreOptions rows g at) (sym (rows_are _ pipe_app _ _ c.in_ok-pipe_command.ensures refl c.in-Ok.ensures.matches)) p.options)),
   taken_no_help _ c.requires (taken_are _ pipe_app _ c.in_ok-pipe_command.ensures refl c.in-Ok.ensures.kinds),
+  (
+    c.requires,
+    taken_are _ pipe_app _ c.in_ok-pipe_command.ensures refl c.in-Ok.ensures.kinds,
+    subst (λ rows. IsBadValue rows c.in-Err-pipe_options.value) (rows_are _ pipe_app _ _ c.in_ok-pipe_command.ensures refl c.in-Ok.ensures.matches) c.in-Err-pipe_options.ensures.value,
+  ),
 )
 
 pub returns : goal.returns
