@@ -19,6 +19,7 @@ pub mod QueryTextReading
 pub mod ReadQueries
 pub mod PrintedSpelling
 pub mod PrintedReading
+pub mod OneNormalForm
 pub mod Runs
 pub mod Capped
 pub mod Steps

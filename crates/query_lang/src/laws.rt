@@ -1,10 +1,12 @@
 //! What the reading of texts has to do with the grammar. Each law is the contract of an empty function.
-ghost use Rattle.std.specs.Prelude.{◌≡◌, ◌≤◌, ℕ, List, Ok};
+ghost use Rattle.std.specs.Prelude.{◌≡◌, ◌≤◌, ℕ, Bool, false, List, Ok};
 ghost use Rattle.query_core.specs.Filters.{Filter, height};
 ghost use Rattle.query_core.specs.Limits.{leaves, most_leaves, most_height, IsQuery};
 ghost use Rattle.query_core.specs.declared.query.Query.{Query};
 ghost use Rattle.query_core.specs.declared.query.Kind.{Kind};
 ghost use Rattle.query_core.specs.Window.{Order};
+ghost use Rattle.query_normal.specs.Forms.{SameItems, forms, IsWithin};
+ghost use Rattle.query_normal.specs.Normal.{normal_filter};
 ghost use Rattle.query_lang.specs.FilterReading.{read_filter};
 ghost use Rattle.query_lang.specs.FilterText.{IsFilterText, decided, IsWhole};
 ghost use Rattle.query_lang.specs.declared.query.Fields.{Fields};
@@ -35,4 +37,10 @@ pub fn an_order_has_one_reading()
 /// A query of the language is read again from its printed text, whose parts are given as fields.
 pub fn printed_queries_are_read_again()
     ensures { (query : Query) (kind : Kind) (fields : Fields) → IsQuery query → IsPrinted fields query kind → read_query query.collection fields ≡ Ok (query, kind) }
+{}
+
+/// Filters that join the same operands by `and`, or by `or`, in any order, at any nesting and any number of
+/// times, have one normal form. Operands are the same where their normal forms are.
+pub fn operands_count_once_in_any_order()
+    ensures { (is_and : Bool) (f g : Filter) → IsWithin f → IsWithin g → SameItems (forms is_and f) (forms is_and g) → normal_filter false f ≡ normal_filter false g }
 {}

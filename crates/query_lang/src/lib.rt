@@ -18,7 +18,8 @@ mod token;
 
 pub use laws::{
     a_filter_has_one_reading, an_order_has_one_reading, filters_are_read_by_the_grammar,
-    limits_are_reported_of_filters, printed_queries_are_read_again,
+    limits_are_reported_of_filters, operands_count_once_in_any_order,
+    printed_queries_are_read_again,
 };
 pub use limits::{
     DEFAULT_TAKE, MAX_HEIGHT, MAX_LEAVES, MAX_OPEN, MAX_PATHS, MAX_SKIP, MAX_TAKE,

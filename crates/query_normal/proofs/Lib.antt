@@ -1,3 +1,12 @@
 pub mod BitLemmas
+pub mod JoinedTruth
 pub mod KeyTexts
+pub mod NormalMeaning
+pub mod NormalQueries
+pub mod OnceLemmas
+pub mod OneForm
+pub mod OrderForms
+pub mod Settled
+pub mod SizeForms
+pub mod SortLemmas
 pub mod StandardFacts

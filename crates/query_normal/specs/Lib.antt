@@ -1,6 +1,10 @@
 pub mod Bits
+pub mod Forms
 pub mod Keys
+pub mod Normal
 pub mod Pages
+pub mod Printed
+pub mod Repeats
 pub mod SameKey
 pub mod Storage
 pub use Rattle.q_base.specs.Name

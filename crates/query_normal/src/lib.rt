@@ -3,9 +3,20 @@
 #![tactic(auto)]
 
 pub mod bits;
+mod filters;
+mod forms;
 mod key;
 mod laws;
+mod normal_query;
+mod orders;
+mod sorting;
 mod text;
 
+pub use forms::normal;
 pub use key::{Key, KeyShape};
-pub use laws::{keys_are_equal_where_their_texts_are, same_key_is_equality};
+pub use laws::{
+    heights_do_not_grow, keys_are_equal_where_their_texts_are, leaves_do_not_grow,
+    normal_forms_are_queries, normal_forms_keep_their_meaning, normal_forms_keep_their_windows,
+    normal_forms_stay, same_key_is_equality,
+};
+pub use normal_query::Normal;

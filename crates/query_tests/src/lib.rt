@@ -6,4 +6,6 @@ mod keys;
 #[cfg(test)]
 mod language;
 #[cfg(test)]
+mod normal_forms;
+#[cfg(test)]
 mod queries;
