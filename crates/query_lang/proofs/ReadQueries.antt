@@ -1,5 +1,5 @@
 -- What is read of texts that are UTF-8 is a query within all limits, whose texts are UTF-8.
-use Rattle.std.proofs.Common.{◌≡◌, ℕ, zero, suc, ◌+◌, ◌^◌, ◌<◌, ◌≤◌, Bool, true, false, ◌&&◌, List, [], ◌∷◌, ◌++◌, length, get_or, drop, map, ℤ, pos, negsuc, Option, Some, None, Result, Ok, Err, IfOk, IsUtf8, refl, sym, ap, ◌∙◌, subst, arith, append_assoc, codes, lit<, ltb-true}
+use Rattle.std.proofs.Common.{◌≡◌, ℕ, zero, suc, ◌^◌, ◌<◌, ◌≤◌, Bool, true, false, List, [], ◌∷◌, ◌++◌, length, drop, map, ℤ, pos, negsuc, Option, Some, None, Ok, IsUtf8, refl, sym, ap, ◌∙◌, subst, arith, append_assoc, codes, lit<, ltb-true}
 use Rattle.std.proofs.lemmas.Bool.{and_parts}
 use Rattle.std.proofs.lemmas.Bool.Decides.{nat_tests}
 use Rattle.std.proofs.lemmas.Fmt.{IsAscii-decimal}
@@ -8,12 +8,11 @@ use Rattle.std.proofs.lemmas.List.Elements.{All-from_recursion}
 use Rattle.std.proofs.lemmas.Str.{IsUtf8-from_ascii}
 use Rattle.std.specs.List.{AllByRecursion, list_all, flat_map}
 use Rattle.std.specs.Str.{IsAscii}
-use Rattle.query_core.specs.Filters.{Filter, operands_of, operand_list, height}
+use Rattle.query_core.specs.Filters.{Filter, operands_of, height}
 use Rattle.query_core.specs.Limits.{IsScalar, IsUtf8Path, IsFilter, AreFilters, IsQuery, leaves, most_leaves, most_height, most_skip, most_take}
-use Rattle.query_core.specs.Print.{quoted_byte, quoted as quoted_text, is_bare, is_word, is_reserved}
+use Rattle.query_core.specs.Print.{quoted_byte, is_bare, is_word}
 use Rattle.query_core.specs.Window.{Order}
 use Rattle.query_core.specs.declared.filter.Op.TheVariants.{Equal, Unequal, Less, AtMost, Greater, AtLeast}
-use Rattle.query_core.specs.declared.query.Query.{Query}
 use Rattle.query_lang.specs.Bytes.{is_blank, is_word_byte}
 use Rattle.query_lang.specs.FilterText.{IsFilterText}
 use Rattle.query_lang.specs.Grammar.{Segment, bare, in_quotes, path_tokens, path_keys, segment_token, segment_key, Value, text_value, number_value, truth_value, null_value, value_token, value_tree, more_values, value_tokens, FilterTree, alternatives, OrTail, no_or, or_and, AndTree, conjuncts, AndTail, no_and, and_not, NotTree, negation, one, Atom, nested, always, never, existing, comparing, listing, holding, filter_tokens, or_tokens, and_tokens, further_tokens, not_tokens, atom_tokens, all_of, any_of, filter_meaning, or_meanings, and_meaning, further_meanings, not_meaning, atom_meaning, FilterFits, OrsFit, AndFits, FurtherFit, NotFits, AtomFits, Item, item_tokens, more_items, order_tokens, direction_tokens, item_meaning, order_meaning, ItemsFit}
@@ -27,7 +26,6 @@ use Rattle.query_lang.specs.Quoted.{unescaped, unescaped_byte}
 use Rattle.query_lang.specs.QueryText.{IsFilterField, no_filter, filter_text, IsNumberField, no_number, number_text}
 use Rattle.query_lang.specs.Spelling.{word_text, sign_text, spelled, IsToken, Tokenizes}
 use Rattle.query_lang.specs.Tokens.{Token, word, name, quoted, number, bad_number, sign}
-use Rattle.query_lang.specs.declared.refusal.QueryRefusal.{QueryRefusal}
 use Rattle.query_lang.specs.declared.token.Reserved.{Reserved}
 use Rattle.query_lang.specs.declared.token.Reserved.TheVariants.{And, Or, Not, In, Has, Exists, True, False, Null, Asc, Desc}
 use Rattle.query_lang.specs.declared.token.Sign.{Sign}
