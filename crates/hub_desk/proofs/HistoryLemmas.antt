@@ -63,6 +63,23 @@ module _ (h : HubView) (history : List Entry) (represented : Represents h histor
       let there = represented.state.time.front in
       (omega (arith, front_is, behind, there), omega (arith, to_is, same))
 
+  -- which entry matches all commits
+  module _ (moment front to : ℕ) (front_is : front ≡ h.front) (to_is : to ≡ h.commits) where
+    -- a match where the front is behind
+    pub match_is : front < to → Match moment to ≡ matching s moment
+    match_is behind =
+        let up : to ≡ length s.journal = to_is ∙ represented.state.book.commits in
+        let test : nat_lt s.front (length s.journal) ≡ true = let f = represented.state.time.front in lt-ltb s.front (length s.journal) (omega (arith, behind, up, front_is, f)) in
+        let here : matching s moment ≡ Match moment (length s.journal) = rw test refl in
+        ap (λ (n : ℕ). Match moment n) up ∙ sym here
+
+    -- a tick where it is the last commit
+    pub tick_is : to ≤ front → Tick moment ≡ matching s moment
+    tick_is ahead =
+        let up : to ≡ length s.journal = to_is ∙ represented.state.book.commits in
+        let test : nat_lt s.front (length s.journal) ≡ false = let f = represented.state.time.front in le-ltb s.front (length s.journal) (omega (arith, ahead, up, front_is, f)) in
+        let here : matching s moment ≡ Tick moment = rw test refl in sym here
+
   -- and of a desk that has seen all of it
   module _ (g : Setting) (seen longer : List Entry) (setting : g ≡ h.setting) (seen_is : seen ≡ history) where
     -- the answer of the hub is the reply to the entry there
@@ -105,38 +122,24 @@ module _ (h : HubView) (history : List Entry) (represented : Represents h histor
       seen_state = let nothing : history ++ [] ≡ history = append-nil history in cc
 
       -- by a match where the front is behind
-      match_behind : front < to → Match moment to ≡ matching (state_of g (history ++ [])) moment
-      match_behind behind =
-          let up : to ≡ length s.journal = to_is ∙ represented.state.book.commits in
-          let test : nat_lt s.front (length s.journal) ≡ true = let f = represented.state.time.front in lt-ltb s.front (length s.journal) (omega (arith, behind, up, front_is, f)) in
-          let here : matching s moment ≡ Match moment (length s.journal) = rw test refl in
-          ap (λ (n : ℕ). Match moment n) up ∙ sym here ∙ ap (λ (x : State). matching x moment) seen_state
-
       pub matched_all : (told : Matched) → front < to → IsNoted history longer (Match moment to ∷ []) → matched told ≡ reply_in h.setting s (Match moment to) → MatchesAll g seen longer (enumerate_from 0 seen) (enumerate_from 0 longer) moment told
       matched_all told behind n told_is =
           record {
             entry = Match moment to;
             replied = matched told;
             made = made (Match moment to) (matched told) (may_match front to front_is to_is behind) n told_is;
-            entry_is = match_behind behind;
+            entry_is = match_is moment front to front_is to_is behind ∙ ap (λ (x : State). matching x moment) seen_state;
             told_is = refl;
           }
 
       -- and by a tick where it is the last commit
-      tick_there : to ≤ front → Tick moment ≡ matching (state_of g (history ++ [])) moment
-      tick_there ahead =
-          let up : to ≡ length s.journal = to_is ∙ represented.state.book.commits in
-          let test : nat_lt s.front (length s.journal) ≡ false = let f = represented.state.time.front in le-ltb s.front (length s.journal) (omega (arith, ahead, up, front_is, f)) in
-          let here : matching s moment ≡ Tick moment = rw test refl in
-          sym here ∙ ap (λ (x : State). matching x moment) seen_state
-
       pub ticked_all : (stats : Stats) → to ≤ front → IsNoted history longer (Tick moment ∷ []) → counted stats ≡ reply_in h.setting s (Tick moment) → MatchesAll g seen longer (enumerate_from 0 seen) (enumerate_from 0 longer) moment (record { front = stats.front; clock = stats.clock })
       ticked_all stats ahead n told_is =
           record {
             entry = Tick moment;
             replied = counted stats;
             made = made (Tick moment) (counted stats) tt n told_is;
-            entry_is = tick_there ahead;
+            entry_is = tick_is moment front to front_is to_is ahead ∙ ap (λ (x : State). matching x moment) seen_state;
             told_is = refl;
           }
 

@@ -1,4 +1,6 @@
 pub mod Desk
+pub mod HubValue
+pub mod Seated
 pub use Rattle.hub_core.specs.Config
 pub use Rattle.hub_core.specs.PageRoom
 pub use Rattle.hub_core.specs.HubState
@@ -7,3 +9,4 @@ pub use Rattle.hub_model.specs.Reply
 pub use Rattle.hub_model.specs.Setting
 pub use Rattle.hub_model.specs.State
 pub use Rattle.hub_model.specs.Step
+pub use Rattle.turnstile.specs.Seats

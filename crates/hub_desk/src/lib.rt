@@ -2,11 +2,16 @@
 #![tactic(auto)]
 
 mod desk;
+mod hub_value;
 mod owned;
+mod seated;
 
 pub use desk::Desk;
 pub use hub_core::{Config, ConfigRefusal, Hub, PageRoom};
 pub use hub_model::{
     Answer, Change, Condition, Entry, Found, Matched, Outcome, Stats, Tags, Written,
 };
+pub use hub_value::{HubValue, Noted};
 pub use owned::Owned;
+pub use seated::Seated;
+pub use turnstile::{Seat, Turnstile};

@@ -1,0 +1,13 @@
+-- a fetch may always follow
+use Rattle.std.proofs.Common.{refl}
+use Rattle.hub_desk.proofs.SeatedLemmas.{stood, added}
+use Rattle.hub_desk.proofs.hub_value.HubValue.fetch.Goals as goal
+
+pub returns-clause-made : goal.returns-clause-made
+returns-clause-made c = λ history stands.
+    let there = (stood _ _ _ c.deref_mut.ensures.value c.self.view_is history stands).represents.state in
+    record {
+      page = _;
+      held = c.fetch.ensures.page _ there;
+      added = added _ _ _ c.deref_mut.ensures.value c.self.view_is history stands _ _ _ c.hubs_represent_histories.ensures.goes_on c.more_entries.ensures.state (tt, tt) c.fetch.ensures.setting c.fetch.ensures.after refl refl;
+    }

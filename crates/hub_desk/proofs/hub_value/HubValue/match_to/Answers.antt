@@ -1,0 +1,13 @@
+-- a match may follow where it raises the front, and is not above the commits
+use Rattle.std.proofs.Common.{◌<◌, ◌≤◌, refl, rules, arith}
+use Rattle.hub_desk.proofs.SeatedLemmas.{stood, added}
+use Rattle.hub_desk.proofs.hub_value.HubValue.match_to.Goals as goal
+
+pub returns-clause-made : goal.returns-clause-made
+returns-clause-made c = λ history stands.
+    let state = (stood _ _ _ c.deref_mut.ensures.value c.self.view_is history stands).represents.state in
+    let above : c.deref_mut.result.now.front < c.args.to = search rules in
+    let within : c.args.to ≤ c.deref_mut.result.now.commits = search rules in
+    let front = state.time.front in
+    let commits = state.book.commits in
+    added _ _ _ c.deref_mut.ensures.value c.self.view_is history stands _ _ _ c.hubs_represent_histories.ensures.goes_on c.more_entries.ensures.state ((omega (arith, front, above), omega (arith, commits, within)), tt) c.match_to.ensures.setting c.in_ok-matched.ensures.after refl (c.in_ok-matched.ensures.told _ state)

@@ -1,0 +1,11 @@
+-- a read of the last commit may follow, as the front is not above it
+use Rattle.std.proofs.Common.{refl}
+use Rattle.hub_desk.proofs.HistoryLemmas.{may_read}
+use Rattle.hub_desk.proofs.SeatedLemmas.{stood, added}
+use Rattle.hub_desk.proofs.hub_value.HubValue.read.Goals as goal
+
+pub returns-clause-made : goal.returns-clause-made
+returns-clause-made c = λ history stands.
+    let represented = (stood _ _ _ c.deref_mut.ensures.value c.self.view_is history stands).represents in
+    let may = may_read _ _ represented _ (c.front_is_within.ensures _ _ represented.legal) c.in_ok-answer.ensures.last in
+    added _ _ _ c.deref_mut.ensures.value c.self.view_is history stands _ _ _ c.hubs_represent_histories.ensures.goes_on c.more_entries.ensures.state (may, tt) c.read.ensures.setting c.in_ok-answer.ensures.after refl (c.in_ok-answer.ensures.told _ represented.state)

@@ -1,0 +1,15 @@
+-- what the desk knew is a prefix of what it has seen once it has the turn
+use Rattle.std.proofs.Common.{rules, ap, ◌∙◌}
+use mathlib.Core.List.{IsPrefix}
+use Rattle.turnstile.specs.Seats.{seen, setting_of}
+use Rattle.turnstile.specs.Turns.{turn_seen}
+use Rattle.hub_desk.specs.HubValue.{hub_setting}
+use Rattle.hub_desk.specs.Seated.{seat_of}
+use Rattle.hub_desk.proofs.SeatedLemmas.{fresh}
+use Rattle.hub_desk.proofs.seated.calls.SeatedDesk.read.Goals as goal
+
+pub returns-in-Ok-clause-fresh : goal.returns-in-Ok-clause-fresh
+returns-in-Ok-clause-fresh g c =
+    let stands = c.value-value.ensures.stands in
+    let grew : IsPrefix (seen (seat_of c.args.self.now)) (turn_seen c.value-value.new.self) = search rules in
+    fresh _ _ _ _ _ c.longer_histories_are_later.ensures grew stands.0 (stands.1 ∙ ap (setting_of hub_setting) c.take-turn.ensures.turn.0) (c.in-Ok.ensures.last _ stands.0)

@@ -1,0 +1,180 @@
+//! A hub as the value of a turnstile.
+ghost use Rattle.std.specs.Prelude.{◌≡◌, ◌+◌, ◌<◌, ◌≤◌, ◌^◌, [], List, length, true, IfOk, OnErr};
+ghost use Rattle.hub_core.specs.PageRoom.{IsRoomFor};
+ghost use Rattle.hub_model.specs.declared.entry.Entry.{Entry as AnEntry};
+ghost use Rattle.hub_model.specs.declared.entry.Entry.TheVariants.{Write, Read, Match, Tick};
+ghost use Rattle.hub_model.specs.Reply.{wrote, read, matched, counted};
+ghost use Rattle.hub_model.specs.Step.{is_accepted, state_of};
+ghost use Rattle.hub_desk.specs.HubValue.{hub_setting, StandsFor, Adds, AddsPage};
+
+use hub_core::{Config, Hub, PageRoom, hubs_represent_histories};
+use hub_model::laws::{front_is_within, more_entries};
+use hub_model::{Answer, Change, Condition, Entry, Matched, Stats, Tags, Written};
+use q_base::{Commit, Memory, Moment};
+use query_normal::Key;
+use std::alloc::Global;
+use std::marker::Model;
+use turnstile::Stands;
+
+/// What clauses see of an entry at a turnstile: the entry itself. No value of it is made.
+#[derive(Drop)]
+pub struct Noted {
+    entry: Entry,
+}
+
+impl Model for Noted {
+    ghost use Rattle.std.specs.Coded.{codes};
+    ghost use Rattle.q_doc.specs.Code.{tree_code};
+    ghost use Rattle.hub_model.specs.declared.entry.Entry.{Entry};
+
+    ghost Value = { Entry };
+
+    ghost coded = { Prim.hlevel (codes, tree_code) };
+
+    ghost view = { λ n. n.entry };
+}
+
+/// A hub, and how many entries the history has that it represents. The hub is on the heap, so that a
+/// turn moves a few words.
+#[derive(Drop)]
+pub struct HubValue {
+    hub: Box<Hub, Global>,
+    count: u64,
+}
+
+impl Model for HubValue {
+    ghost use Rattle.std.specs.Coded.{codes};
+    ghost use Rattle.q_doc.specs.Code.{tree_code};
+    ghost use Rattle.hub_desk.specs.HubValue.{HubValueView};
+
+    ghost Value = { HubValueView };
+
+    ghost coded = { Prim.hlevel (codes, tree_code) };
+
+    ghost view = { λ v. record {
+      hub = v.hub.value;
+      count = v.count;
+    } };
+}
+
+impl Stands for HubValue {
+    ghost use Rattle.hub_model.specs.Legal.{IsLegal};
+    ghost use Rattle.hub_desk.specs.HubValue.{hub_setting, StandsFor};
+
+    type Entry = Noted;
+
+    type Setting = Config;
+
+    ghost setting = { hub_setting };
+
+    ghost legal = { IsLegal };
+
+    ghost stands = { StandsFor };
+
+    ghost is_legal = { λ value history stands. stands.represents.legal };
+
+    fn entries(&self) -> u64 {
+        self.count
+    }
+}
+
+impl HubValue {
+    /// A new hub, which represents no entry.
+    pub fn new(alloc: Global, config: Config) -> Result<HubValue, Memory>
+        ensures setting { IfOk result (λ value. hub_setting value ≡ config) }
+        ensures stands { IfOk result (λ value. StandsFor value []) }
+    {
+        // The law of a hub that represents no entry.
+        hubs_represent_histories();
+        let hub = Box::new(alloc, Hub::new(alloc, config)?)?;
+        Ok(HubValue { hub, count: 0 })
+    }
+
+    /// The hub.
+    pub fn hub(&self) -> &Hub
+        ensures { result.now ≡ self.now.hub }
+    {
+        &self.hub
+    }
+
+    /// Writes, as one entry.
+    pub(crate) fn write(
+        &mut self,
+        moment: Moment,
+        change: &Change,
+        condition: &Condition,
+    ) -> Result<Written, Memory>
+        requires { self.old.count + 1 < 2 ^ 64 }
+        ensures made { IfOk result (λ w. Adds self.old self.new (Write moment change.now condition.now) (wrote w)) }
+        ensures accepted { OnErr result ((history : List AnEntry) → StandsFor self.old history → is_accepted (hub_setting self.old) (state_of (hub_setting self.old) history) change.now condition.now ≡ true) }
+        ensures memory { OnErr result (self.new ≡ self.old) }
+        ensures setting { hub_setting self.new ≡ hub_setting self.old }
+    {
+        // The laws of a hub and a history that go on by more entries.
+        hubs_represent_histories();
+        more_entries();
+        let written = self.hub.write(moment, change, condition)?;
+        self.count += 1;
+        Ok(written)
+    }
+
+    /// Reads at the last commit, as one entry.
+    pub(crate) fn read(&mut self, moment: Moment, key: &Key, tags: &Tags) -> Result<Answer, Memory>
+        requires { self.old.count + 1 < 2 ^ 64 }
+        ensures made { IfOk result (λ a. Adds self.old self.new (Read moment key.now tags.now a.commit) (read a)) }
+        ensures last { IfOk result (λ a. (history : List AnEntry) → StandsFor self.old history → a.commit ≡ length (state_of (hub_setting self.old) history).journal) }
+        ensures memory { OnErr result (self.new ≡ self.old) }
+        ensures setting { hub_setting self.new ≡ hub_setting self.old }
+    {
+        hubs_represent_histories();
+        more_entries();
+        // The law by which a read of the last commit is not below the front.
+        front_is_within();
+        let answer = self.hub.read(moment, key, tags)?;
+        self.count += 1;
+        Ok(answer)
+    }
+
+    /// Matches the commits up to one, as one entry.
+    pub(crate) fn match_to(&mut self, moment: Moment, to: Commit) -> Result<Matched, Memory>
+        requires count { self.old.count + 1 < 2 ^ 64 }
+        requires above { self.old.hub.front < to }
+        requires within { to ≤ self.old.hub.commits }
+        ensures made { IfOk result (λ m. Adds self.old self.new (Match moment to) (matched m)) }
+        ensures memory { OnErr result (self.new ≡ self.old) }
+        ensures setting { hub_setting self.new ≡ hub_setting self.old }
+    {
+        hubs_represent_histories();
+        more_entries();
+        let matched = self.hub.match_to(moment, to)?;
+        self.count += 1;
+        Ok(matched)
+    }
+
+    /// Writes the page into the buffer, as one entry. It takes no memory.
+    pub(crate) fn fetch(&mut self, moment: Moment, room: &mut PageRoom)
+        requires count { self.old.count + 1 < 2 ^ 64 }
+        requires room { IsRoomFor (hub_setting self.old) room.old }
+        ensures made { AddsPage self.old self.new moment room.new }
+        ensures room { IsRoomFor (hub_setting self.old) room.new }
+        ensures setting { hub_setting self.new ≡ hub_setting self.old }
+    {
+        hubs_represent_histories();
+        more_entries();
+        self.hub.fetch(moment, room);
+        self.count += 1;
+    }
+
+    /// Lets time pass, as one entry. It takes no memory.
+    pub(crate) fn tick(&mut self, moment: Moment) -> Stats
+        requires { self.old.count + 1 < 2 ^ 64 }
+        ensures made { Adds self.old self.new (Tick moment) (counted result) }
+        ensures setting { hub_setting self.new ≡ hub_setting self.old }
+    {
+        hubs_represent_histories();
+        more_entries();
+        let stats = self.hub.tick(moment);
+        self.count += 1;
+        stats
+    }
+}

@@ -1,0 +1,136 @@
+//! The calls of a desk, each in one turn.
+ghost use Rattle.std.specs.Prelude.{◌≡◌};
+ghost use Rattle.turnstile.specs.Seats.{seen, mine, setting_of};
+ghost use Rattle.hub_desk.specs.HubValue.{hub_setting};
+ghost use Rattle.hub_desk.specs.Seated.{turnstile_of, seat_of, anchor_of};
+
+use super::Seated;
+use super::gives::{give_unchanged, give_with};
+use crate::desk::Desk;
+use crate::hub_value::{HubValue, Noted};
+use hub_core::PageRoom;
+use hub_model::laws::longer_histories_are_later;
+use hub_model::{Answer, Change, Condition, Entry, Matched, Stats, Tags, Written};
+use q_base::{Memory, Moment};
+use query_normal::Key;
+use std::collections::LinkedList;
+use std::sync::Wait;
+use turnstile::Turnstile;
+
+impl<R: Wait> Desk for Seated<'_, R> {
+    /// The turnstile, and of the seat its number, the entries that it met, how many seats were split
+    /// off it, and what was seen at its joins.
+    type Anchor = (
+        Turnstile<HubValue>,
+        (
+            u64,
+            (
+                LinkedList<(u64, Noted)>,
+                (u64, LinkedList<LinkedList<Noted>>),
+            ),
+        ),
+    );
+
+    ghost anchor = { anchor_of };
+
+    ghost setting = { λ desk. setting_of hub_setting (turnstile_of desk) };
+
+    ghost seen = { λ desk. seen (seat_of desk) };
+
+    ghost mine = { λ desk. mine (seat_of desk) };
+
+    ghost is_ready = { λ _. Unit {0} };
+
+    fn ready(&mut self) -> Result<(), Memory> {
+        Ok(())
+    }
+
+    fn write(
+        &mut self,
+        moment: Moment,
+        change: Change,
+        condition: Condition,
+    ) -> Result<Written, Memory> {
+        let mut turn = self.turnstile.take(self.rt, &mut self.seat);
+        let mut value = turn.value();
+        match value.write(moment, &change, &condition) {
+            Ok(written) => {
+                let entry = Entry::Write {
+                    moment,
+                    change,
+                    condition,
+                };
+                give_with(turn, value, entry);
+                Ok(written)
+            }
+            Err(Memory) => {
+                give_unchanged(turn, value);
+                Err(Memory)
+            }
+        }
+    }
+
+    fn read(&mut self, moment: Moment, key: Key, tags: Tags) -> Result<Answer, Memory> {
+        // The law by which no commit that was known before is above the last one.
+        longer_histories_are_later();
+        let mut turn = self.turnstile.take(self.rt, &mut self.seat);
+        let mut value = turn.value();
+        match value.read(moment, &key, &tags) {
+            Ok(answer) => {
+                let at = answer.commit;
+                let entry = Entry::Read {
+                    moment,
+                    key,
+                    tags,
+                    at,
+                };
+                give_with(turn, value, entry);
+                Ok(answer)
+            }
+            Err(Memory) => {
+                give_unchanged(turn, value);
+                Err(Memory)
+            }
+        }
+    }
+
+    fn match_all(&mut self, moment: Moment) -> Result<Matched, Memory> {
+        let mut turn = self.turnstile.take(self.rt, &mut self.seat);
+        let mut value = turn.value();
+        let to = value.hub().commits();
+        if value.hub().front() < to {
+            match value.match_to(moment, to) {
+                Ok(matched) => {
+                    give_with(turn, value, Entry::Match { moment, to });
+                    Ok(matched)
+                }
+                Err(Memory) => {
+                    give_unchanged(turn, value);
+                    Err(Memory)
+                }
+            }
+        } else {
+            let stats = value.tick(moment);
+            give_with(turn, value, Entry::Tick { moment });
+            Ok(Matched {
+                front: stats.front,
+                clock: stats.clock,
+            })
+        }
+    }
+
+    fn fetch(&mut self, moment: Moment, room: &mut PageRoom) {
+        let mut turn = self.turnstile.take(self.rt, &mut self.seat);
+        let mut value = turn.value();
+        value.fetch(moment, room);
+        give_with(turn, value, Entry::Fetch { moment });
+    }
+
+    fn tick(&mut self, moment: Moment) -> Stats {
+        let mut turn = self.turnstile.take(self.rt, &mut self.seat);
+        let mut value = turn.value();
+        let stats = value.tick(moment);
+        give_with(turn, value, Entry::Tick { moment });
+        stats
+    }
+}

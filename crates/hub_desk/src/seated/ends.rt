@@ -1,0 +1,40 @@
+//! From a seat to a desk, and back.
+ghost use Rattle.std.specs.Prelude.{◌≡◌};
+ghost use Rattle.turnstile.specs.Seats.{IsSeatOf, IsIdle};
+ghost use Rattle.hub_desk.specs.HubValue.{hub_setting};
+ghost use Rattle.hub_desk.specs.Seated.{turnstile_of, seat_of};
+
+use super::Seated;
+use crate::hub_value::HubValue;
+use std::sync::Wait;
+use turnstile::{Seat, Turnstile};
+
+impl<'g, R: Wait> Seated<'g, R> {
+    /// The desk at a seat.
+    pub fn new(rt: &'g R, turnstile: &'g Turnstile<HubValue>, seat: Seat<HubValue>) -> Seated<'g, R>
+        requires own { IsSeatOf hub_setting turnstile.now seat }
+        requires idle { IsIdle seat }
+        ensures turnstile { turnstile_of result ≡ turnstile.now }
+        ensures seat { seat_of result ≡ seat }
+    {
+        Seated {
+            rt,
+            turnstile,
+            seat,
+        }
+    }
+
+    /// The seat, which may take the turn again, be joined to another, or close the turnstile.
+    pub fn into_seat(self) -> Seat<HubValue>
+        ensures seat { result ≡ seat_of self.entry }
+        ensures own { IsSeatOf hub_setting (turnstile_of self.entry) result }
+        ensures idle { IsIdle result }
+    {
+        let Seated {
+            rt: _,
+            turnstile: _,
+            seat,
+        } = self;
+        seat
+    }
+}
