@@ -1,4 +1,4 @@
--- From what is answered to how far the request was read: refusals that take no memory.
+-- From what is answered to how far the request was read: answers that take no memory.
 use Rattle.std.proofs.Common.{◌≡◌, ℕ, Bool, true, false, not, List, [], codes, refl, sym, ◌∙◌, ap, inl, inr}
 use Rattle.std.proofs.lemmas.Bool.{cases_Bool, or_parts, true≢false}
 use Rattle.std.specs.Prelude.{◌&&◌, ◌||◌, is_ok, Option, Some, None, Result, Ok, Err}
@@ -120,8 +120,8 @@ module _ (decodes : Bool) where
   late_record m collection id Post allowed other = absurd (true≢false (sym allowed))
 
   -- so is a query, once its name is good
-  late_query : (m : Message) (ask : Ask) → is_early_answer decodes (and_then (check_read m) (λ checked. Ok ask)) ≡ false
-  late_query m ask = late_read (if_match m) (if_none_match m) (λ checked. Ok ask) refl
+  late_query : (m : Message) (ask : Ask) → is_early_answer decodes (Ok ask) ≡ false → is_early_answer decodes (and_then (check_read m) (λ checked. Ok ask)) ≡ false
+  late_query m ask late = late_read (if_match m) (if_none_match m) (λ checked. Ok ask) late
 
   free_record : (m : Message) (method : Method) (one two : Result (List ℕ) Refused) → allows allow.Record method ≡ true
       → is_early_answer decodes (and_then one (λ collection. and_then two (λ id. record_by m collection id method))) ≡ true
@@ -135,16 +135,18 @@ module _ (decodes : Bool) where
       ]
 
 free_query : (m : Message) (name : Result (List ℕ) Refused) (ask : List ℕ → Ask)
+    → ((collection : List ℕ) → is_early_answer false (Ok (ask collection)) ≡ false)
     → is_early_answer false (and_then name (λ collection. and_then (check_read m) (λ checked. Ok (ask collection)))) ≡ true
     → not (is_ok name) ≡ true
-free_query m (Err refused) ask early = refl
-free_query m (Ok collection) ask early = absurd (true≢false (sym early ∙ late_query false m (ask collection)))
+free_query m (Err refused) ask late early = refl
+free_query m (Ok collection) ask late early = absurd (true≢false (sym early ∙ late_query false m (ask collection) (late collection)))
 
 -- a query by its name, once the fields are decoded
 late_named : (m : Message) (name : Result (List ℕ) NameRefusal) (ask : List ℕ → Ask)
+    → ((collection : List ℕ) → is_early_answer true (Ok (ask collection)) ≡ false)
     → is_early_answer true (and_then (name_or_not name) (λ collection. and_then (check_read m) (λ checked. Ok (ask collection)))) ≡ false
-late_named m (Err refusal) ask = refl
-late_named m (Ok collection) ask = late_query true m (ask collection)
+late_named m (Err refusal) ask late = refl
+late_named m (Ok collection) ask late = late_query true m (ask collection) (late collection)
 
 not_true : (b : Bool) → not b ≡ true → b ≡ false
 not_true true is = absurd (true≢false (sym is))
@@ -155,18 +157,18 @@ module _ (m : Message) (path : List ℕ) (method : Method) where
   free_call : (found : Route) → allows (methods_of found) method ≡ true
       → is_early_answer false (ask_by m path method found []) ≡ true → is_free_call m path found method ≡ true
   free_call Record allowed early = free_record false m method (name_in (collection_in path)) (name_in (id_in path)) allowed early
-  free_call Query allowed early = free_query m (name_in (queried_in path)) (λ collection. asks.Query collection [] (is_head_request method)) early
-  free_call Filter allowed early = absurd (true≢false (sym early))
-  free_call Purges allowed early = absurd (true≢false (sym early))
-  free_call Match allowed early = absurd (true≢false (sym early))
-  free_call Stats allowed early = absurd (true≢false (sym early))
+  free_call Query allowed early = free_query m (name_in (queried_in path)) (λ collection. asks.Query collection [] (is_head_request method)) (λ collection. refl) early
+  free_call Filter allowed early = refl
+  free_call Purges allowed early = refl
+  free_call Match allowed early = refl
+  free_call Stats allowed early = refl
 
   -- one of a route that takes fields, once these are decoded
   late_queried : (values : Option (List NamedValue))
       → is_early_answer true (and_then (fields_or_not values) (λ fields. ask_by m path method Query fields)) ≡ false
   unfolding name_in
   late_queried None = refl
-  late_queried (Some values) = late_named m (read_name (percent_decode (queried_in path))) (λ collection. asks.Query collection values (is_head_request method))
+  late_queried (Some values) = late_named m (read_name (percent_decode (queried_in path))) (λ collection. asks.Query collection values (is_head_request method)) (λ collection. refl)
 
   late_purges : (values : Option (List NamedValue))
       → is_early_answer true (and_then (fields_or_not values) (λ fields. ask_by m path method Purges fields)) ≡ false
@@ -222,7 +224,7 @@ free_at m path query None early = refl
 free_at m path query (Some found) early =
     free_with m path query found (method_in m found) (λ method is. allowed_by (methods_of found) (method_of m.method) method is) early
 
--- a refusal that takes no memory is answered as far as the request is read without
+-- what takes no memory is answered as far as the request is read without
 pub early_free : (s : Served) (m : Message) (local : List ℕ) → has_host m ≡ true → local_part m.target ≡ Some local
     → is_early s m ≡ true → is_free_at m (path_of local) (query_of local) (served_of s (route_of (path_of local))) ≡ true
 unfolding ask_of

@@ -35,10 +35,10 @@ is_free_record m collection id method = not (is_ok (name_in collection) && is_ok
 abbrev pub is_free_call : Message → List ℕ → Route → Method → Bool
 is_free_call m path Record method = is_free_record m (collection_in path) (id_in path) method
 is_free_call m path Query method = not (is_ok (name_in (queried_in path)))
-is_free_call m path Filter method = false
-is_free_call m path Purges method = false
-is_free_call m path Match method = false
-is_free_call m path Stats method = false
+is_free_call m path Filter method = true
+is_free_call m path Purges method = true
+is_free_call m path Match method = true
+is_free_call m path Stats method = true
 
 -- there is no query, or the route takes no fields
 abbrev pub is_free_query : Route → Option (List ℕ) → Bool
