@@ -1,3 +1,4 @@
 pub mod Chain
+pub mod DoorLemmas
 mod Given
 mod Pieces

@@ -1,12 +1,16 @@
 //! The environment of the program, which the name of the crate calls the outside: sources and sinks of
-//! bytes, clocks, and how a connection ended.
+//! bytes, clocks, doors, and how a connection ended.
 #![tactic(auto)]
 
 mod adapters;
 mod clocks;
+mod connections;
+mod doors;
 mod environment;
 mod faults;
+mod gates;
 mod give;
+mod list_doors;
 mod script;
 mod served;
 mod sinks;
@@ -14,9 +18,13 @@ mod sources;
 
 pub use adapters::{ReadSource, SystemClock, WriteSink};
 pub use clocks::{FixedClock, ListClock};
+pub use connections::{Back, Next};
+pub use doors::Doors;
 pub use environment::{Clock, Failed, Sink, Source};
 pub use faults::Faults;
+pub use gates::{Gate, HoldGate, OpenGate};
 pub use give::{give_all, give_both};
+pub use list_doors::ListDoors;
 pub use script::Script;
 pub use served::{Served, Why};
 pub use sinks::{EndlessSink, ListSink};
