@@ -1,0 +1,132 @@
+-- What may cross threads: a hub as the value of a turnstile, and so the turnstile, its seats, and all that a thread of a server gets and leaves. A document and a table of routes hold themselves by their children, so what has one in it wants a step of its own.
+use mathlib.Core.List.{[], ◌∷◌}
+use Prim.Native.Nat.{ℕ}
+use mir.Syntax.{Sym, w32, of_param}
+use denote.Exit.{Kept, no, if_kept, unseen}
+use denote.RattleType.{RattleType}
+use denote.Plain.{UInt}
+use denote.Param.Send.{IsSend, IsSync, Quiet, Quiet-if, sendable}
+use denote.Param.SendFields.{as_row_send, declared_send}
+use denote.Struct.Field.{row_field}
+use denote.Struct.Tuple.{TupleAt}
+use Rattle.std.proofs.Crossing.{crosses}
+use Rattle.std.specs.contracts.alloc.Global as Global
+use Rattle.std.specs.contracts.impls.GlobalAllocator.TheImpl as TheGlobal
+use Rattle.std.specs.contracts.option.Option as Option
+use Rattle.std.specs.contracts.sync.Arc as Arc
+use Rattle.indexmap.proofs.map.IndexMap.TheSendSync as TheMap
+use Rattle.slab.proofs.Slab.TheSendSync as TheSlab
+use Rattle.matchit.proofs.route.Route.TheSendSync as TheRoute
+use Rattle.matchit.proofs.tree.Node.TheLaws.TheKnot as TheTree
+use Rattle.matchit.specs.contracts.router.Router as Router
+use Rattle.matchit.specs.contracts.tree.Node as Tree
+use Rattle.atomic_table.proofs.owned.Table.TheSendSync as TheTable
+use Rattle.atomic_table.proofs.send_lease.SendLease.TheSendSync as TheLease
+use Rattle.atomic_table.proofs.shared.Seat.TheSendSync as TheSeat
+use Rattle.atomic_table.proofs.shared.Shared.TheSendSync as TheShared
+use Rattle.atomic_table.specs.contracts.shared.Seat as Seat
+use Rattle.q_base.proofs.name.Name.TheSendSync as TheName
+use Rattle.q_base.proofs.shared_text.SharedText.TheSendSync as TheText
+use Rattle.q_doc.proofs.node.Node.TheLaws.TheKnot as TheDocument
+use Rattle.q_doc.specs.contracts.doc.Doc as Doc
+use Rattle.q_outside.proofs.served.Served.TheSendSync as TheServed
+use Rattle.http_message.proofs.room.RequestRoom.TheSendSync as TheRequests
+use Rattle.http_front.proofs.reply.ReplyRoom.TheSendSync as TheReply
+use Rattle.http_front.proofs.routes.Route.TheSendSync as TheTarget
+use Rattle.http_front.specs.contracts.routes.Route as Target
+use Rattle.http_front.specs.contracts.routes.Routes as Routes
+use Rattle.commit_book.specs.contracts.book.Book as Book
+use Rattle.commit_book.specs.contracts.row.Reserved as Reserved
+use Rattle.commit_book.specs.contracts.row.Row as Row
+use Rattle.hub_core.proofs.copies.Copies.TheSendSync as TheCopies
+use Rattle.hub_core.proofs.page_room.PageRoom.TheSendSync as ThePages
+use Rattle.hub_core.specs.contracts.config.Config as Config
+use Rattle.hub_core.specs.contracts.hub.Hub as Hub
+use Rattle.turnstile.proofs.gate.Turnstile.TheSendSync as TheTurnstile
+use Rattle.turnstile.specs.contracts.gate.Turnstile as Turnstile
+use Rattle.turnstile.specs.contracts.view.View as View
+use Rattle.hub_desk.specs.contracts.hub_value.HubValue as HubValue
+use Rattle.hub_desk.specs.contracts.hub_value.HubValueStands.TheImpl as TheStands
+use Rattle.hub_desk.specs.contracts.hub_value.Noted as Noted
+use Rattle.quaestor_server.specs.contracts.connection.Room as Room
+use Rattle.quaestor_serve.specs.contracts.begun.Done as Done
+use Rattle.quaestor_serve.specs.contracts.matcher.Rested as Rested
+use Rattle.quaestor_serve.specs.contracts.stop.Stop as Stop
+
+pub doc_send : IsSend Doc.the_row
+doc_send = search (TheDocument.crosses, crosses, sendable) depth 60 fits 20000
+
+pub row_send : IsSend Row.the_row
+row_send = search (doc_send, TheName.the_send, TheText.the_send, TheDocument.crosses, crosses, sendable) depth 60 fits 20000
+
+pub reserved_send : IsSend Reserved.the_row
+reserved_send = search (row_send, crosses, sendable) depth 60 fits 20000
+
+pub book_send : IsSend Book.the_row
+book_send = search (row_send, reserved_send, TheName.the_send, TheMap.the_send, crosses, sendable) depth 60 fits 20000
+
+pub hub_send : IsSend Hub.the_row
+hub_send = search (book_send, TheCopies.the_send, crosses, sendable) depth 60 fits 20000
+
+pub value_send : IsSend HubValue.the_row
+value_send = search (hub_send, crosses, sendable) depth 60 fits 20000
+
+-- what crosses on its own, and the value of a turnstile
+ruleset crossing = (value_send, TheSeat.the_send, TheTurnstile.the_send, TheTurnstile.the_sync, TheTable.the_send, TheTable.the_sync, TheLease.the_send, TheLease.the_sync, TheShared.the_send, TheShared.the_sync, crosses, sendable)
+
+-- a turnstile of a hub
+abbrev TurnstileRow : RattleType
+TurnstileRow = Turnstile.the_row HubValue.the_row Noted.the_row Config.the_row TheStands.ghosts
+
+-- a seat at one
+abbrev SeatRow : RattleType
+SeatRow = Seat.the_row (Option.the_row HubValue.the_row) (View.the_row Noted.the_row Config.the_row)
+
+-- a value with many owners
+abbrev SharedRow : RattleType → RattleType
+SharedRow T = Arc.the_row T Global.the_row TheGlobal.ghosts
+
+pub seat_send : IsSend SeatRow
+seat_send = search crossing depth 60 fits 20000
+
+pub turnstile_send : IsSend TurnstileRow
+turnstile_send = search crossing depth 60 fits 20000
+
+pub turnstile_sync : IsSync TurnstileRow
+turnstile_sync = search crossing depth 60 fits 20000
+
+pub shared_turnstile_send : IsSend (SharedRow TurnstileRow)
+shared_turnstile_send = search (turnstile_send, turnstile_sync, crosses, sendable) depth 60 fits 20000
+
+pub shared_stop_send : IsSend (SharedRow Stop.the_row)
+shared_stop_send = search (crosses, sendable) depth 60 fits 20000
+
+pub tree_send : IsSend Tree.the_row
+tree_send = search (TheTree.crosses, crosses, sendable) depth 60 fits 20000
+
+pub router_send : IsSend (Router.the_row Target.the_row)
+router_send = search (tree_send, TheSlab.the_send, TheRoute.the_send, TheTarget.the_send, crosses, sendable) depth 60 fits 20000
+
+pub routes_send : IsSend Routes.the_row
+routes_send = search (router_send, crosses, sendable) depth 60 fits 20000
+
+pub room_send : IsSend Room.the_row
+room_send = search (TheRequests.the_send, routes_send, TheReply.the_send, ThePages.the_send, crosses, sendable) depth 60 fits 20000
+
+-- what a matcher leaves, and what a connection leaves
+pub rested_send : (C : RattleType) → IsSend C → IsSend (Rested.the_row C)
+rested_send C clock = search (seat_send, crosses, sendable) depth 60 fits 20000
+
+pub done_send : (S K : RattleType) → IsSend S → IsSend K → IsSend (Done.the_row S K)
+done_send S K source sink = declared_send (Done.the_type S K) (seat_send, (as_row_send (row_field S) source, (as_row_send (row_field K) sink, (room_send, (TheServed.the_send, tt)))))
+
+-- what a matcher's thread gets, and what a connection's thread gets; the name is that of a closure
+pub matcher_send : (name : Sym) (R C : RattleType) → IsSend R → IsSend C → IsSend (TupleAt name (R ∷ SharedRow TurnstileRow ∷ SeatRow ∷ C ∷ SharedRow Stop.the_row ∷ []))
+matcher_send name R C handle clock = search (shared_turnstile_send, seat_send, shared_stop_send, crosses, sendable) depth 60 fits 20000
+
+pub connection_send : (name : Sym) (R G S K C : RattleType) → IsSend R → IsSend G → IsSend S → IsSend K → IsSend C → IsSend (TupleAt name (R ∷ Global.the_row ∷ SharedRow TurnstileRow ∷ G ∷ UInt w32 ∷ SeatRow ∷ S ∷ K ∷ C ∷ Room.the_row ∷ []))
+connection_send name R G S K C handle gate source sink clock = search (shared_turnstile_send, seat_send, room_send, crosses, sendable) depth 60 fits 20000
+
+-- what is let go of as a parameter, of a type that may cross threads, leaves nothing that may not
+pub leaves : (i : ℕ) (R : RattleType) → IsSend R → (k : Kept) → Quiet (if_kept (k (of_param i)) (R.exit no) unseen)
+leaves i R s k = Quiet-if (k (of_param i)) (R.exit no) unseen (s.leaving no) (λ x w. tt)

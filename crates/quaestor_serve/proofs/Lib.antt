@@ -1,0 +1,7 @@
+mod CrossingLemmas
+mod GoingLemmas
+mod HallLemmas
+mod KeptLemmas
+mod MatchLemmas
+mod ServesLemmas
+mod VisitLemmas

@@ -1,0 +1,140 @@
+-- What a server has done when it ends.
+use Rattle.std.proofs.Common.{◌≡◌, ℕ, ◌<◌, ◌≤◌, List, [], ◌∷◌, ◌++◌, map, length, refl, sym, ap, ◌∙◌, subst, arith, append-nil, append_assoc}
+use Rattle.std.specs.Arc.{arc_value}
+use Rattle.hub_model.specs.declared.entry.Entry.{Entry}
+use Rattle.hub_model.specs.Legal.{IsLegal}
+use Rattle.hub_model.specs.Setting.{Setting}
+use Rattle.q_outside.specs.Doors.{DoorsView, Passes}
+use Rattle.q_outside.specs.Ends.{End}
+use Rattle.q_outside.proofs.DoorLemmas.{passed_nothing}
+use Rattle.quaestor_serve.specs.declared.begun.Begun.{Begun}
+use Rattle.quaestor_serve.specs.declared.hall.Hall.{Hall}
+use Rattle.quaestor_serve.specs.declared.matcher.Matcher.{Matcher}
+use Rattle.quaestor_serve.specs.declared.running.Running.{Running}
+use Rattle.quaestor_serve.specs.declared.serve_end.ServeEnd.{ServeEnd}
+use Rattle.quaestor_serve.specs.declared.serve_end.ServeWhy.{ServeWhy}
+use Rattle.quaestor_serve.specs.declared.serve_end.ServeWhy.TheVariants.{Limit, Closed, DoorFault, Memory}
+use Rattle.quaestor_serve.specs.Going.{Going, began_with}
+use Rattle.quaestor_serve.specs.Halls.{begun_in, setting_in, seen_in, met_in}
+use Rattle.quaestor_serve.specs.Kept.{HubTurnstile, setting_at}
+use Rattle.quaestor_serve.specs.Matches.{IsMatching}
+use Rattle.quaestor_serve.specs.Matchers.{WorksAt, WorkIn, Gathers}
+use Rattle.quaestor_serve.specs.Running.{begun_of}
+use Rattle.quaestor_serve.specs.Serves.{closings_by, Ends, EndsBy, IsUnbegun, Serves}
+use Rattle.quaestor_serve.specs.Visits.{given_of, back_of, IsWell}
+use Rattle.turnstile.specs.Places.{AllOf, Distinct}
+use Rattle.turnstile.proofs.PlaceLemmas.{all_append}
+use Rattle.turnstile.proofs.Prefixes.{prefix_self, prefix_trans}
+use Rattle.quaestor_serve.proofs.VisitLemmas.{all_stay}
+
+module _ {S K : Type 0} where
+  -- a cause stays one while faults are counted
+  pub ends_later : (why : ServeWhy) (first now later : DoorsView S K) (came most : ℕ) → now.faults ≤ later.faults → EndsBy why first now came most → EndsBy why first later came most
+  ends_later Limit first now later came most more ends = ends
+  ends_later Closed first now later came most more ends = ends
+  ends_later DoorFault first now later came most more ends = (ends.0, omega (arith, more, ends.1))
+  ends_later Memory first now later came most more ends = ends
+
+  -- a server that did not begin ends for want of memory
+  pub ends_unbegun : (first : DoorsView S K) (most : ℕ) (end : ServeEnd) → 0 < most → IsUnbegun end → EndsBy end.why first first end.connections most
+  ends_unbegun first most end some unbegun =
+      let least : EndsBy Memory first first 0 most = some in
+      subst (λ (n : ℕ). EndsBy end.why first first n most) (sym unbegun.0) (subst (λ (why : ServeWhy). EndsBy why first first 0 most) (sym unbegun.1) least)
+
+-- and the doors were not closed
+pub none_closed : (end : ServeEnd) → IsUnbegun end → closings_by end.why ≡ 0
+none_closed end unbegun = ap closings_by unbegun.1
+
+-- a list of no length has no element
+pub none_of : {X : Type 0} (size : ℕ) (xs : List X) → size ≡ length xs → size ≡ 0 → xs ≡ []
+none_of size [] is none = refl
+none_of size (x ∷ xs) is none = absurd (omega (arith, is, none))
+
+module _ {S K C : Type 0} where
+  -- the matchers that are left still work in the hall, once the first has ended
+  pub work_rest : (h l : Hall S K C) (old new : List (Matcher C)) (first : Matcher C) → old ≡ first ∷ new → arc_value l.turnstile ≡ arc_value h.turnstile → WorkIn h old → WorkIn l new
+  work_rest h l old new first left same work =
+      let all : AllOf (λ (m : Matcher C). WorksAt (arc_value h.turnstile) m) (first ∷ new) = subst (λ (ms : List (Matcher C)). AllOf (λ (m : Matcher C). WorksAt (arc_value h.turnstile) m) ms) left work in
+      subst (λ (t : HubTurnstile). AllOf (λ (m : Matcher C). WorksAt t m) new) (sym same) all.1
+
+  -- so do all, where the turnstile is the same
+  pub work_stays : (h l : Hall S K C) (matchers : List (Matcher C)) → arc_value l.turnstile ≡ arc_value h.turnstile → WorkIn h matchers → WorkIn l matchers
+  work_stays h l matchers same work = subst (λ (t : HubTurnstile). AllOf (λ (m : Matcher C). WorksAt t m) matchers) (sym same) work
+
+  -- no matcher was joined
+  pub gathered_none : (h : Hall S K C) → Gathers h h
+  gathered_none h = record {
+    own = [];
+    turnstile = refl;
+    grew = prefix_self (seen_in h);
+    met = sym (append-nil (met_in h));
+    matching = tt;
+    once = λ once. once;
+  }
+
+  -- matchers were joined, and then others
+  pub gathered_both : (a b c : Hall S K C) → Gathers a b → Gathers b c → Gathers a c
+  gathered_both a b c p q = record {
+    own = p.own ++ q.own;
+    turnstile = q.turnstile ∙ p.turnstile;
+    grew = prefix_trans (seen_in a) (seen_in b) (seen_in c) p.grew q.grew;
+    met = q.met ∙ ap (λ (l : List (ℕ × Entry)). l ++ q.own) p.met ∙ append_assoc (met_in a) p.own q.own;
+    matching = all_append (λ (e : ℕ × Entry). IsMatching e.1) p.own q.own p.matching q.matching;
+    once = λ once. q.once (p.once once);
+  }
+
+module _ {S K C : Type 0} (source_at : S → End) (sink_at : K → End) (tick : C → ℕ → C → Type 0) (may : C → Type 0) where
+  -- a cause that was found is the cause
+  pub ended_by : (first now : DoorsView S K) (h : Hall S K C) (count most : ℕ) (why found : ServeWhy) → why ≡ found → Going source_at sink_at tick may first now h count (closings_by found) → EndsBy found first now count most → Going source_at sink_at tick may first now h count (closings_by why) × EndsBy why first now count most
+  ended_by first now h count most why found is going ends = (
+    subst (λ (w : ServeWhy). Going source_at sink_at tick may first now h count (closings_by w)) (sym is) going,
+    subst (λ (w : ServeWhy). EndsBy w first now count most) (sym is) ends,
+  )
+
+  -- a server that did not begin has ended
+  pub ends_none : (first : DoorsView S K) (h : Hall S K C) (most : ℕ) (end : ServeEnd) → 0 < most → IsUnbegun end → Going source_at sink_at tick may first first h 0 0 → Ends source_at sink_at tick may first first h most end
+  ends_none first h most end some unbegun going = (
+    subst (λ (n : ℕ). Going source_at sink_at tick may first first h n (closings_by end.why)) (sym unbegun.0) (subst (λ (n : ℕ). Going source_at sink_at tick may first first h 0 n) (sym (none_closed end unbegun)) going),
+    ends_unbegun first most end some unbegun,
+  )
+
+  -- a server that has ended at once has served no connection
+  pub serves_at_once : (g : Setting) (first : DoorsView S K) (most : ℕ) (end : ServeEnd) → end.connections ≡ 0 → closings_by end.why ≡ 0 → EndsBy end.why first first end.connections most → Serves source_at sink_at tick may g first first most end
+  unfolding IsLegal
+  serves_at_once g first most end nobody not_closed ends = record {
+    history = [];
+    legal = tt;
+    visits = [];
+    passed = subst (λ (n : ℕ). Passes first first [] [] n) (sym not_closed) (passed_nothing first);
+    each = tt;
+    others = [];
+    matching = tt;
+    apart = tt;
+    count_is = sym nobody;
+    ends = ends;
+  }
+
+  -- so has one that had no memory for the first connection
+  pub serves_none : (g : Setting) (first : DoorsView S K) (most : ℕ) (end : ServeEnd) → 0 < most → IsUnbegun end → Serves source_at sink_at tick may g first first most end
+  serves_none g first most end some unbegun = serves_at_once g first most end unbegun.0 (none_closed end unbegun) (ends_unbegun first most end some unbegun)
+
+  -- once all connections were handed back and the matchers joined, the server has served them
+  pub serves_all : (g : Setting) (first last : DoorsView S K) (h l : Hall S K C) (most : ℕ) (end : ServeEnd) → setting_in h ≡ g → h.running.items ≡ [] → IsLegal (setting_in l) (seen_in l) → Gathers h l → EndsBy end.why first last end.connections most → Going source_at sink_at tick may first last h end.connections (closings_by end.why) → Serves source_at sink_at tick may g first last most end
+  serves_all g first last h l most end setting none legal gathers ends going =
+      let nobody : begun_in h ≡ [] = ap (λ (rs : List (Running S K C)). map begun_of rs) none in
+      let given : map given_of going.visits ++ map began_with (begun_in h) ≡ map given_of going.visits = ap (λ (bs : List (Begun S K C)). map given_of going.visits ++ map began_with bs) nobody ∙ append-nil (map given_of going.visits) in
+      let last_setting : setting_in l ≡ g = ap setting_at gathers.turnstile ∙ setting in
+      let none_left : length (begun_in h) ≡ 0 = ap length nobody in
+      let all = going.count_is in
+      record {
+        history = seen_in l;
+        legal = subst (λ (s : Setting). IsLegal s (seen_in l)) last_setting legal;
+        visits = going.visits;
+        passed = subst (λ xs. Passes first last xs (map back_of going.visits) (closings_by end.why)) given going.passed;
+        each = all_stay source_at sink_at tick may g (seen_in h) (seen_in l) going.visits gathers.grew (subst (λ (s : Setting). AllOf (IsWell source_at sink_at tick may s (seen_in h)) going.visits) setting going.each);
+        others = gathers.own;
+        matching = gathers.matching;
+        apart = subst (λ (ps : List (ℕ × Entry)). Distinct ps) (gathers.met ∙ ap (λ (ps : List (ℕ × Entry)). ps ++ gathers.own) going.met) (gathers.once going.once);
+        count_is = omega (arith, none_left, all);
+        ends = ends;
+      }

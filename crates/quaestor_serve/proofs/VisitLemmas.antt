@@ -1,0 +1,43 @@
+-- What stays true of connections in a longer history.
+use Rattle.std.proofs.Common.{ℕ, ◌<◌, ◌≤◌, List, Option, Some, None, IfSome, arith}
+use Rattle.hub_model.specs.declared.entry.Entry.{Entry}
+use Rattle.hub_model.specs.Desk.{IsPrefix}
+use Rattle.hub_model.specs.Setting.{Setting}
+use Rattle.dialogue.specs.Dialogue.{Sides}
+use Rattle.q_outside.specs.Ends.{End}
+use Rattle.q_outside.specs.declared.served.Served.{Served}
+use Rattle.quaestor_serve.specs.Served.{IsServed}
+use Rattle.quaestor_serve.specs.Visits.{Visit, IsWell}
+use Rattle.turnstile.specs.Places.{AllOf}
+use Rattle.turnstile.proofs.PlaceLemmas.{all_map}
+use Rattle.turnstile.proofs.Prefixes.{prefix_trans}
+
+-- a number in an option that has a bound has each lower one
+pub some_least : (o : Option ℕ) (n k : ℕ) → k ≤ n → IfSome o (λ m. n ≤ m) → IfSome o (λ m. k ≤ m)
+some_least None n k less room = room
+some_least (Some m) n k less room = omega (arith, less, room)
+
+-- and is positive where the bound is
+pub some_positive : (o : Option ℕ) (n : ℕ) → 0 < n → IfSome o (λ m. n ≤ m) → IfSome o (λ m. 0 < m)
+some_positive None n less room = room
+some_positive (Some m) n less room = omega (arith, less, room)
+
+-- a connection that was well served is so in every longer history
+pub served_stays : {C : Type 0} (tick : C → ℕ → C → Type 0) (g : Setting) (history longer : List Entry) (clock : C) (before after : Sides) (own : List (ℕ × Entry)) (served : Served) → IsPrefix history longer → IsServed tick g history clock before after own served → IsServed tick g longer clock before after own served
+served_stays tick g history longer clock before after own served grew s = record {
+  moments = s.moments;
+  entered = s.entered;
+  late = s.late;
+  ticks = s.ticks;
+  well = record {
+    begins = s.well.begins;
+    ends = s.well.ends;
+    beginning = prefix_trans s.well.ends history longer s.well.beginning grew;
+    dialogue = s.well.dialogue;
+  };
+}
+
+module _ {S K C : Type 0} (source_at : S → End) (sink_at : K → End) (tick : C → ℕ → C → Type 0) (may : C → Type 0) where
+  -- so are all of a list
+  pub all_stay : (g : Setting) (history longer : List Entry) (visits : List (Visit S K)) → IsPrefix history longer → AllOf (IsWell source_at sink_at tick may g history) visits → AllOf (IsWell source_at sink_at tick may g longer) visits
+  all_stay g history longer visits grew = all_map (IsWell source_at sink_at tick may g history) (IsWell source_at sink_at tick may g longer) (λ visit w. (w.0, w.1, served_stays tick g history longer w.0 _ _ visit.own visit.served grew w.2)) visits

@@ -1,0 +1,9 @@
+-- those that were started work in the hall, which is as before to all others
+use Rattle.std.proofs.Common.{◌≡◌, ◌≤◌}
+use Rattle.std.specs.VecDeque.{deque_len, deque_capacity}
+use Rattle.quaestor_serve.specs.Halls.{IsReady}
+use Rattle.quaestor_serve.specs.Matchers.{WorkIn, IsAsBefore}
+use Rattle.quaestor_serve.proofs.matchers.start_matchers.Given as goal
+
+abbrev pub invariant-loop-n : goal.invariant-loop-n
+invariant-loop-n g l = IsReady l.hall × IsAsBefore l.initial.hall l.hall × WorkIn l.hall l.matchers.items × (deque_len l.matchers ≡ l._n) × (l.count ≤ deque_capacity l.matchers)

@@ -1,0 +1,7 @@
+-- those that have had their turn are behind the others
+use Rattle.turnstile.specs.Places.{AllOf}
+use Rattle.quaestor_serve.specs.Matchers.{WorksAt}
+use Rattle.quaestor_serve.proofs.matchers.step_all.Given as goal
+
+abbrev pub invariant-loop-n : goal.invariant-loop-n
+invariant-loop-n g l = AllOf (λ m. WorksAt l.turnstile m) l.matchers.items

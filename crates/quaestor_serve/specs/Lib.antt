@@ -1,0 +1,9 @@
+pub mod Going
+pub mod Halls
+pub mod Kept
+pub mod Matchers
+pub mod Matches
+pub mod Running
+pub mod Served
+pub mod Serves
+pub mod Visits

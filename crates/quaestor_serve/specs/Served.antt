@@ -1,0 +1,21 @@
+-- Internal. That a connection was well served, at moments of a clock of its own.
+use Rattle.std.specs.Prelude.{ℕ, Bool, List}
+use Rattle.dialogue.specs.Dialogue.{Sides}
+use Rattle.hub_model.specs.declared.entry.Entry.{Entry}
+use Rattle.hub_model.specs.Setting.{Setting}
+use Rattle.q_outside.specs.Ends.{End, Ticks}
+use Rattle.q_outside.specs.declared.served.Served.{Served}
+use Rattle.quaestor_server.specs.WellServed.{WellServed}
+
+-- what the source and the sink of a connection show
+abbrev pub sides_of : {S K : Type 0} → (S → End) → (K → End) → S → K → Sides
+sides_of source_at sink_at source sink = record { source = source_at source; sink = sink_at sink }
+
+-- The connection was well served in the history, with these entries of its own, at moments that the clock gave.
+pub record IsServed {C : Type 0} (tick : C → ℕ → C → Type 0) (g : Setting) (history : List Entry) (clock : C) (before after : Sides) (own : List (ℕ × Entry)) (served : Served) : Type 0 where
+  pub moments : List ℕ
+  pub entered : List Bool
+  -- the clock as it is at the end
+  pub late : C
+  pub ticks : Ticks tick clock moments late
+  pub well : WellServed g history moments entered before after own served

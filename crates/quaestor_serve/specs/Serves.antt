@@ -1,0 +1,54 @@
+-- Internal. What a server has done when it ends.
+use Rattle.std.specs.Prelude.{◌≡◌, ℕ, ◌<◌, List, ◌++◌, map, length}
+use Rattle.std.specs.List.{flat_map}
+use Rattle.hub_model.specs.declared.entry.Entry.{Entry}
+use Rattle.hub_model.specs.Legal.{IsLegal}
+use Rattle.hub_model.specs.Setting.{Setting}
+use Rattle.q_outside.specs.Doors.{DoorsView, Passes}
+use Rattle.q_outside.specs.Ends.{End}
+use Rattle.quaestor_serve.specs.declared.hall.Hall.{Hall}
+use Rattle.quaestor_serve.specs.declared.serve_end.ServeEnd.{ServeEnd}
+use Rattle.quaestor_serve.specs.declared.serve_end.ServeWhy.{ServeWhy}
+use Rattle.quaestor_serve.specs.declared.serve_end.ServeWhy.TheVariants.{Limit, Closed, DoorFault, Memory}
+use Rattle.quaestor_serve.specs.Going.{Going}
+use Rattle.quaestor_serve.specs.Matches.{AreMatching}
+use Rattle.quaestor_serve.specs.Visits.{Visit, given_of, back_of, own_of, IsWell}
+use Rattle.turnstile.specs.Places.{AllOf, Distinct}
+
+-- how often the doors were closed
+abbrev pub closings_by : ServeWhy → ℕ
+closings_by Limit = 0
+closings_by Closed = 1
+closings_by DoorFault = 0
+closings_by Memory = 0
+
+-- there was no memory for the first connection
+abbrev pub IsUnbegun : ServeEnd → Type 0
+IsUnbegun end = (end.connections ≡ 0) × (end.why ≡ Memory)
+
+module _ {S K : Type 0} where
+  -- the cause of an end after so many connections, of which so many were to come
+  abbrev pub EndsBy : ServeWhy → DoorsView S K → DoorsView S K → (came most : ℕ) → Type 0
+  EndsBy Limit first last came most = came ≡ most
+  EndsBy Closed first last came most = came < most
+  EndsBy DoorFault first last came most = (came < most) × (first.faults < last.faults)
+  EndsBy Memory first last came most = came < most
+
+module _ {S K C : Type 0} (source_at : S → End) (sink_at : K → End) (tick : C → ℕ → C → Type 0) (may : C → Type 0) where
+  -- no further connection is waited for, and this is why
+  abbrev pub Ends : (first now : DoorsView S K) → Hall S K C → ℕ → ServeEnd → Type 0
+  Ends first now h most end = Going source_at sink_at tick may first now h end.connections (closings_by end.why) × EndsBy end.why first now end.connections most
+
+  -- Each connection that came was handed back, once and in order, with how it was served: well, in one legal history, by entries of its own. Matchers made matches and ticks alone. No position belongs to two of them. The cause of the end is exact.
+  pub record Serves (g : Setting) (first last : DoorsView S K) (most : ℕ) (end : ServeEnd) : Type 0 where
+    pub history : List Entry
+    pub legal : IsLegal g history
+    pub visits : List (Visit S K)
+    pub passed : Passes first last (map given_of visits) (map back_of visits) (closings_by end.why)
+    pub each : AllOf (IsWell source_at sink_at tick may g history) visits
+    -- the entries of the matchers, each with its position
+    pub others : List (ℕ × Entry)
+    pub matching : AreMatching others
+    pub apart : Distinct (flat_map own_of visits ++ others)
+    pub count_is : length visits ≡ end.connections
+    pub ends : EndsBy end.why first last end.connections most

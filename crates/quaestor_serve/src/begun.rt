@@ -1,0 +1,25 @@
+//! What a connection begins with, and what it leaves.
+
+use hub_desk::{HubValue, Seat, Turnstile};
+use q_outside::Served;
+use quaestor_server::Room;
+use std::snapshot::Snapshot;
+
+/// What a connection begins with. It has no bytes: only contracts see it.
+#[derive(Drop)]
+pub struct Begun<S, K, C> {
+    pub source: Snapshot<S>,
+    pub sink: Snapshot<K>,
+    pub clock: Snapshot<C>,
+    pub turnstile: Snapshot<Turnstile<HubValue>>,
+}
+
+/// What is left of a connection that has ended.
+#[derive(Drop)]
+pub struct Done<S, K> {
+    pub seat: Seat<HubValue>,
+    pub source: S,
+    pub sink: K,
+    pub room: Room,
+    pub served: Served,
+}
