@@ -1,4 +1,4 @@
-//! Tests of keys, queries and the query language.
+//! Tests of keys, queries, their results and the query language.
 #![tactic(auto)]
 
 #[cfg(test)]
@@ -9,3 +9,5 @@ mod language;
 mod normal_forms;
 #[cfg(test)]
 mod queries;
+#[cfg(test)]
+mod results;

@@ -1,0 +1,3 @@
+pub mod SameLemmas
+mod SizeLemmas
+mod StandardFacts
