@@ -1,0 +1,9 @@
+//! Tests of the server.
+#![tactic(auto)]
+
+#[cfg(test)]
+mod ends;
+#[cfg(test)]
+mod gates;
+#[cfg(test)]
+mod sinks;

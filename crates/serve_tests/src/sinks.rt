@@ -1,0 +1,72 @@
+//! Connections of one request, whose sinks keep what they are given.
+
+use q_base::Memory;
+use q_outside::{Failed, HoldGate, PlainSource, Served, Sink, Why};
+use std::alloc::Global;
+use std::collections::VecDeque;
+
+/// A request.
+pub(crate) const GET: &[u8] = b"GET /v1/stats HTTP/1.1\r\nHost: a\r\n\r\n";
+
+/// How a connection of one request is served.
+pub(crate) fn one_request() -> Served {
+    Served {
+        requests: 1,
+        why: Why::InputEnd,
+    }
+}
+
+/// A sink that keeps what it is given while there is memory, and shows nothing. When it is ended, it
+/// opens a gate, if it has one.
+#[derive(Drop)]
+pub(crate) struct KeptSink {
+    pub bytes: Vec<u8>,
+    pub faults: u64,
+    pub opens: Option<HoldGate>,
+}
+
+impl Sink for KeptSink {
+    ghost use Rattle.std.specs.Prelude.{None};
+
+    ghost at = { λ s. record { bytes = None; faults = s.faults } };
+
+    fn give(&mut self, bytes: &[u8]) -> Result<usize, Failed> {
+        if self.bytes.extend_from_slice(bytes).is_err() && self.faults < u64::MAX {
+            self.faults += 1;
+            return Err(Failed);
+        }
+        Ok(bytes.len())
+    }
+
+    fn end(&mut self) {
+        if let Some(gate) = &self.opens {
+            gate.open();
+        }
+    }
+}
+
+/// A connection of one request.
+pub(crate) fn connection_of(
+    alloc: Global,
+    opens: Option<HoldGate>,
+) -> Result<(PlainSource, KeptSink), Memory> {
+    let source = PlainSource::of(Vec::from_slice(alloc, GET)?);
+    let sink = KeptSink {
+        bytes: Vec::new(alloc),
+        faults: 0,
+        opens,
+    };
+    Ok((source, sink))
+}
+
+/// So many connections of one request each.
+pub(crate) fn connections_of(
+    alloc: Global,
+    count: usize,
+) -> Result<VecDeque<(PlainSource, KeptSink)>, Memory> {
+    let mut connections = VecDeque::new(alloc);
+    for _ in 0..count {
+        connections.push_back(connection_of(alloc, None)?)?;
+    }
+    Ok(connections)
+}
