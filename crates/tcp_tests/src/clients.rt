@@ -1,0 +1,88 @@
+//! A server at a port of its own, and a client of it.
+
+use hub_core::Config;
+use q_base::Moment;
+use q_outside::{FixedClock, OpenGate};
+use quaestor_serve::{ServeEnd, serve};
+use std::io::{Read, Write};
+use std::net::{Net, TcpListener, TcpStream};
+use std::rt::Clock;
+use std::sync::Wait;
+use std::test::Fail;
+use std::thread::{JoinHandle, Threads};
+use std::{io, thread};
+use tcp_doors::TcpDoors;
+
+/// A server of one connection, in a thread of its own, and a connection to it.
+#[derive(Drop)]
+pub(crate) struct Server {
+    pub handle: JoinHandle<ServeEnd>,
+    pub client: TcpStream,
+}
+
+/// Serves one connection.
+fn serve_one<R>(rt: R, doors: TcpDoors<R>) -> ServeEnd
+where
+    R: AllocGlobal + Clock + Threads + Wait + Copy + Send + 'static,
+{
+    let mut doors = doors;
+    let clock = FixedClock {
+        at: Moment::of(100),
+    };
+    serve(
+        &rt,
+        rt.alloc(),
+        Config::default(),
+        &mut doors,
+        &clock,
+        &OpenGate,
+        1,
+        1,
+        1,
+    )
+}
+
+/// Starts a server whose client may be silent for so many seconds, and connects to it.
+pub(crate) fn start<R>(rt: R, idle: u32) -> Result<Server, Fail>
+where
+    R: Net<Listener = TcpListener, Stream = TcpStream>
+        + AllocGlobal
+        + Clock
+        + Threads
+        + Wait
+        + Copy
+        + Send
+        + 'static,
+{
+    let doors = TcpDoors::bind(rt, "127.0.0.1:0", idle)?;
+    let address = doors.address()?;
+    let handle = thread::spawn(&rt, move || serve_one(rt, doors))?;
+    let client = TcpStream::connect(&rt, address)?;
+    Ok(Server { handle, client })
+}
+
+/// Sends bytes.
+pub(crate) fn send(client: &TcpStream, bytes: &[u8]) -> io::Result<()> {
+    let mut client = client;
+    client.write_all(bytes)
+}
+
+/// So many bytes of what the server sends.
+pub(crate) fn receive<R: AllocGlobal>(
+    rt: &R,
+    client: &TcpStream,
+    count: usize,
+) -> io::Result<Vec<u8>> {
+    let mut client = client;
+    let mut bytes = vec![in rt.alloc(); 0; count]?;
+    client.read_exact(&mut bytes)?;
+    Ok(bytes)
+}
+
+/// All that the server still sends.
+pub(crate) fn receive_all<R: AllocGlobal>(rt: &R, client: &TcpStream) -> io::Result<Vec<u8>> {
+    let mut client = client;
+    let mut bytes = Vec::new(rt.alloc());
+    client.read_to_end(&mut bytes)?;
+    Ok(bytes)
+}

@@ -1,0 +1,7 @@
+//! Tests of a server over TCP.
+#![tactic(auto)]
+
+#[cfg(test)]
+mod clients;
+#[cfg(test)]
+mod connections;
