@@ -35,7 +35,7 @@ module _ {S K : Type 0} where
   ends_later DoorFault first now later came most more ends = (ends.0, omega (arith, more, ends.1))
   ends_later Memory first now later came most more ends = ends
 
-  -- a server that did not begin ends for want of memory
+  -- a server that did not begin ends out of memory
   pub ends_unbegun : (first : DoorsView S K) (most : ℕ) (end : ServeEnd) → 0 < most → IsUnbegun end → EndsBy end.why first first end.connections most
   ends_unbegun first most end some unbegun =
       let least : EndsBy Memory first first 0 most = some in

@@ -21,7 +21,7 @@ module _ {S K C : Type 0} where
   began_with begun = (begun.source.value, begun.sink.value)
 
 module _ {S K C : Type 0} (source_at : S → End) (sink_at : K → End) (tick : C → ℕ → C → Type 0) (may : C → Type 0) where
-  -- So many connections came since the doors were in their first state. These were handed back, well served by entries at positions of their own; the others are served. The doors were closed so many times.
+  -- Since the doors were in their first state, `count` connections came and the doors were closed `closed` times. The visits are the connections that were handed back, well served by entries at positions of their own; the others are being served.
   pub record Going (first now : DoorsView S K) (h : Hall S K C) (count closed : ℕ) : Type 0 where
     pub visits : List (Visit S K)
     pub passed : Passes first now (map given_of visits ++ map began_with (begun_in h)) (map back_of visits) closed

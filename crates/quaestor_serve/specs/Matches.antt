@@ -5,7 +5,7 @@ use Rattle.hub_model.specs.declared.entry.Entry.TheVariants.{Match, Tick}
 use Rattle.hub_model.specs.Desk.{IsPrefix}
 use Rattle.turnstile.specs.Places.{AllOf}
 
--- the entry is a match, or a tick, which stands in its place where all was matched before
+-- the entry is a match, or the tick that is made instead where all was matched before
 abbrev pub IsMatching : Entry → Type 0
 IsMatching (Match moment to) = Unit {0}
 IsMatching (Tick moment) = Unit {0}

@@ -27,7 +27,7 @@ abbrev pub IsUnbegun : ServeEnd → Type 0
 IsUnbegun end = (end.connections ≡ 0) × (end.why ≡ Memory)
 
 module _ {S K : Type 0} where
-  -- the cause of an end after so many connections, of which so many were to come
+  -- the cause of an end after `came` connections, where at most `most` were to come
   abbrev pub EndsBy : ServeWhy → DoorsView S K → DoorsView S K → (came most : ℕ) → Type 0
   EndsBy Limit first last came most = came ≡ most
   EndsBy Closed first last came most = came < most

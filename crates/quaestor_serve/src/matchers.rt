@@ -72,7 +72,7 @@ where
     }
 }
 
-/// Starts so many matchers. Where memory runs out, those that were started go on.
+/// Starts this number of matchers. Where memory runs out, those that were started go on.
 pub(crate) fn start_matchers<S, K, C, R>(
     rt: &R,
     alloc: Global,

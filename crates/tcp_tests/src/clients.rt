@@ -42,7 +42,7 @@ where
     )
 }
 
-/// Starts a server whose client may be silent for so many seconds, and connects to it.
+/// Starts a server whose client may be silent for this number of seconds, and connects to it.
 pub(crate) fn start<R>(rt: R, idle: u32) -> Result<Server, Fail>
 where
     R: Net<Listener = TcpListener, Stream = TcpStream>

@@ -1,4 +1,4 @@
--- so many connections came, and the doors were not closed
+-- the number of connections that came is that of the rounds, and the doors were not closed
 use Rattle.q_outside.specs.Doors.{DoorsView}
 use Rattle.quaestor_serve.specs.Going.{Going, HaveRoom}
 use Rattle.quaestor_serve.specs.Halls.{IsReady, Stays}
