@@ -1,14 +1,20 @@
-//! The program over bytes in memory, with calls that fail.
-ghost use Rattle.std.specs.Prelude.{◌≡◌, ◌<◌};
+//! The program over bytes and connections in memory, with calls that fail.
+ghost use Rattle.std.specs.Prelude.{◌≡◌, ◌<◌, IfOk, IfSome};
+ghost use Rattle.quaestor_prog.specs.ListPlaces.{AreUnused};
 
 use crate::worked::GIVEN;
 use q_base::{Memory, Moment};
-use q_outside::{FixedClock, ListSink, ListSource, Script};
-use quaestor_prog::{Status, run};
+use q_outside::{
+    EndlessSink, FixedClock, ListDoors, ListSink, ListSource, PlainSource, Script, Served, Sink,
+};
+use quaestor_prog::{ListPlaces, Status, run};
 use std::alloc::Global;
+use std::collections::VecDeque;
 use std::marker::Brand;
 use std::process::Abort;
+use std::sync::Wait;
 use std::sync::ledger::{Blank, Ledger};
+use std::thread::Threads;
 
 /// A capacity that no output here uses up.
 pub(crate) const AMPLE: usize = 2_000_000;
@@ -39,11 +45,23 @@ pub(crate) fn calls_of(size: usize) -> Calls {
     }
 }
 
-/// How a run ended, and what it wrote.
+/// The request of each connection that comes.
+const REQUEST: &[u8] = b"GET /v1/stats HTTP/1.1\r\nHost: a\r\n\r\n";
+
+/// The doors of an address: how many connections come, and which call fails.
+#[derive(Clone, Copy)]
+pub(crate) struct Comers {
+    pub connections: usize,
+    pub failing: Option<u64>,
+}
+
+/// How a run ended, what it wrote, and how the connections were served that the places have back, where
+/// they have doors.
 #[derive(Debug, Drop)]
 pub(crate) struct Outcome {
     pub status: Status,
     pub written: Vec<u8>,
+    pub handed: Option<Vec<Option<Served>>>,
 }
 
 /// A script of such calls.
@@ -65,56 +83,162 @@ pub(crate) fn words_of(alloc: Global, line: &[&str]) -> Result<Vec<String>, Memo
     Ok(words)
 }
 
-/// Runs the program over a sink whose faults are counted by this ledger.
-fn run_counted<L: Ledger>(
+/// The doors of an address, where there are any.
+fn doors_of<M: Ledger>(
+    alloc: Global,
+    comers: Option<Comers>,
+    blank: Blank,
+) -> Result<Option<ListDoors<PlainSource, EndlessSink, M>>, Memory>
+    requires name { blank.name ≡ M.name }
+    requires parts { blank.parts ≡ M.parts }
+    requires some { 0 < M.parts }
+    ensures { IfOk result (λ doors. IfSome doors AreUnused) }
+{
+    let Some(comers) = comers else {
+        return Ok(None);
+    };
+    let mut connections = VecDeque::new(alloc);
+    for _ in 0..comers.connections {
+        let source = PlainSource::of(Vec::from_slice(alloc, REQUEST)?);
+        connections.push_back((source, EndlessSink))?;
+    }
+    let mut failing = Vec::new(alloc);
+    if let Some(call) = comers.failing {
+        failing.push(call)?;
+    }
+    let script = Script::of(failing, Vec::new(alloc));
+    Ok(Some(ListDoors::new(alloc, connections, script, blank)?))
+}
+
+/// How connections were served that doors have back.
+fn handed_of<M: Ledger>(
+    alloc: Global,
+    doors: Option<ListDoors<PlainSource, EndlessSink, M>>,
+) -> Result<Option<Vec<Option<Served>>>, Memory> {
+    let Some(doors) = doors else {
+        return Ok(None);
+    };
+    let mut handed = Vec::new(alloc);
+    for back in &doors.handed {
+        handed.push(back.served)?;
+    }
+    Ok(Some(handed))
+}
+
+/// Runs the program over doors and places whose counts are those of these ledgers. Its status, and how
+/// the connections were served that the places have back, where they have doors.
+pub(crate) fn run_with<K, M, F, R>(
+    rt: &R,
+    alloc: Global,
+    words: &[String],
+    source: &mut ListSource,
+    sink: &mut K,
+    comers: Option<Comers>,
+    doors: Blank,
+    places: Blank,
+) -> Result<(Status, Option<Vec<Option<Served>>>), Memory>
+where
+    K: Sink,
+    M: Ledger,
+    F: Ledger,
+    R: Threads + Wait + Copy + Send + 'static,
+    requires doors { (doors.name ≡ M.name) × (doors.parts ≡ M.parts) × (0 < M.parts) }
+    requires places { (places.name ≡ F.name) × (places.parts ≡ F.parts) × (0 < F.parts) }
+{
+    let mut clock = FixedClock {
+        at: Moment::of(GIVEN),
+    };
+    let address = String::from_str(alloc, "here")?;
+    let doors = doors_of::<M>(alloc, comers, doors)?;
+    let mut places = ListPlaces::<PlainSource, EndlessSink, M, F>::new(address, doors, places);
+    let status = run(rt, alloc, words, source, sink, &mut clock, &mut places);
+    Ok((status, handed_of(alloc, places.kept)?))
+}
+
+/// The same, over a sink that keeps what it is given.
+fn run_counted<L, M, F, R>(
+    rt: &R,
     alloc: Global,
     words: &[String],
     source: &mut ListSource,
     capacity: usize,
     script: Script,
-    blank: Blank,
+    comers: Option<Comers>,
+    sink: Blank,
+    doors: Blank,
+    places: Blank,
 ) -> Result<Outcome, Memory>
-    requires name { blank.name ≡ L.name }
-    requires parts { blank.parts ≡ L.parts }
-    requires some { 0 < L.parts }
+where
+    L: Ledger,
+    M: Ledger,
+    F: Ledger,
+    R: Threads + Wait + Copy + Send + 'static,
+    requires sink { (sink.name ≡ L.name) × (sink.parts ≡ L.parts) × (0 < L.parts) }
+    requires doors { (doors.name ≡ M.name) × (doors.parts ≡ M.parts) × (0 < M.parts) }
+    requires places { (places.name ≡ F.name) × (places.parts ≡ F.parts) × (0 < F.parts) }
 {
-    let mut sink = ListSink::<L>::new(alloc, capacity, script, blank)?;
-    let mut clock = FixedClock {
-        at: Moment::of(GIVEN),
-    };
-    let status = run(alloc, words, source, &mut sink, &mut clock);
+    let mut sink = ListSink::<L>::new(alloc, capacity, script, sink)?;
+    let (status, handed) = run_with::<ListSink<L>, M, F, R>(
+        rt, alloc, words, source, &mut sink, comers, doors, places,
+    )?;
     Ok(Outcome {
         status,
         written: sink.bytes,
+        handed,
     })
 }
 
+/// Runs the program with these words over this input, where such connections come.
+pub(crate) fn run_at<R: Threads + Wait + Copy + Send + AllocGlobal + 'static>(
+    rt: &R,
+    line: &[&str],
+    input: &[u8],
+    takes: Calls,
+    capacity: usize,
+    gives: Calls,
+    comers: Option<Comers>,
+) -> Result<Outcome, Memory> {
+    let alloc = rt.alloc();
+    let words = words_of(alloc, line)?;
+    let bytes = Vec::from_slice(alloc, input)?;
+    let mut source = ListSource::of(bytes, script_of(alloc, takes)?);
+    let script = script_of(alloc, gives)?;
+    run_counted::<Brand, Brand, Brand, R>(
+        rt,
+        alloc,
+        &words,
+        &mut source,
+        capacity,
+        script,
+        comers,
+        Blank::new(1),
+        Blank::new(1),
+        Blank::new(1),
+    )
+}
+
 /// Runs the program with these words over this input.
-pub(crate) fn run_over(
-    alloc: Global,
+pub(crate) fn run_over<R: Threads + Wait + Copy + Send + AllocGlobal + 'static>(
+    rt: &R,
     line: &[&str],
     input: &[u8],
     takes: Calls,
     capacity: usize,
     gives: Calls,
 ) -> Result<Outcome, Memory> {
-    let words = words_of(alloc, line)?;
-    let bytes = Vec::from_slice(alloc, input)?;
-    let mut source = ListSource::of(bytes, script_of(alloc, takes)?);
-    let script = script_of(alloc, gives)?;
-    run_counted::<Brand>(alloc, &words, &mut source, capacity, script, Blank::new(1))
+    run_at(rt, line, input, takes, capacity, gives, None)
 }
 
 /// Serves this input at the moment 100.
-pub(crate) fn pipe_over(
-    alloc: Global,
+pub(crate) fn pipe_over<R: Threads + Wait + Copy + Send + AllocGlobal + 'static>(
+    rt: &R,
     input: &[u8],
     takes: Calls,
     capacity: usize,
     gives: Calls,
 ) -> Result<Outcome, Memory> {
     run_over(
-        alloc,
+        rt,
         &["pipe", "--clock", "100"],
         input,
         takes,

@@ -221,7 +221,7 @@ fn requests_of_one_connection_have_their_replies(rt: HostRuntime) -> Result<(), 
         written.extend_from_slice(&reply_of(rt.alloc(), row)?)?;
     }
     for size in [1, WHOLE] {
-        let outcome = pipe_over(rt.alloc(), &input, calls_of(size), AMPLE, calls_of(WHOLE))?;
+        let outcome = pipe_over(&rt, &input, calls_of(size), AMPLE, calls_of(WHOLE))?;
         assert_run(&rt, &outcome, Status::Done, &written, size);
     }
     Ok(())

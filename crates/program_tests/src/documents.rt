@@ -14,7 +14,7 @@ fn a_document_is_put_and_read_in_whatever_pieces(rt: HostRuntime) -> Result<(), 
     let input = joined(rt.alloc(), PUT, GET)?;
     let replies = joined(rt.alloc(), STORED, FOUND)?;
     for size in [1, 2, 7, WHOLE] {
-        let outcome = pipe_over(rt.alloc(), &input, calls_of(size), AMPLE, calls_of(size))?;
+        let outcome = pipe_over(&rt, &input, calls_of(size), AMPLE, calls_of(size))?;
         assert_run(&rt, &outcome, Status::Done, &replies, size);
     }
     Ok(())
@@ -25,13 +25,7 @@ fn a_cut_input_is_answered_up_to_its_last_whole_request(rt: HostRuntime) -> Resu
     let input = joined(rt.alloc(), PUT_EXPECTING, GET)?;
     let replies = all_of(rt.alloc(), &[CONTINUE, STORED, FOUND])?;
     for cut in 0..=input.len() {
-        let outcome = pipe_over(
-            rt.alloc(),
-            &input[..cut],
-            calls_of(WHOLE),
-            AMPLE,
-            calls_of(WHOLE),
-        )?;
+        let outcome = pipe_over(&rt, &input[..cut], calls_of(WHOLE), AMPLE, calls_of(WHOLE))?;
         let status = if cut == 0 || cut == PUT_EXPECTING.len() || cut == input.len() {
             Status::Done
         } else {
@@ -73,7 +67,7 @@ fn a_page_has_the_keys_of_outdated_copies(rt: HostRuntime) -> Result<(), Fail> {
         let input = joined(rt.alloc(), &all_of(rt.alloc(), asks)?, FILTER)?;
         let page = page_of(rt.alloc(), front, commits, places)?;
         let written = joined(rt.alloc(), &all_of(rt.alloc(), replies)?, &page)?;
-        let outcome = pipe_over(rt.alloc(), &input, calls_of(WHOLE), AMPLE, calls_of(7))?;
+        let outcome = pipe_over(&rt, &input, calls_of(WHOLE), AMPLE, calls_of(7))?;
         assert_run(&rt, &outcome, Status::Done, &written, at);
     }
     Ok(())

@@ -1,13 +1,19 @@
 //! How connections end.
 ghost use Rattle.std.specs.Prelude.{None};
 
-use crate::calls::{AMPLE, WHOLE, assert_run, calls_of, pipe_over, script_of, words_of};
+use crate::calls::{
+    AMPLE, Comers, WHOLE, assert_run, calls_of, pipe_over, run_with, script_of, words_of,
+};
 use crate::texts::{Row, joined, repeated, reply_of};
-use crate::worked::{CLOSED, ELSEWHERE, EMPTY, GET, GIVEN, NO_ROUTE, NO_ROUTE_LAST, PUT};
-use q_base::Moment;
-use q_outside::{Failed, FixedClock, ListSource, Sink};
-use quaestor_prog::{Status, run};
+use crate::worked::{CLOSED, ELSEWHERE, EMPTY, GET, NO_ROUTE, NO_ROUTE_LAST, PUT};
+use q_base::Memory;
+use q_outside::{Failed, ListSource, Sink};
+use quaestor_prog::Status;
+use std::marker::Brand;
+use std::sync::Wait;
+use std::sync::ledger::Blank;
 use std::test::Fail;
+use std::thread::Threads;
 
 #[test]
 fn ten_thousand_requests_are_the_limit(rt: HostRuntime) -> Result<(), Fail> {
@@ -19,7 +25,7 @@ fn ten_thousand_requests_are_the_limit(rt: HostRuntime) -> Result<(), Fail> {
         let input = repeated(rt.alloc(), ELSEWHERE, requests)?;
         let mut replies = repeated(rt.alloc(), NO_ROUTE, others)?;
         replies.extend_from_slice(last)?;
-        let outcome = pipe_over(rt.alloc(), &input, calls_of(WHOLE), AMPLE, calls_of(WHOLE))?;
+        let outcome = pipe_over(&rt, &input, calls_of(WHOLE), AMPLE, calls_of(WHOLE))?;
         assert_eq!(rt; outcome.status, status, "at {requests}");
         assert!(rt; outcome.written == replies, "at {requests}");
     }
@@ -46,20 +52,46 @@ impl Sink for Ended {
     }
 }
 
+/// Runs the program with these words over such a sink, where one connection comes.
+fn run_ended<R: Threads + Wait + Copy + Send + AllocGlobal + 'static>(
+    rt: &R,
+    line: &[&str],
+    sink: &mut Ended,
+) -> Result<Status, Memory> {
+    let alloc = rt.alloc();
+    let words = words_of(alloc, line)?;
+    let mut source = ListSource::of(joined(alloc, PUT, GET)?, script_of(alloc, calls_of(WHOLE))?);
+    let comers = Comers {
+        connections: 1,
+        failing: None,
+    };
+    let (status, _) = run_with::<Ended, Brand, Brand, R>(
+        rt,
+        alloc,
+        &words,
+        &mut source,
+        sink,
+        Some(comers),
+        Blank::new(1),
+        Blank::new(1),
+    )?;
+    Ok(status)
+}
+
 #[test]
 fn the_sink_is_ended_once_behind_all_that_is_given(rt: HostRuntime) -> Result<(), Fail> {
-    for (at, line) in [["pipe"].as_slice(), &["serve"]].into_iter().enumerate() {
-        let words = words_of(rt.alloc(), line)?;
-        let bytes = joined(rt.alloc(), PUT, GET)?;
-        let mut source = ListSource::of(bytes, script_of(rt.alloc(), calls_of(WHOLE))?);
+    let rows: [(&[&str], Status); 4] = [
+        (&["pipe"], Status::Done),
+        (&["serve"], Status::Words),
+        (&["serve", "here"], Status::Done),
+        (&["serve", "there"], Status::PlaceFault),
+    ];
+    for (at, (line, status)) in rows.into_iter().enumerate() {
         let mut sink = Ended {
             ends: 0,
             late: false,
         };
-        let mut clock = FixedClock {
-            at: Moment::of(GIVEN),
-        };
-        let _status = run(rt.alloc(), &words, &mut source, &mut sink, &mut clock);
+        assert_eq!(rt; run_ended(&rt, line, &mut sink)?, status, "at {at}");
         assert_eq!(rt; (sink.ends, sink.late), (1, false), "at {at}");
     }
     Ok(())
@@ -162,16 +194,10 @@ fn a_connection_ends_by_its_request(rt: HostRuntime) -> Result<(), Fail> {
     for (at, (status, row)) in rows.into_iter().enumerate() {
         let input = joined(rt.alloc(), row.0, GET)?;
         let written = reply_of(rt.alloc(), &row)?;
-        let outcome = pipe_over(rt.alloc(), &input, calls_of(WHOLE), AMPLE, calls_of(WHOLE))?;
+        let outcome = pipe_over(&rt, &input, calls_of(WHOLE), AMPLE, calls_of(WHOLE))?;
         assert_run(&rt, &outcome, status, &written, at);
     }
-    let blank = pipe_over(
-        rt.alloc(),
-        b"\r\n\r\n\n",
-        calls_of(WHOLE),
-        AMPLE,
-        calls_of(WHOLE),
-    )?;
+    let blank = pipe_over(&rt, b"\r\n\r\n\n", calls_of(WHOLE), AMPLE, calls_of(WHOLE))?;
     assert_run(&rt, &blank, Status::Done, b"", 0);
     Ok(())
 }

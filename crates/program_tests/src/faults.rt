@@ -12,7 +12,7 @@ fn a_source_that_fails_ends_the_run(rt: HostRuntime) -> Result<(), Fail> {
     let replies = all_of(rt.alloc(), &[CONTINUE, STORED, FOUND])?;
     for call in 0..200 {
         let takes = failing_at(call, 1);
-        let outcome = pipe_over(rt.alloc(), &input, takes, AMPLE, calls_of(7))?;
+        let outcome = pipe_over(&rt, &input, takes, AMPLE, calls_of(7))?;
         let status = if call <= input.len() {
             Status::ReadFault
         } else {
@@ -32,7 +32,7 @@ fn a_sink_that_fails_ends_the_run(rt: HostRuntime) -> Result<(), Fail> {
         let mut whole = 0;
         for call in 0..500_usize {
             let gives = failing_at(call, size);
-            let outcome = pipe_over(rt.alloc(), &input, calls_of(WHOLE), AMPLE, gives)?;
+            let outcome = pipe_over(&rt, &input, calls_of(WHOLE), AMPLE, gives)?;
             let count = outcome.written.len();
             assert!(rt; replies.starts_with(&outcome.written), "at {call}");
             if count == replies.len() {
@@ -56,13 +56,7 @@ fn a_sink_takes_what_it_has_capacity_for(rt: HostRuntime) -> Result<(), Fail> {
     let input = joined(rt.alloc(), PUT, GET)?;
     let replies = joined(rt.alloc(), STORED, FOUND)?;
     for capacity in 0..replies.len() {
-        let outcome = pipe_over(
-            rt.alloc(),
-            &input,
-            calls_of(WHOLE),
-            capacity,
-            calls_of(WHOLE),
-        )?;
+        let outcome = pipe_over(&rt, &input, calls_of(WHOLE), capacity, calls_of(WHOLE))?;
         assert_run(
             &rt,
             &outcome,
@@ -80,7 +74,7 @@ fn a_sink_takes_as_much_of_the_usage_line_as_it_has_capacity_for(
 ) -> Result<(), Fail> {
     for capacity in 0..=USAGE.len() {
         let refused = run_over(
-            rt.alloc(),
+            &rt,
             &["serve"],
             PUT,
             calls_of(WHOLE),

@@ -12,6 +12,8 @@ mod ends;
 #[cfg(test)]
 mod faults;
 #[cfg(test)]
+mod serving;
+#[cfg(test)]
 mod texts;
 #[cfg(test)]
 mod words;

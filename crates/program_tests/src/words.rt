@@ -5,8 +5,9 @@ use crate::texts::joined;
 use crate::worked::{FOUND, GET, LAST, PUT, STORED, USAGE};
 use q_base::Memory;
 use quaestor_prog::{Status, refusal_of};
-use std::alloc::Global;
+use std::sync::Wait;
 use std::test::Fail;
+use std::thread::Threads;
 
 #[test]
 fn words_are_taken_or_refused(rt: HostRuntime) -> Result<(), Fail> {
@@ -39,34 +40,24 @@ fn words_are_taken_or_refused(rt: HostRuntime) -> Result<(), Fail> {
         (&[], Status::Words, USAGE),
     ];
     for (at, (line, status, written)) in rows.into_iter().enumerate() {
-        let outcome = run_over(
-            rt.alloc(),
-            line,
-            &input,
-            calls_of(WHOLE),
-            AMPLE,
-            calls_of(WHOLE),
-        )?;
+        let outcome = run_over(&rt, line, &input, calls_of(WHOLE), AMPLE, calls_of(WHOLE))?;
         assert_run(&rt, &outcome, status, written, at);
     }
     Ok(())
 }
 
 /// Runs the program with the words of this line over a document that is put and read.
-fn run_line(alloc: Global, line: &str) -> Result<Outcome, Memory> {
+fn run_line<R: Threads + Wait + Copy + Send + AllocGlobal + 'static>(
+    rt: &R,
+    line: &str,
+) -> Result<Outcome, Memory> {
+    let alloc = rt.alloc();
     let mut words = Vec::new(alloc);
     for word in line.split(' ') {
         words.push(word)?;
     }
     let input = joined(alloc, PUT, GET)?;
-    run_over(
-        alloc,
-        &words,
-        &input,
-        calls_of(WHOLE),
-        AMPLE,
-        calls_of(WHOLE),
-    )
+    run_over(rt, &words, &input, calls_of(WHOLE), AMPLE, calls_of(WHOLE))
 }
 
 #[test]
@@ -91,9 +82,21 @@ fn options_are_numbers_within_their_limits(rt: HostRuntime) -> Result<(), Fail> 
         ("pipe x", Status::Words),
         ("pipe --frobnicate 1", Status::Words),
         ("world 7 0", Status::Words),
+        ("serve here there", Status::Words),
+        ("serve here --clock 5", Status::Words),
+        ("serve here --bits 9", Status::Words),
+        ("serve here --workers 0", Status::Words),
+        ("serve here --workers 65", Status::Words),
+        ("serve here --matchers 0", Status::Words),
+        ("serve here --matchers 17", Status::Words),
+        ("serve here --connections 0", Status::Words),
+        ("serve here --connections 1099511627777", Status::Words),
+        ("serve here --idle 3601", Status::Words),
+        ("serve here --idle 1 --idle 1", Status::Words),
+        ("serve here --frobnicate 1", Status::Words),
     ];
     for (at, (line, status)) in rows.into_iter().enumerate() {
-        let outcome = run_line(rt.alloc(), line)?;
+        let outcome = run_line(&rt, line)?;
         assert_eq!(rt; outcome.status, status, "at {at}");
         if status == Status::Words {
             assert_eq!(rt; outcome.written.as_slice(), USAGE, "at {at}");
@@ -104,28 +107,45 @@ fn options_are_numbers_within_their_limits(rt: HostRuntime) -> Result<(), Fail> 
 
 #[test]
 fn help_and_version_are_written(rt: HostRuntime) -> Result<(), Fail> {
-    for line in ["--help", "-h", "pipe --help", "pipe -h"] {
-        let outcome = run_line(rt.alloc(), line)?;
+    for line in ["--help", "-h", "pipe --help", "pipe -h", "serve --help"] {
+        let outcome = run_line(&rt, line)?;
         assert_eq!(rt; outcome.status, Status::Done, "of {line}");
         assert!(rt; outcome.written.len() > USAGE.len(), "of {line}");
     }
-    for line in ["--version", "-V", "pipe --version"] {
-        let outcome = run_line(rt.alloc(), line)?;
+    for line in ["--version", "-V", "pipe --version", "serve -V"] {
+        let outcome = run_line(&rt, line)?;
         assert_run(&rt, &outcome, Status::Done, b"quaestor 0.1.0\n", 0);
     }
     Ok(())
 }
 
 #[test]
-fn a_refused_value_is_named_with_its_limits(rt: HostRuntime) -> Result<(), Fail> {
-    let words = words_of(rt.alloc(), &["pipe", "--bits", "9"])?;
-    let Some(refusal) = refusal_of(rt.alloc(), &words)? else {
-        return Err(Fail::from("the value is taken"));
-    };
-    let text = format!(in rt.alloc(); "{refusal}")?;
-    assert_eq!(rt;
-        text.as_str(),
-        "error: --bits is a decimal number from 10 to 22, not '9'\n"
-    );
+fn refused_words_have_a_message(rt: HostRuntime) -> Result<(), Fail> {
+    let rows: [(&[&str], &str); 4] = [
+        (
+            &["pipe", "--bits", "9"],
+            "error: --bits is a decimal number from 10 to 22, not '9'\n",
+        ),
+        (
+            &["serve", "here", "--workers", "65"],
+            "error: --workers is a decimal number from 1 to 64, not '65'\n",
+        ),
+        (
+            &["serve", "here", "--idle=x"],
+            "error: --idle is a decimal number from 0 to 3600, not 'x'\n",
+        ),
+        (
+            &["serve", "--workers", "2"],
+            "error: the following required arguments were not provided:\n  <ADDR>\n",
+        ),
+    ];
+    for (line, message) in rows {
+        let words = words_of(rt.alloc(), line)?;
+        let Some(refusal) = refusal_of(rt.alloc(), &words)? else {
+            return Err(Fail::from("the words are taken"));
+        };
+        let text = format!(in rt.alloc(); "{refusal}")?;
+        assert!(rt; text.starts_with(message), "{text}");
+    }
     Ok(())
 }

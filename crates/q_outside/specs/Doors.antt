@@ -1,4 +1,4 @@
--- Internal. What contracts see of doors before a call and after it.
+-- Believed. What contracts see of doors before a call and after it.
 use Rattle.std.specs.Prelude.{◌≡◌, ℕ, ◌+◌, ◌<◌, ◌≤◌, List, [], ◌∷◌, length, Option, Some, None, Result, Ok, Err}
 use Rattle.q_outside.specs.declared.connections.Back.{Back}
 use Rattle.q_outside.specs.declared.connections.Next.{Next}

@@ -1,7 +1,12 @@
 //! The program: its words, standard input and output, and the system's clock.
 #![tactic(auto)]
 
-use q_outside::{ReadSource, SystemClock, WriteSink};
+mod clock;
+mod places;
+
+use clock::HostClock;
+use places::TcpPlaces;
+use q_outside::{ReadSource, WriteSink};
 use quaestor_prog::{Status, refusal_of, run};
 use std::env;
 use std::io::ErrorKind;
@@ -37,8 +42,17 @@ fn main(rt: HostRuntime) -> ExitCode {
         Ok(words) => {
             let mut source = ReadSource::new(rt.stdin());
             let mut sink = WriteSink::new(rt.stdout());
-            let mut clock = SystemClock::new(&rt);
-            let status = run(rt.alloc(), &words, &mut source, &mut sink, &mut clock);
+            let mut clock = HostClock::new(rt);
+            let mut places = TcpPlaces::new(rt);
+            let status = run(
+                &rt,
+                rt.alloc(),
+                &words,
+                &mut source,
+                &mut sink,
+                &mut clock,
+                &mut places,
+            );
             if status == Status::Words {
                 explain(&rt, &words);
             }

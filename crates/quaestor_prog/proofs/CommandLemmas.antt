@@ -1,27 +1,42 @@
--- The command `pipe`, as clap reads it, and the answers that clap has for its words.
-use Rattle.std.proofs.Common.{◌≡◌, ◌≢◌, ◌⊎◌, true, List, [], ◌∷◌, codes, refl, sym, ap, ◌∙◌, subst, ⊎_elim, inl, inr}
+-- The commands, as clap reads them, and the answers that clap has for their words.
+use Rattle.std.proofs.Common.{◌≡◌, ◌≢◌, ◌⊎◌, ℕ, true, List, [], ◌∷◌, length, Option, Some, codes, refl, sym, ap, ◌∙◌, subst, arith, ⊎_elim, inl, inr}
 use Rattle.std.specs.Prelude.{Result, Ok, Err, IfOk}
-use Rattle.clap.specs.Words.{App, Text, with_rule, fault_of, Kinds, IsAmong, HasMatchesOf, found_of, rows_of, matches_of, is_simple, is_simple_and_free}
+use Rattle.std.specs.Option.{option_map_or}
+use Rattle.clap.specs.Words.{App, Text, with_rule, fault_of, kind_of, Kinds, IsAmong, HasMatchesOf, found_of, rows_of, matches_of, is_simple, is_simple_and_free}
 use Rattle.clap.specs.declared.parser.matches.ArgMatches.{ArgMatches}
 use Rattle.clap.specs.declared.error.kind.ErrorKind.{ErrorKind}
 use Rattle.clap.specs.declared.error.kind.ErrorKind.TheVariants as kind
-use Rattle.quaestor_prog.specs.Commands.{number_rule, versioned, pipe_app, program_app, NamesPipe, IsAnswered, AskHelp}
-use Rattle.quaestor_prog.specs.Words.{Asks, IsAnswerOf}
+use Rattle.hub_model.specs.Setting.{Setting}
+use Rattle.quaestor_prog.specs.Commands.{number_rule, address_rule, with_setting_rules, versioned, pipe_app, serve_app, program_app, NamesPipe, NamesServe, NamesNone, FaultsAre, IsAnswered, AskHelp}
+use Rattle.quaestor_prog.specs.Words.{AreRun, AreTaken, Asks, IsAnswerOf, IsPipe, IsServe, ServeAsk}
 use Rattle.quaestor_prog.specs.declared.words.Invocation.{Invocation}
-use Rattle.quaestor_prog.specs.declared.words.Invocation.TheVariants.{Pipe, Help, Invalid}
+use Rattle.quaestor_prog.specs.declared.words.Invocation.TheVariants.{Pipe, Serve, Help, Invalid}
 use Rattle.quaestor_prog.specs.declared.refusal.Refusal.TheVariants as why
 use Rattle.quaestor_prog.proofs.Singles.{Single, fault_single}
 
 -- one option after another makes the command
-pub seven : (a b c d e f g h : App) → a ≡ versioned (codes "pipe") → b ≡ with_rule a (number_rule (codes "bits")) → c ≡ with_rule b (number_rule (codes "hashes")) → d ≡ with_rule c (number_rule (codes "ttl-low")) → e ≡ with_rule d (number_rule (codes "ttl-high"))
-    → f ≡ with_rule e (number_rule (codes "active")) → g ≡ with_rule f (number_rule (codes "bytes")) → h ≡ with_rule g (number_rule (codes "clock")) → h ≡ pipe_app
-seven a b c d e f g h pa pb pc pd pe pf pg ph =
-    ph ∙ ap (λ x. with_rule x (number_rule (codes "clock"))) (pg ∙ ap (λ x. with_rule x (number_rule (codes "bytes"))) (pf ∙ ap (λ x. with_rule x (number_rule (codes "active")))
-    (pe ∙ ap (λ x. with_rule x (number_rule (codes "ttl-high"))) (pd ∙ ap (λ x. with_rule x (number_rule (codes "ttl-low"))) (pc ∙ ap (λ x. with_rule x (number_rule (codes "hashes"))) (pb ∙ ap (λ x. with_rule x (number_rule (codes "bits"))) pa))))))
+pub six : (a b c d e f g : App) → b ≡ with_rule a (number_rule (codes "bits")) → c ≡ with_rule b (number_rule (codes "hashes")) → d ≡ with_rule c (number_rule (codes "ttl-low")) → e ≡ with_rule d (number_rule (codes "ttl-high"))
+    → f ≡ with_rule e (number_rule (codes "active")) → g ≡ with_rule f (number_rule (codes "bytes")) → g ≡ with_setting_rules a
+six a b c d e f g pb pc pd pe pf pg =
+    pg ∙ ap (λ x. with_rule x (number_rule (codes "bytes"))) (pf ∙ ap (λ x. with_rule x (number_rule (codes "active")))
+    (pe ∙ ap (λ x. with_rule x (number_rule (codes "ttl-high"))) (pd ∙ ap (λ x. with_rule x (number_rule (codes "ttl-low"))) (pc ∙ ap (λ x. with_rule x (number_rule (codes "hashes"))) pb))))
 
--- clap has at most one kind of error for the words of `pipe`, and for those of the program
+pub pipe_is : (a b c : App) → a ≡ versioned (codes "pipe") → b ≡ with_setting_rules a → c ≡ with_rule b (number_rule (codes "clock")) → c ≡ pipe_app
+pipe_is a b c pa pb pc = pc ∙ ap (λ x. with_rule x (number_rule (codes "clock"))) (pb ∙ ap with_setting_rules pa)
+
+pub serve_is : (a b c d e f g : App) → a ≡ versioned (codes "serve") → b ≡ with_rule a address_rule → c ≡ with_setting_rules b → d ≡ with_rule c (number_rule (codes "workers")) → e ≡ with_rule d (number_rule (codes "matchers"))
+    → f ≡ with_rule e (number_rule (codes "connections")) → g ≡ with_rule f (number_rule (codes "idle")) → g ≡ serve_app
+serve_is a b c d e f g pa pb pc pd pe pf pg =
+    pg ∙ ap (λ x. with_rule x (number_rule (codes "idle"))) (pf ∙ ap (λ x. with_rule x (number_rule (codes "connections")))
+    (pe ∙ ap (λ x. with_rule x (number_rule (codes "matchers"))) (pd ∙ ap (λ x. with_rule x (number_rule (codes "workers")))
+    (pc ∙ ap with_setting_rules (pb ∙ ap (λ x. with_rule x address_rule) pa)))))
+
+-- clap has at most one kind of error for the words of a command
 pub pipe_single : (words : List Text) → Single (fault_of pipe_app words)
 pipe_single words = fault_single pipe_app words refl refl refl
+
+pub serve_single : (words : List Text) → Single (fault_of serve_app words)
+serve_single words = fault_single serve_app words refl refl refl
 
 pub program_single : (words : List Text) → Single (fault_of program_app words)
 program_single words = fault_single program_app words refl refl refl
@@ -55,46 +70,85 @@ taken_are a b words e simple none = subst (λ x. is_simple_and_free x ≡ true �
 pub kinds_are : (a b : App) (words : List Text) (of : ErrorKind) → a ≡ b → is_simple_and_free b ≡ true → (is_simple_and_free a ≡ true → (of ≡ kind.OutOfMemory) ⊎ IsAmong of (fault_of a words)) → (of ≡ kind.OutOfMemory) ⊎ IsAmong of (fault_of b words)
 kinds_are a b words of e simple some = subst (λ x. is_simple_and_free x ≡ true → (of ≡ kind.OutOfMemory) ⊎ IsAmong of (fault_of x words)) e some simple
 
-nothing_answered : (kinds : Kinds) → kinds ≡ [] → IsAnswered kinds → ⊥
+pub nothing_answered : (kinds : Kinds) → kinds ≡ [] → IsAnswered kinds → ⊥
 nothing_answered [] e (inl q) = q
 nothing_answered [] e (inr q) = q
 nothing_answered (k ∷ ks) e q = absurd cc
 
--- words that clap takes ask for no help
-pub taken_no_help : (words : List Text) → NamesPipe words → fault_of pipe_app words ≡ [] → AskHelp words → ⊥
-taken_no_help words named taken (inl h) = nothing_answered _ taken h.1
-taken_no_help words named taken (inr h) = h.0 named
+-- the words name one command
+pub not_both : (words : List Text) → NamesPipe words → NamesServe words → ⊥
+not_both words pipe serve =
+    let same : Some (codes "pipe") ≡ Some (codes "serve") = sym pipe ∙ serve in
+    let long : 4 ≡ 5 = ap (λ o. option_map_or length o 0) same in
+    absurd (omega (arith, long))
 
-pub program_no_help : (words : List Text) → (NamesPipe words → ⊥) → fault_of program_app words ≡ [] → AskHelp words → ⊥
-program_no_help words other taken (inl h) = other h.0
-program_no_help words other taken (inr h) = nothing_answered _ taken h.1
+-- what is said of clap's faults for the words is said of those of the command that they name
+pub faults_pipe : (such : Kinds → Type 0) (words : List Text) → NamesPipe words → FaultsAre such words → such (fault_of pipe_app words)
+faults_pipe such words named (inl p) = p.1
+faults_pipe such words named (inr (inl s)) = absurd (not_both words named s.0)
+faults_pipe such words named (inr (inr n)) = absurd (n.0.0 named)
+
+pub faults_serve : (such : Kinds → Type 0) (words : List Text) → NamesServe words → FaultsAre such words → such (fault_of serve_app words)
+faults_serve such words named (inl p) = absurd (not_both words p.0 named)
+faults_serve such words named (inr (inl s)) = s.1
+faults_serve such words named (inr (inr n)) = absurd (n.0.1 named)
+
+pub faults_program : (such : Kinds → Type 0) (words : List Text) → NamesNone words → FaultsAre such words → such (fault_of program_app words)
+faults_program such words none (inl p) = absurd (none.0 p.0)
+faults_program such words none (inr (inl s)) = absurd (none.1 s.0)
+faults_program such words none (inr (inr n)) = n.1
+
+-- words that a command runs are those that it takes
+pub pipe_runs : (words : List Text) → NamesPipe words → AreRun words → (g : Setting) × (at : Option ℕ) × IsPipe words g at
+pipe_runs words named (inl p) = p
+pipe_runs words named (inr s) = absurd (not_both words named s.1.named)
+
+pub serve_runs : (words : List Text) → NamesServe words → AreRun words → (ask : ServeAsk) × IsServe words ask
+serve_runs words named (inl p) = absurd (not_both words p.2.named named)
+serve_runs words named (inr s) = s
+
+pub none_runs : (words : List Text) → NamesNone words → AreRun words → ⊥
+none_runs words none (inl p) = none.0 p.2.named
+none_runs words none (inr s) = none.1 s.1.named
 
 -- an error that is not out of memory has one of the kinds
 pub among_kinds : (kinds : Kinds) (of own : ErrorKind) → (of ≡ kind.OutOfMemory) ⊎ IsAmong of kinds → of ≢ kind.OutOfMemory → own ≡ of → IsAmong own kinds
 among_kinds kinds of own (inl memory) some e = absurd (some memory)
 among_kinds kinds of own (inr among) some e = subst (λ k. IsAmong k kinds) (sym e) among
 
--- clap's error says what the words of `pipe` ask for, or those of the program
-pub asks_pipe : {E : Type 0} (words : List Text) (of : ErrorKind) (r : Result Invocation E) → NamesPipe words → (of ≡ kind.OutOfMemory) ⊎ IsAmong of (fault_of pipe_app words) → IsAnswerOf of r → IfOk r (Asks words)
-asks_pipe words of (Ok (Pipe p)) named k a = absurd a
-asks_pipe words of (Ok (Help t)) named k a = inl (named, answered _ of k a)
-asks_pipe words of (Ok (Invalid (why.Words e))) named k a = (
-  (λ g at p. not_taken _ of k a.0 p.taken),
-  (λ h. ⊎_elim (λ q. unanswered _ of (pipe_single words) k a.0 a.1 a.2 q.1) (λ q. q.0 named) h),
-  inl (named, among_kinds _ of _ k a.0 a.3),
+-- clap's error says what the words ask for, of the command that reads them: it has these kinds for them, and none where they run a command
+pub asks_error : {E : Type 0} (words : List Text) (kinds : Kinds) (of : ErrorKind) (r : Result Invocation E) → Single kinds
+    → ((such : Kinds → Type 0) → such kinds → FaultsAre such words) → (AskHelp words → IsAnswered kinds) → (AreRun words → kinds ≡ [])
+    → (of ≡ kind.OutOfMemory) ⊎ IsAmong of kinds → IsAnswerOf of r → IfOk r (Asks words)
+asks_error words kinds of (Ok (Pipe p)) single says helps runs k a = absurd a
+asks_error words kinds of (Ok (Serve s)) single says helps runs k a = absurd a
+asks_error words kinds of (Ok (Help t)) single says helps runs k a = says IsAnswered (answered kinds of k a)
+asks_error words kinds of (Ok (Invalid (why.Words e))) single says helps runs k a = (
+  (λ taken. ⊎_elim (λ r. not_taken kinds of k a.0 (runs r)) (λ h. unanswered kinds of single k a.0 a.1 a.2 (helps h)) taken),
+  says (IsAmong (kind_of e)) (among_kinds kinds of _ k a.0 a.3),
 )
-asks_pipe words of (Ok (Invalid why.NoCommand)) named k a = absurd a
-asks_pipe words of (Ok (Invalid (why.Value v))) named k a = absurd a
-asks_pipe words of (Err e) named k a = tt
+asks_error words kinds of (Ok (Invalid why.NoCommand)) single says helps runs k a = absurd a
+asks_error words kinds of (Ok (Invalid (why.Value v))) single says helps runs k a = absurd a
+asks_error words kinds of (Err e) single says helps runs k a = tt
 
-pub asks_program : {E : Type 0} (words : List Text) (of : ErrorKind) (r : Result Invocation E) → (NamesPipe words → ⊥) → (of ≡ kind.OutOfMemory) ⊎ IsAmong of (fault_of program_app words) → IsAnswerOf of r → IfOk r (Asks words)
-asks_program words of (Ok (Pipe p)) other k a = absurd a
-asks_program words of (Ok (Help t)) other k a = inr (other, answered _ of k a)
-asks_program words of (Ok (Invalid (why.Words e))) other k a = (
-  (λ g at p. other p.named),
-  (λ h. ⊎_elim (λ q. other q.0) (λ q. unanswered _ of (program_single words) k a.0 a.1 a.2 q.1) h),
-  inr (other, among_kinds _ of _ k a.0 a.3),
-)
-asks_program words of (Ok (Invalid why.NoCommand)) other k a = absurd a
-asks_program words of (Ok (Invalid (why.Value v))) other k a = absurd a
-asks_program words of (Err e) other k a = tt
+pub asks_pipe : {E : Type 0} (words : List Text) (of : ErrorKind) (r : Result Invocation E) → NamesPipe words → (of ≡ kind.OutOfMemory) ⊎ IsAmong of (fault_of pipe_app words) → IsAnswerOf of r → IfOk r (Asks words)
+asks_pipe words of r named k a = asks_error words (fault_of pipe_app words) of r (pipe_single words) (λ such s. inl (named, s)) (faults_pipe IsAnswered words named) (λ runs. (pipe_runs words named runs).2.taken) k a
+
+pub asks_serve : {E : Type 0} (words : List Text) (of : ErrorKind) (r : Result Invocation E) → NamesServe words → (of ≡ kind.OutOfMemory) ⊎ IsAmong of (fault_of serve_app words) → IsAnswerOf of r → IfOk r (Asks words)
+asks_serve words of r named k a = asks_error words (fault_of serve_app words) of r (serve_single words) (λ such s. inr (inl (named, s))) (faults_serve IsAnswered words named) (λ runs. (serve_runs words named runs).1.taken) k a
+
+pub asks_program : {E : Type 0} (words : List Text) (of : ErrorKind) (r : Result Invocation E) → NamesNone words → (of ≡ kind.OutOfMemory) ⊎ IsAmong of (fault_of program_app words) → IsAnswerOf of r → IfOk r (Asks words)
+asks_program words of r none k a = asks_error words (fault_of program_app words) of r (program_single words) (λ such s. inr (inr (none, s))) (faults_program IsAnswered words none) (λ runs. absurd (none_runs words none runs)) k a
+
+-- words that a command takes, though not with these values, are not taken at all
+pub pipe_refused : (words : List Text) → NamesPipe words → fault_of pipe_app words ≡ [] → ((g : Setting) (at : Option ℕ) → IsPipe words g at → ⊥) → AreTaken words → ⊥
+pipe_refused words named taken none (inl runs) = let p = pipe_runs words named runs in none p.0 p.1 p.2
+pipe_refused words named taken none (inr help) = nothing_answered _ taken (faults_pipe IsAnswered words named help)
+
+pub serve_refused : (words : List Text) → NamesServe words → fault_of serve_app words ≡ [] → ((ask : ServeAsk) → IsServe words ask → ⊥) → AreTaken words → ⊥
+serve_refused words named taken none (inl runs) = let s = serve_runs words named runs in none s.0 s.1
+serve_refused words named taken none (inr help) = nothing_answered _ taken (faults_serve IsAnswered words named help)
+
+pub program_refused : (words : List Text) → NamesNone words → fault_of program_app words ≡ [] → AreTaken words → ⊥
+program_refused words none taken (inl runs) = none_runs words none runs
+program_refused words none taken (inr help) = nothing_answered _ taken (faults_program IsAnswered words none help)

@@ -1,4 +1,6 @@
+mod AddressLemmas
 mod CommandLemmas
 mod RunLemmas
+mod ServingLemmas
 mod Singles
 mod WordLemmas

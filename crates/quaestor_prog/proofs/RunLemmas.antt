@@ -11,10 +11,14 @@ use Rattle.q_outside.specs.declared.clocks.FixedClock.{FixedClock}
 use Rattle.q_outside.specs.declared.served.Served.{Served}
 use Rattle.quaestor_prog.specs.Run.{AreAt, AreTimed, IsRun}
 use Rattle.quaestor_prog.specs.Status.{status_of}
-use Rattle.clap.specs.Words.{Text, Kinds, fault_of}
-use Rattle.quaestor_prog.specs.Commands.{AskHelp, IsAnswered, pipe_app}
-use Rattle.quaestor_prog.specs.Words.{IsPipe}
-use Rattle.quaestor_prog.proofs.WordLemmas.{one_pipe}
+use Rattle.clap.specs.Words.{Text}
+use Rattle.q_outside.specs.Doors.{DoorsView}
+use Rattle.quaestor_prog.specs.Commands.{AskHelp, IsAnswered}
+use Rattle.quaestor_prog.specs.Places.{PlacesView}
+use Rattle.quaestor_prog.specs.Serving.{HasServed}
+use Rattle.quaestor_prog.specs.Words.{IsPipe, IsServe, ServeAsk}
+use Rattle.quaestor_prog.proofs.CommandLemmas.{nothing_answered, faults_pipe, faults_serve}
+use Rattle.quaestor_prog.proofs.WordLemmas.{one_pipe, one_ask}
 use Rattle.quaestor_prog.specs.declared.status.Status.{Status}
 use Rattle.quaestor_server.specs.Conversation.{Conversation}
 
@@ -61,10 +65,14 @@ run_of tells old new words g h a b before after status p q run = let one = one_p
 
 -- no answer of clap is help where clap takes the words
 pub no_help : (words : List Text) (g : Setting) (at : Option ℕ) → IsPipe words g at → AskHelp words → ⊥
-no_help words g at p (inl h) = taken (fault_of pipe_app words) p.taken h.1
-  where
-    taken : (kinds : Kinds) → kinds ≡ [] → IsAnswered kinds → ⊥
-    taken [] e (inl q) = q
-    taken [] e (inr q) = q
-    taken (k ∷ ks) e q = absurd cc
-no_help words g at p (inr h) = h.0 p.named
+no_help words g at p help = nothing_answered _ p.taken (faults_pipe IsAnswered words p.named help)
+
+pub no_help_serving : (words : List Text) (ask : ServeAsk) → IsServe words ask → AskHelp words → ⊥
+no_help_serving words ask s help = nothing_answered _ s.taken (faults_serve IsAnswered words s.named help)
+
+-- what `serve` did is said of what the words ask it for
+pub served_of : {P D S K C : Type 0} (source_at : S → End) (sink_at : K → End) (tick : C → ℕ → C → Type 0) (may : C → Type 0) (doors_at : D → DoorsView S K) (places_at : P → PlacesView D) (gives : P → List ℕ → ℕ → D → P → Type 0)
+    (words : List Text) (a b : ServeAsk) (sink sink' : End) (places places' : P) (status : Status) → IsServe words a → IsServe words b
+    → HasServed source_at sink_at tick may doors_at places_at gives a sink sink' places places' status → HasServed source_at sink_at tick may doors_at places_at gives b sink sink' places places' status
+served_of source_at sink_at tick may doors_at places_at gives words a b sink sink' places places' status p q served =
+    subst (λ (ask : ServeAsk). HasServed source_at sink_at tick may doors_at places_at gives ask sink sink' places places' status) (one_ask words a b p q) served

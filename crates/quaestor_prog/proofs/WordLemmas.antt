@@ -1,13 +1,13 @@
--- What options show is one configuration and one clock.
-use Rattle.std.proofs.Common.{◌≡◌, ◌||◌, ◌<◌, ◌≤◌, ◌^◌, ℕ, Bool, true, false, List, [], ◌∷◌, Option, Some, None, Result, Ok, nat_lt, if◌then◌else◌, refl, sym, ap, ◌∙◌, subst, arith, decimal}
+-- What options show is one configuration and one clock, and what `serve` is asked for is one thing.
+use Rattle.std.proofs.Common.{◌≡◌, ◌||◌, ◌<◌, ◌≤◌, ◌^◌, ℕ, Bool, true, false, List, [], ◌∷◌, Option, Some, None, Result, Ok, Err, nat_lt, if◌then◌else◌, refl, sym, ap, ◌∙◌, subst, arith, decimal}
 use Rattle.std.proofs.lemmas.Fmt.{decimal_injective}
-use Rattle.std.specs.Prelude.{map, slice_get, option_map, codes}
+use Rattle.std.specs.Prelude.{map, slice_get, option_map, unwrap_or, IfErr, codes}
 use Rattle.std.specs.Borrow.{Bor}
 use Rattle.clap.specs.Words.{Row, Text, first_of}
 use Rattle.hub_core.specs.Config.{configured}
 use Rattle.hub_core.specs.declared.config.ConfigRefusal.{ConfigRefusal}
 use Rattle.hub_model.specs.Setting.{Setting, IsWithinLimits}
-use Rattle.quaestor_prog.specs.Words.{IsNumber, IsClock, IsConfiguration, IsPipe}
+use Rattle.quaestor_prog.specs.Words.{IsNumber, IsClock, IsConfiguration, IsPipe, IsServe, AreServeOptions, ServeAsk}
 
 -- the first word, as a text
 pub first_is : {A : Type 0} (f : A → Text) (xs : List A) (x : A) (t : Text) → slice_get xs 0 ≡ Some x → f x ≡ t → slice_get (map f xs) 0 ≡ Some t
@@ -83,6 +83,33 @@ one_setting found g h p q =
 -- words ask for one configuration and one clock
 pub one_pipe : (words : List Text) (g h : Setting) (a b : Option ℕ) → IsPipe words g a → IsPipe words h b → (g ≡ h) × (a ≡ b)
 one_pipe words g h a b p q = (one_setting _ g h p.options.0 q.options.0, one_clock _ a b p.options.1 q.options.1)
+
+same_ask : (a b : ServeAsk) → a.address ≡ b.address → a.setting ≡ b.setting → a.workers ≡ b.workers → a.matchers ≡ b.matchers → a.connections ≡ b.connections → a.idle ≡ b.idle → a ≡ b
+same_ask a b p q r s t u = λ i. record { address = p i; setting = q i; workers = r i; matchers = s i; connections = t i; idle = u i }
+
+one_text : (given : Option Text) (s t : Text) → given ≡ Some s → given ≡ Some t → s ≡ t
+one_text given s t p q = ap (λ o. unwrap_or o s) (sym p ∙ q)
+
+small : (n most : ℕ) → most < 2 ^ 64 → n ≤ most → n < 2 ^ 64
+small n most fits within = omega (arith, fits, within)
+
+one_options : (found : List Row) (a b : ServeAsk) → AreServeOptions found a → AreServeOptions found b → a ≡ b
+one_options found a b p q = same_ask a b
+    (one_text _ a.address b.address p.address q.address)
+    (one_setting found a.setting b.setting p.setting q.setting)
+    (one_number _ _ _ _ p.workers.0 q.workers.0 (small _ 64 (omega arith) p.workers.2) (small _ 64 (omega arith) q.workers.2))
+    (one_number _ _ _ _ p.matchers.0 q.matchers.0 (small _ 16 (omega arith) p.matchers.2) (small _ 16 (omega arith) q.matchers.2))
+    (one_number _ _ _ _ p.connections.0 q.connections.0 (small _ 1099511627776 (omega arith) p.connections.2) (small _ 1099511627776 (omega arith) q.connections.2))
+    (one_number _ _ _ _ p.idle.0 q.idle.0 (small _ 3600 (omega arith) p.idle.2) (small _ 3600 (omega arith) q.idle.2))
+
+-- what holds anyway holds of an error
+pub of_error : {T E : Type 0} (Q : Type 0) (r : Result T E) → Q → IfErr r (λ _. Q)
+of_error Q (Ok x) q = tt
+of_error Q (Err e) q = q
+
+-- words ask `serve` for one thing
+pub one_ask : (words : List Text) (a b : ServeAsk) → IsServe words a → IsServe words b → a ≡ b
+one_ask words a b p q = one_options _ a b p.options q.options
 
 skip : (b : Bool) (e r : Result Setting ConfigRefusal) → b ≡ false → (if b then e else r) ≡ r
 skip true e r is = absurd cc

@@ -12,11 +12,24 @@ number_rule name = record (new_rule name) { long = Some name; action = Some Set;
 abbrev pub versioned : Text → App
 versioned name = record (new_app name) { top = record (new_app name).top { has_version = true } }
 
+-- the positional word ADDR, which has to be given
+abbrev pub address_rule : Rule
+address_rule = record (new_rule (codes "address")) { action = Some Set; value_names = 1; required = true }
+
+-- the command with the six options of a configuration behind its others
+abbrev pub with_setting_rules : App → App
+with_setting_rules app = with_rule (with_rule (with_rule (with_rule (with_rule (with_rule app
+    (number_rule (codes "bits"))) (number_rule (codes "hashes"))) (number_rule (codes "ttl-low"))) (number_rule (codes "ttl-high")))
+    (number_rule (codes "active"))) (number_rule (codes "bytes"))
+
 -- the command `pipe`
 abbrev pub pipe_app : App
-pipe_app = with_rule (with_rule (with_rule (with_rule (with_rule (with_rule (with_rule (versioned (codes "pipe"))
-    (number_rule (codes "bits"))) (number_rule (codes "hashes"))) (number_rule (codes "ttl-low"))) (number_rule (codes "ttl-high")))
-    (number_rule (codes "active"))) (number_rule (codes "bytes"))) (number_rule (codes "clock"))
+pipe_app = with_rule (with_setting_rules (versioned (codes "pipe"))) (number_rule (codes "clock"))
+
+-- the command `serve`
+abbrev pub serve_app : App
+serve_app = with_rule (with_rule (with_rule (with_rule (with_setting_rules (with_rule (versioned (codes "serve")) address_rule))
+    (number_rule (codes "workers"))) (number_rule (codes "matchers"))) (number_rule (codes "connections"))) (number_rule (codes "idle"))
 
 -- the program where no command is named: it has the flags `--help` and `--version` alone
 abbrev pub program_app : App
@@ -26,10 +39,25 @@ program_app = record (versioned (codes "quaestor")) { top = record (versioned (c
 abbrev pub NamesPipe : List Text → Type 0
 NamesPipe words = slice_get words 0 ≡ Some (codes "pipe")
 
+-- the first word names the command `serve`
+abbrev pub NamesServe : List Text → Type 0
+NamesServe words = slice_get words 0 ≡ Some (codes "serve")
+
+-- it names neither
+abbrev pub NamesNone : List Text → Type 0
+NamesNone words = (NamesPipe words → ⊥) × (NamesServe words → ⊥)
+
+-- the kinds of error that clap has for the words, by the command that they name, are such
+abbrev pub FaultsAre : (Kinds → Type 0) → List Text → Type 0
+FaultsAre such words =
+    (NamesPipe words × such (fault_of pipe_app words))
+    ⊎ (NamesServe words × such (fault_of serve_app words))
+    ⊎ (NamesNone words × such (fault_of program_app words))
+
 -- clap answers with a text of help, or with the version
 abbrev pub IsAnswered : Kinds → Type 0
 IsAnswered kinds = IsAmong kind.DisplayHelp kinds ⊎ IsAmong kind.DisplayVersion kinds
 
 -- the words ask for help or for the version
 abbrev pub AskHelp : List Text → Type 0
-AskHelp words = (NamesPipe words × IsAnswered (fault_of pipe_app words)) ⊎ ((NamesPipe words → ⊥) × IsAnswered (fault_of program_app words))
+AskHelp words = FaultsAre IsAnswered words

@@ -1,4 +1,7 @@
 pub mod Commands
+pub mod ListPlaces
+pub mod Places
 pub mod Run
+pub mod Serving
 pub mod Status
 pub mod Words

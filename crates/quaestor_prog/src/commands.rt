@@ -1,7 +1,7 @@
 //! The commands as clap reads them.
 ghost use Rattle.std.specs.Prelude.{◌≡◌, codes, false, IfOk};
 ghost use Rattle.clap.specs.Words.{app_of, rule_of, with_rule};
-ghost use Rattle.quaestor_prog.specs.Commands.{number_rule, pipe_app, program_app, versioned};
+ghost use Rattle.quaestor_prog.specs.Commands.{address_rule, number_rule, pipe_app, program_app, serve_app, versioned, with_setting_rules};
 
 use clap::{Arg, ArgAction, Command};
 use std::alloc::{AllocError, Global};
@@ -11,7 +11,7 @@ const VERSION: &str = "0.1.0";
 
 /// The commands, at the end of the help of the program.
 const COMMANDS: &str =
-    "Commands:\n  pipe  Serves standard input as one connection\n\nquaestor COMMAND --help shows the options of a command.";
+    "Commands:\n  pipe   Serves standard input as one connection\n  serve  Serves the connections that come to an address\n\nquaestor COMMAND --help shows the options of a command.";
 
 /// The program where no command is named.
 pub(crate) fn program_command<'a>(alloc: Global) -> Result<Command<'a>, AllocError>
@@ -30,9 +30,57 @@ pub(crate) fn pipe_command<'a>(alloc: Global) -> Result<Command<'a>, AllocError>
     ensures { IfOk result (λ c. app_of c ≡ pipe_app) }
 {
     let bare = bare_pipe(alloc)?;
+    let config = with_config(alloc, bare)?;
+    let clock = with_number(
+        alloc,
+        config,
+        "clock",
+        "The clock stays at N seconds since 1970 [default: the clock of the system]",
+    )?;
+    Ok(clock)
+}
+
+/// The command `serve`.
+pub(crate) fn serve_command<'a>(alloc: Global) -> Result<Command<'a>, AllocError>
+    ensures { IfOk result (λ c. app_of c ≡ serve_app) }
+{
+    let bare = bare_serve(alloc)?;
+    let address = with_address(alloc, bare)?;
+    let config = with_config(alloc, address)?;
+    let workers = with_number(
+        alloc,
+        config,
+        "workers",
+        "At most N connections at the same time, 1 to 64 [default: 16]",
+    )?;
+    let matchers = with_number(
+        alloc,
+        workers,
+        "matchers",
+        "N threads look for outdated copies, 1 to 16 [default: 1]",
+    )?;
+    let connections = with_number(
+        alloc,
+        matchers,
+        "connections",
+        "Ends after N connections, 1 to 1099511627776 [default: 1000000]",
+    )?;
+    let idle = with_number(
+        alloc,
+        connections,
+        "idle",
+        "A connection is silent for at most N seconds, 0 to 3600, 0 for any time [default: 30]",
+    )?;
+    Ok(idle)
+}
+
+/// The command with the options of a configuration.
+fn with_config<'a>(alloc: Global, command: Command<'a>) -> Result<Command<'a>, AllocError>
+    ensures { IfOk result (λ c. app_of c ≡ with_setting_rules (app_of command.entry)) }
+{
     let bits = with_number(
         alloc,
-        bare,
+        command,
         "bits",
         "2^N bits in a page, 10 to 22 [default: 17]",
     )?;
@@ -66,13 +114,7 @@ pub(crate) fn pipe_command<'a>(alloc: Global) -> Result<Command<'a>, AllocError>
         "bytes",
         "Capacity, 65792 to 134217728 bytes [default: 134217728]",
     )?;
-    let clock = with_number(
-        alloc,
-        bytes,
-        "clock",
-        "The clock stays at N seconds since 1970 [default: the clock of the system]",
-    )?;
-    Ok(clock)
+    Ok(bytes)
 }
 
 /// The command with one more option, which has a number.
@@ -87,6 +129,13 @@ fn with_number<'a>(
     command.arg(number_option(alloc, name, help))
 }
 
+/// The command with the word ADDR.
+fn with_address<'a>(alloc: Global, command: Command<'a>) -> Result<Command<'a>, AllocError>
+    ensures { IfOk result (λ c. app_of c ≡ with_rule (app_of command.entry) address_rule) }
+{
+    command.arg(address_argument(alloc))
+}
+
 /// The command `pipe` without its options.
 fn bare_pipe<'a>(alloc: Global) -> Result<Command<'a>, AllocError>
     ensures { IfOk result (λ c. app_of c ≡ versioned (codes "pipe")) }
@@ -96,6 +145,29 @@ fn bare_pipe<'a>(alloc: Global) -> Result<Command<'a>, AllocError>
         .about("Serves standard input as one connection, over a store that begins empty")
         .bin_name("quaestor pipe")?
         .display_name("quaestor")
+}
+
+/// The command `serve` without its address and its options.
+fn bare_serve<'a>(alloc: Global) -> Result<Command<'a>, AllocError>
+    ensures { IfOk result (λ c. app_of c ≡ versioned (codes "serve")) }
+{
+    Command::new(alloc, "serve")
+        .version(VERSION)
+        .about("Serves the connections that come to an address, over one store that begins empty")
+        .bin_name("quaestor serve")?
+        .display_name("quaestor")
+}
+
+/// The word ADDR.
+fn address_argument<'a>(alloc: Global) -> Arg<'a>
+    ensures rule { rule_of result ≡ address_rule }
+    ensures local { result.global ≡ false }
+{
+    Arg::new(alloc, "address")
+        .action(ArgAction::Set)
+        .value_name("ADDR")
+        .required(true)
+        .help("The address, such as 127.0.0.1:8080")
 }
 
 /// An option with a number.

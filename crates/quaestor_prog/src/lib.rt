@@ -1,13 +1,18 @@
-//! What the program does with its words, over any source, sink and clock.
+//! What the program does with its words, over any source, sink, clock and places.
 #![tactic(auto)]
 
 mod commands;
+mod list_places;
+mod places;
 mod program;
 mod refusal;
+mod serving;
 mod status;
 mod words;
 
+pub use list_places::ListPlaces;
+pub use places::Places;
 pub use program::{refusal_of, run};
 pub use refusal::{BadValue, Refusal};
 pub use status::Status;
-pub use words::PipeOptions;
+pub use words::{PipeOptions, ServeOptions};

@@ -1,12 +1,15 @@
 //! The top call.
-ghost use Rattle.std.specs.Prelude.{◌⊎◌, ℕ, Option, None, IfOk, IfSome, IfNone, map, string_bytes};
+ghost use Rattle.std.specs.Prelude.{◌≡◌, ◌⊎◌, ℕ, Option, None, IfOk, IfSome, IfNone, map, string_bytes};
 ghost use Rattle.hub_model.specs.Setting.{Setting};
 ghost use Rattle.q_outside.specs.Ends.{Ticks};
 ghost use Rattle.quaestor_prog.specs.Commands.{AskHelp};
+ghost use Rattle.quaestor_prog.specs.Serving.{IsServing};
 ghost use Rattle.quaestor_prog.specs.Run.{AreTimed, IsHelped, IsRefused, IsRun, IsText, IsUnbegun, IsUsage};
-ghost use Rattle.quaestor_prog.specs.Words.{AreTaken, IsPipe, IsReason};
+ghost use Rattle.quaestor_prog.specs.Words.{AreTaken, IsPipe, IsReason, IsServe, ServeAsk};
 
+use crate::places::Places;
 use crate::refusal::Refusal;
+use crate::serving::serve_at;
 use crate::status::Status;
 use crate::words::{Invocation, read_words};
 use clap::Error;
@@ -15,6 +18,8 @@ use q_outside::{Clock, Failed, FixedClock, Sink, Source, give_all};
 use quaestor_server::{Config, Owned, Room, serve_connection};
 use std::alloc::Global;
 use std::mem::ManuallyDrop;
+use std::sync::Wait;
+use std::thread::Threads;
 
 /// The line that is written for words that no command takes.
 const USAGE: &[u8] = b"usage: quaestor pipe, serve, read or world\n";
@@ -23,33 +28,47 @@ const USAGE: &[u8] = b"usage: quaestor pipe, serve, read or world\n";
 ///
 /// `pipe` serves the source and the sink as one connection over a store that begins empty, in the
 /// configuration that its options ask for. It asks the clock; with `--clock N` it does the same with
-/// a clock that stays at N seconds after 1970. `--help` and `--version` write a text to the sink.
-pub fn run<S: Source, K: Sink, C: Clock>(
+/// a clock that stays at N seconds after 1970. `serve` serves the connections that come to an address,
+/// each in a thread of its own, over one store that begins empty; the sink gets a line before the first
+/// and one behind the last. `--help` and `--version` write a text to the sink.
+pub fn run<S: Source, K: Sink, C, P: Places, R>(
+    rt: &R,
     alloc: Global,
     words: &[String],
     source: &mut S,
     sink: &mut K,
     clock: &mut C,
+    places: &mut P,
 ) -> Status
+where
+    C: Clock + Clone + Send + Drop + 'static,
+    R: Threads + Wait + Copy + Send + 'static,
     ensures pipe { (g : Setting) (at : Option ℕ) → IsPipe (map string_bytes words.now) g at
         → IsRun g (record { source = S.at source.old; sink = K.at sink.old })
         (record { source = S.at source.new; sink = K.at sink.new })
-        (AreTimed C.tick clock.old clock.new at) result }
+        (AreTimed C.tick clock.old clock.new at) result
+        × (places.new ≡ places.old) }
+    ensures serve { (ask : ServeAsk) → IsServe (map string_bytes words.now) ask
+        → IsServing P.Doors.From.at P.Doors.To.at C.tick (C.is_clone clock.old) P.Doors.at P.at P.gives ask
+        (record { source = S.at source.old; sink = K.at sink.old })
+        (record { source = S.at source.new; sink = K.at sink.new })
+        clock.old clock.new places.old places.new result }
     ensures help { AskHelp (map string_bytes words.now)
-        → IsHelped (record { source = S.at source.old; sink = K.at sink.old })
+        → (IsHelped (record { source = S.at source.old; sink = K.at sink.old })
         (record { source = S.at source.new; sink = K.at sink.new })
         (AreTimed C.tick clock.old clock.new None) result
         ⊎ IsUnbegun (record { source = S.at source.old; sink = K.at sink.old })
         (record { source = S.at source.new; sink = K.at sink.new })
-        (AreTimed C.tick clock.old clock.new None) result }
-    ensures usage { ((g : Setting) (at : Option ℕ) → IsPipe (map string_bytes words.now) g at → ⊥)
-        → (AskHelp (map string_bytes words.now) → ⊥)
-        → IsRefused (record { source = S.at source.old; sink = K.at sink.old })
+        (AreTimed C.tick clock.old clock.new None) result)
+        × (places.new ≡ places.old) }
+    ensures usage { (AreTaken (map string_bytes words.now) → ⊥)
+        → (IsRefused (record { source = S.at source.old; sink = K.at sink.old })
         (record { source = S.at source.new; sink = K.at sink.new })
         (AreTimed C.tick clock.old clock.new None) result
         ⊎ IsUnbegun (record { source = S.at source.old; sink = K.at sink.old })
         (record { source = S.at source.new; sink = K.at sink.new })
-        (AreTimed C.tick clock.old clock.new None) result }
+        (AreTimed C.tick clock.old clock.new None) result)
+        × (places.new ≡ places.old) }
 {
     match read_words(alloc, words) {
         Ok(Invocation::Pipe(options)) => pipe_at(
@@ -60,6 +79,7 @@ pub fn run<S: Source, K: Sink, C: Clock>(
             sink,
             clock,
         ),
+        Ok(Invocation::Serve(options)) => serve_at(rt, alloc, options, sink, &*clock, places),
         Ok(Invocation::Help(text)) => show(alloc, &text, sink),
         Ok(Invocation::Invalid(_)) => refuse(sink),
         Err(_) => Status::Memory,
@@ -74,7 +94,9 @@ pub fn refusal_of<'a>(alloc: Global, words: &'a [String]) -> Result<Option<Refus
 {
     match read_words(alloc, words)? {
         Invocation::Invalid(refusal) => Ok(Some(refusal)),
-        Invocation::Pipe(_) | Invocation::Help(_) => Ok(None),
+        Invocation::Pipe(_) => Ok(None),
+        Invocation::Serve(_) => Ok(None),
+        Invocation::Help(_) => Ok(None),
     }
 }
 

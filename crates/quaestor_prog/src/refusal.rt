@@ -8,7 +8,8 @@ use std::fmt;
 pub enum Refusal<'a> {
     /// There is no word.
     NoCommand,
-    /// A word is no option of the command, or an option has no value or is given twice.
+    /// A word is no option of the command, an option has no value or is given twice, or a word that the
+    /// command needs is missing.
     Words(Error),
     /// The value of an option is refused.
     Value(BadValue<'a>),

@@ -1,13 +1,15 @@
 //! The exit status of the program.
 ghost use Rattle.std.specs.Prelude.{◌≡◌};
-ghost use Rattle.quaestor_prog.specs.Status.{code_of, status_of};
+ghost use Rattle.quaestor_prog.specs.Status.{code_of, or_write_fault, status_of, status_of_server};
 
 use q_outside::Why;
+use quaestor_serve::ServeWhy;
 
 /// How a run of the program ended.
 #[derive(Clone, Copy, Debug, PartialEq, Eq)]
 pub enum Status {
-    /// The connection was served to the end of its input, or until a request asked for its end.
+    /// The connection was served to the end of its input, or until a request asked for its end; or as
+    /// many connections were served as were asked for, or all that came before the doors were closed.
     Done,
     /// No command takes these words.
     Words,
@@ -21,6 +23,8 @@ pub enum Status {
     BadInput,
     /// As many requests were answered as one connection may make.
     RequestLimit,
+    /// No connection could be waited for: listening failed, or the doors of an address did.
+    PlaceFault,
 }
 
 impl Status {
@@ -36,6 +40,7 @@ impl Status {
             Status::Memory => 5,
             Status::BadInput => 6,
             Status::RequestLimit => 7,
+            Status::PlaceFault => 8,
         }
     }
 
@@ -49,6 +54,27 @@ impl Status {
             Why::RequestLimit => Status::RequestLimit,
             Why::ReadFault => Status::ReadFault,
             Why::WriteFault => Status::WriteFault,
+        }
+    }
+
+    /// The status of a server that ended for this reason.
+    pub(crate) fn of_server(why: ServeWhy) -> Status
+        ensures { result ≡ status_of_server why }
+    {
+        match why {
+            ServeWhy::Limit | ServeWhy::Closed => Status::Done,
+            ServeWhy::DoorFault => Status::PlaceFault,
+            ServeWhy::Memory => Status::Memory,
+        }
+    }
+
+    /// The status where the sink failed behind an end that had this one: the first cause in time.
+    pub(crate) fn or_write_fault(self) -> Status
+        ensures { result ≡ or_write_fault self }
+    {
+        match self {
+            Status::Done => Status::WriteFault,
+            status => status,
         }
     }
 }

@@ -1,11 +1,11 @@
 //! The words of a command line.
-ghost use Rattle.std.specs.Prelude.{◌≡◌, ℕ, ◌<◌, ◌≤◌, ◌^◌, Option, option_map, decimal, map, string_bytes, slice_get, IfSome, IfNone, IfOk, IfErr, IsTrue, ◌↔◌, codes};
+ghost use Rattle.std.specs.Prelude.{◌≡◌, ℕ, ◌<◌, ◌≤◌, ◌^◌, true, Option, Some, is_some, option_map, decimal, map, string_bytes, slice_get, IfSome, IfNone, IfOk, IfErr, IsTrue, ◌↔◌, codes};
 ghost use Rattle.clap.specs.Words.{first_of, found_of, kind_of, rows_of};
 ghost use Rattle.hub_model.specs.Setting.{Setting};
-ghost use Rattle.quaestor_prog.specs.Commands.{NamesPipe};
-ghost use Rattle.quaestor_prog.specs.Words.{AreOptions, Asks, IsAnswerOf, IsBadValue, IsClock, IsConfiguration, IsNumber, IsRange};
+ghost use Rattle.quaestor_prog.specs.Commands.{NamesNone, NamesPipe, NamesServe};
+ghost use Rattle.quaestor_prog.specs.Words.{AreOptions, AreServeOptions, Asks, IsNumberIn, ServeAsk, ask_of, IsAnswerOf, IsBadValue, IsClock, IsConfiguration, IsNumber, IsRange};
 
-use crate::commands::{pipe_command, program_command};
+use crate::commands::{pipe_command, program_command, serve_command};
 use crate::refusal::{BadValue, Refusal};
 use clap::error::ErrorKind;
 use clap::{ArgMatches, Error};
@@ -23,11 +23,30 @@ pub struct PipeOptions {
     pub clock: Option<u64>,
 }
 
+/// The options of the command `serve`.
+#[derive(Debug, Drop)]
+pub struct ServeOptions<'a> {
+    /// The address to listen at.
+    pub address: &'a str,
+    /// The limits and defaults of the store.
+    pub config: Config,
+    /// How many connections are served at the same time.
+    pub workers: u32,
+    /// How many threads match.
+    pub matchers: u32,
+    /// How many connections are served in all.
+    pub connections: u64,
+    /// The seconds of silence after which a connection is taken as ended; 0 is never.
+    pub idle: u32,
+}
+
 /// What the words of a command line ask for.
 #[derive(Debug, Drop)]
 pub(crate) enum Invocation<'a> {
     /// To serve one connection.
     Pipe(PipeOptions),
+    /// To serve the connections of an address.
+    Serve(ServeOptions<'a>),
     /// To show this text, of the help or of the version.
     Help(Error),
     /// Nothing, since no command takes them.
@@ -40,6 +59,7 @@ pub(crate) fn read_words<'a>(alloc: Global, words: &'a [String]) -> Result<Invoc
 {
     match words.first() {
         Some(first) if is_text(first, "pipe") => read_pipe(alloc, words),
+        Some(first) if is_text(first, "serve") => read_serve(alloc, words),
         _ => read_program(alloc, words),
     }
 }
@@ -58,9 +78,23 @@ fn read_pipe<'a>(alloc: Global, words: &'a [String]) -> Result<Invocation<'a>, M
     }
 }
 
+/// What the words of the command `serve` ask for.
+fn read_serve<'a>(alloc: Global, words: &'a [String]) -> Result<Invocation<'a>, Memory>
+    requires { NamesServe (map string_bytes words.now) }
+    ensures { IfOk result (Asks (map string_bytes words.entry.now)) }
+{
+    match serve_command(alloc)?.try_get_matches_from(words) {
+        Ok(matches) => match serve_options(&matches) {
+            Ok(options) => Ok(Invocation::Serve(options)),
+            Err(value) => Ok(Invocation::Invalid(Refusal::Value(value))),
+        },
+        Err(error) => answer_of(error),
+    }
+}
+
 /// What the words ask for, where they name no command.
 fn read_program<'a>(alloc: Global, words: &'a [String]) -> Result<Invocation<'a>, Memory>
-    requires { NamesPipe (map string_bytes words.now) → ⊥ }
+    requires { NamesNone (map string_bytes words.now) }
     ensures { IfOk result (Asks (map string_bytes words.entry.now)) }
 {
     match program_command(alloc)?.try_get_matches_from(words) {
@@ -89,6 +123,44 @@ fn pipe_options<'a>(matches: &ArgMatches<'a>) -> Result<PipeOptions, BadValue<'a
     let config = config_of(matches)?;
     let clock = clock_of(matches)?;
     Ok(PipeOptions { config, clock })
+}
+
+/// The address and the options of `serve`, by what clap found.
+fn serve_options<'a>(matches: &ArgMatches<'a>) -> Result<ServeOptions<'a>, BadValue<'a>>
+    requires { is_some (first_of (codes "address") (rows_of (found_of matches.now))) ≡ true }
+    ensures ok { IfOk result (λ s. AreServeOptions (rows_of (found_of matches.now)) (ask_of s)) }
+    ensures err { IfErr result (λ _. (ask : ServeAsk) → AreServeOptions (rows_of (found_of matches.now)) ask → ⊥) }
+    ensures value { IfErr result (IsBadValue (rows_of (found_of matches.now))) }
+{
+    match value_of(matches, "address") {
+        Some(address) => options_at(matches, address),
+        None => unreachable!(),
+    }
+}
+
+/// The options of `serve` at this address.
+fn options_at<'a>(
+    matches: &ArgMatches<'a>,
+    address: &'a str,
+) -> Result<ServeOptions<'a>, BadValue<'a>>
+    requires { first_of (codes "address") (rows_of (found_of matches.now)) ≡ Some address.now }
+    ensures ok { IfOk result (λ s. AreServeOptions (rows_of (found_of matches.now)) (ask_of s)) }
+    ensures err { IfErr result (λ _. (ask : ServeAsk) → AreServeOptions (rows_of (found_of matches.now)) ask → ⊥) }
+    ensures value { IfErr result (IsBadValue (rows_of (found_of matches.now))) }
+{
+    let config = config_of(matches)?;
+    let workers = number_of(matches, "workers", 1, 64, 16)?;
+    let matchers = number_of(matches, "matchers", 1, 16, 1)?;
+    let connections = number_of(matches, "connections", 1, 1_099_511_627_776, 1_000_000)?;
+    let idle = number_of(matches, "idle", 0, 3_600, 30)?;
+    Ok(ServeOptions {
+        address,
+        config,
+        workers: workers as u32,
+        matchers: matchers as u32,
+        connections,
+        idle: idle as u32,
+    })
 }
 
 /// The configuration that the options ask for.
@@ -130,8 +202,8 @@ fn number_of<'a>(
 ) -> Result<u64, BadValue<'a>>
     requires default { (least ≤ default) × (default ≤ most) }
     requires range { IsRange option.now least most }
-    ensures ok { IfOk result (λ n. IsNumber (first_of option.now (rows_of (found_of matches.now))) default n × (least ≤ n) × (n ≤ most)) }
-    ensures err { IfErr result (λ _. (n : ℕ) → IsNumber (first_of option.now (rows_of (found_of matches.now))) default n → least ≤ n → n ≤ most → ⊥) }
+    ensures ok { IfOk result (IsNumberIn (rows_of (found_of matches.now)) option.now least most default) }
+    ensures err { IfErr result (λ _. (n : ℕ) → IsNumberIn (rows_of (found_of matches.now)) option.now least most default n → ⊥) }
     ensures value { IfErr result (IsBadValue (rows_of (found_of matches.now))) }
 {
     match value_of(matches, option) {
@@ -195,7 +267,7 @@ fn number_within(text: &str, least: u64, most: u64) -> Option<u64>
 }
 
 /// Whether a word is this text.
-fn is_text(word: &String, text: &str) -> bool
+pub(crate) fn is_text(word: &String, text: &str) -> bool
     ensures { IsTrue result ↔ (string_bytes word.now ≡ text.now) }
 {
     word.as_str() == text

@@ -1,4 +1,4 @@
--- Internal. What those do to the history who match all commits in turn.
+-- Believed. What those do to the history who match all commits in turn.
 use Rattle.std.specs.Prelude.{◌≡◌, ℕ, List, ◌++◌}
 use Rattle.hub_model.specs.declared.entry.Entry.{Entry}
 use Rattle.hub_model.specs.declared.entry.Entry.TheVariants.{Match, Tick}

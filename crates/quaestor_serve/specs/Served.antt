@@ -1,4 +1,4 @@
--- Internal. That a connection was well served, at moments of a clock of its own.
+-- Believed. That a connection was well served, at moments of a clock of its own.
 use Rattle.std.specs.Prelude.{ℕ, Bool, List}
 use Rattle.dialogue.specs.Dialogue.{Sides}
 use Rattle.hub_model.specs.declared.entry.Entry.{Entry}

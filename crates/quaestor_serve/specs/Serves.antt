@@ -1,4 +1,4 @@
--- Internal. What a server has done when it ends.
+-- Believed. What a server has done when it ends.
 use Rattle.std.specs.Prelude.{◌≡◌, ℕ, ◌<◌, List, ◌++◌, map, length}
 use Rattle.std.specs.List.{flat_map}
 use Rattle.hub_model.specs.declared.entry.Entry.{Entry}

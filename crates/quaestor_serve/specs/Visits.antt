@@ -1,4 +1,4 @@
--- Internal. A connection that was served, from its beginning to its end.
+-- Believed. A connection that was served, from its beginning to its end.
 use Rattle.std.specs.Prelude.{ℕ, List, Some}
 use Rattle.hub_model.specs.declared.entry.Entry.{Entry}
 use Rattle.hub_model.specs.Setting.{Setting}

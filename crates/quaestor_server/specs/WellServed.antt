@@ -1,4 +1,4 @@
--- Internal. That a connection was well served, in a history that others may have made longer.
+-- Believed. That a connection was well served, in a history that others may have made longer.
 use Rattle.std.specs.Prelude.{◌≡◌, ℕ, ◌++◌, Bool, List, [], ◌∷◌, length, All}
 use Rattle.dialogue.specs.Dialogue.{Sides, Dialogue}
 use Rattle.hub_model.specs.declared.entry.Entry.{Entry}

@@ -1,4 +1,4 @@
--- Internal. Entries with their places in a history, the first place being 0.
+-- Believed. Entries with their places in a history, the first place being 0.
 use Rattle.std.specs.Prelude.{◌≡◌, ◌≢◌, ℕ, ◌<◌, List, [], ◌∷◌, Some, slice_get}
 
 -- P holds of each element

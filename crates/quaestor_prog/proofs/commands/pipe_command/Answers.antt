@@ -1,6 +1,6 @@
--- one option after another
-use Rattle.quaestor_prog.proofs.CommandLemmas.{seven}
+-- the options of a configuration, and then the clock
+use Rattle.quaestor_prog.proofs.CommandLemmas.{pipe_is}
 use Rattle.quaestor_prog.proofs.commands.pipe_command.Goals as goal
 
 pub returns : goal.returns
-returns c = seven _ _ _ _ _ _ _ _ c.in_ok-bare.ensures c.in_ok-bits.ensures c.in_ok-hashes.ensures c.in_ok-low.ensures c.in_ok-high.ensures c.in_ok-active.ensures c.in_ok-bytes.ensures c.in_ok-clock.ensures
+returns c = pipe_is _ _ _ c.in_ok-bare.ensures c.in_ok-config.ensures c.in_ok-clock.ensures

@@ -3,9 +3,10 @@ use Rattle.std.proofs.Common.{inl, inr}
 use Rattle.quaestor_prog.proofs.program.refusal_of.Goals as goal
 
 pub returns-in-Invalid-clause-some : goal.returns-in-Invalid-clause-some
-returns-in-Invalid-clause-some c = λ taken.
-    let asks = rw c.in-Invalid.is at c.in_ok-refusal.ensures in
-    elim taken [
-      | inl pipe ↦ asks.0 pipe.0 pipe.1 pipe.2
-      | inr help ↦ asks.1 help
-    ]
+returns-in-Invalid-clause-some c = let asks = rw c.in-Invalid.is at c.in_ok-refusal.ensures in asks.0
+
+pub returns-in-Pipe-clause-none : goal.returns-in-Pipe-clause-none
+returns-in-Pipe-clause-none c = inl (inl (_, _, rw c.in-Pipe.is at c.in_ok-refusal.ensures))
+
+pub returns-in-Serve-clause-none : goal.returns-in-Serve-clause-none
+returns-in-Serve-clause-none c = inl (inr (_, rw c.in-Serve.is at c.in_ok-refusal.ensures))

@@ -1,12 +1,47 @@
--- the words ask for one configuration and one clock, or for none
-use Rattle.quaestor_prog.proofs.RunLemmas.{run_of}
+-- the words ask for one thing, or for none
+use Rattle.std.proofs.Common.{refl, inl, inr}
+use Rattle.quaestor_prog.proofs.CommandLemmas.{not_both}
+use Rattle.quaestor_prog.proofs.RunLemmas.{run_of, served_of, no_help, no_help_serving}
 use Rattle.quaestor_prog.proofs.program.run.Goals as goal
 
 pub returns-in-Ok-Pipe-clause-pipe : goal.returns-in-Ok-Pipe-clause-pipe
-returns-in-Ok-Pipe-clause-pipe g c = λ h at is. run_of g.C.Clock.tick _ _ _ _ h _ at _ _ _ (rw c.in-Ok-Pipe.field-0-is at c.in-Ok-Pipe.ensures) is c.pipe_at.ensures
+returns-in-Ok-Pipe-clause-pipe g c = λ h at is. (run_of g.C.Clock.tick _ _ _ _ h _ at _ _ _ (rw c.in-Ok-Pipe.field-0-is at c.in-Ok-Pipe.ensures) is c.pipe_at.ensures, refl)
+
+pub returns-in-Ok-Pipe-clause-serve : goal.returns-in-Ok-Pipe-clause-serve
+returns-in-Ok-Pipe-clause-serve g c = λ ask is. let pipe = rw c.in-Ok-Pipe.field-0-is at c.in-Ok-Pipe.ensures in absurd (not_both _ pipe.named is.named)
+
+pub returns-in-Ok-Pipe-clause-help : goal.returns-in-Ok-Pipe-clause-help
+returns-in-Ok-Pipe-clause-help g c = λ help. absurd (no_help _ _ _ (rw c.in-Ok-Pipe.field-0-is at c.in-Ok-Pipe.ensures) help)
 
 pub returns-in-Ok-Pipe-clause-usage : goal.returns-in-Ok-Pipe-clause-usage
-returns-in-Ok-Pipe-clause-usage g c = λ none no. absurd (none c.in-Ok-Pipe.options.config c.in-Ok-Pipe.options.clock (rw c.in-Ok-Pipe.field-0-is at c.in-Ok-Pipe.ensures))
+returns-in-Ok-Pipe-clause-usage g c = λ none. absurd (none (inl (inl (c.in-Ok-Pipe.options.config, c.in-Ok-Pipe.options.clock, rw c.in-Ok-Pipe.field-0-is at c.in-Ok-Pipe.ensures))))
+
+pub returns-in-Ok-Serve-clause-pipe : goal.returns-in-Ok-Serve-clause-pipe
+returns-in-Ok-Serve-clause-pipe g c = λ h at is. let serve = rw c.in-Ok-Serve.field-0-is at c.in-Ok-Serve.ensures in absurd (not_both _ is.named serve.named)
+
+pub returns-in-Ok-Serve-clause-serve : goal.returns-in-Ok-Serve-clause-serve
+returns-in-Ok-Serve-clause-serve g c = λ ask is. (refl, refl, inr (served_of _ _ _ _ _ _ _ _ _ ask _ _ _ _ _ (rw c.in-Ok-Serve.field-0-is at c.in-Ok-Serve.ensures) is c.serve_at.ensures))
+
+pub returns-in-Ok-Serve-clause-help : goal.returns-in-Ok-Serve-clause-help
+returns-in-Ok-Serve-clause-help g c = λ help. absurd (no_help_serving _ _ (rw c.in-Ok-Serve.field-0-is at c.in-Ok-Serve.ensures) help)
+
+pub returns-in-Ok-Serve-clause-usage : goal.returns-in-Ok-Serve-clause-usage
+returns-in-Ok-Serve-clause-usage g c = λ none. absurd (none (inl (inr (_, rw c.in-Ok-Serve.field-0-is at c.in-Ok-Serve.ensures))))
+
+pub returns-in-Ok-Help-clause-pipe : goal.returns-in-Ok-Help-clause-pipe
+returns-in-Ok-Help-clause-pipe g c = λ h at is. absurd (no_help _ h at is (rw c.in-Ok-Help.field-0-is at c.in-Ok-Help.ensures))
+
+pub returns-in-Ok-Help-clause-serve : goal.returns-in-Ok-Help-clause-serve
+returns-in-Ok-Help-clause-serve g c = λ ask is. absurd (no_help_serving _ ask is (rw c.in-Ok-Help.field-0-is at c.in-Ok-Help.ensures))
+
+pub returns-in-Ok-Help-clause-usage : goal.returns-in-Ok-Help-clause-usage
+returns-in-Ok-Help-clause-usage g c = λ none. absurd (none (inr (rw c.in-Ok-Help.field-0-is at c.in-Ok-Help.ensures)))
 
 pub returns-in-Ok-Invalid-clause-pipe : goal.returns-in-Ok-Invalid-clause-pipe
-returns-in-Ok-Invalid-clause-pipe g c = λ h at is. let asks = rw c.in-Ok-Invalid.field-0-is at c.in-Ok-Invalid.ensures in absurd (asks.0 h at is)
+returns-in-Ok-Invalid-clause-pipe g c = λ h at is. let asks = rw c.in-Ok-Invalid.field-0-is at c.in-Ok-Invalid.ensures in absurd (asks.0 (inl (inl (h, at, is))))
+
+pub returns-in-Ok-Invalid-clause-serve : goal.returns-in-Ok-Invalid-clause-serve
+returns-in-Ok-Invalid-clause-serve g c = λ ask is. let asks = rw c.in-Ok-Invalid.field-0-is at c.in-Ok-Invalid.ensures in absurd (asks.0 (inl (inr (ask, is))))
+
+pub returns-in-Ok-Invalid-clause-help : goal.returns-in-Ok-Invalid-clause-help
+returns-in-Ok-Invalid-clause-help g c = λ help. let asks = rw c.in-Ok-Invalid.field-0-is at c.in-Ok-Invalid.ensures in absurd (asks.0 (inr help))

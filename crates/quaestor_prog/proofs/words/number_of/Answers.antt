@@ -7,7 +7,7 @@ returns-in-Some-number_within-clause-ok c = let number = c.in-Some-number_within
     (number_some _ _ _ _ (shown _ _ _ c.value_of.ensures c.in-Some.is) number.0, number.1, number.2)
 
 pub returns-in-None-number_within-clause-err : goal.returns-in-None-number_within-clause-err
-returns-in-None-number_within-clause-err c = λ n is. c.in-None-number_within.ensures.none n (number_is _ _ _ _ (shown _ _ _ c.value_of.ensures c.in-Some.is) is)
+returns-in-None-number_within-clause-err c = λ n is. c.in-None-number_within.ensures.none n (number_is _ _ _ _ (shown _ _ _ c.value_of.ensures c.in-Some.is) is.0) is.1 is.2
 
 pub returns-in-None-clause-ok : goal.returns-in-None-clause-ok
 returns-in-None-clause-ok c = (number_none _ _ (not_shown _ _ c.value_of.ensures c.in-None.is), c.requires.default.0, c.requires.default.1)

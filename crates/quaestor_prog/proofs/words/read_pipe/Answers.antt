@@ -1,8 +1,8 @@
 -- clap's answer, of the command that it read
-use Rattle.std.proofs.Common.{refl, sym, subst}
+use Rattle.std.proofs.Common.{refl, sym, subst, inl}
 use Rattle.quaestor_prog.specs.Commands.{pipe_app}
 use Rattle.quaestor_prog.specs.Words.{AreOptions, IsBadValue}
-use Rattle.quaestor_prog.proofs.CommandLemmas.{rows_are, taken_are, kinds_are, taken_no_help, asks_pipe}
+use Rattle.quaestor_prog.proofs.CommandLemmas.{rows_are, taken_are, kinds_are, pipe_refused, asks_pipe}
 use Rattle.quaestor_prog.proofs.words.read_pipe.Goals as goal
 
 pub returns-in-Ok-pipe_options : goal.returns-in-Ok-pipe_options
@@ -13,15 +13,12 @@ returns-in-Ok-pipe_options c = record {
 }
 
 pub returns-in-Ok : goal.returns-in-Ok
-returns-in-Ok c = (
-  (λ g at p. c.in-Err-pipe_options.ensures.err g at (subst (λ rows. AreOptions rows g at) (sym (rows_are _ pipe_app _ _ c.in_ok-pipe_command.ensures refl c.in-Ok.ensures.matches)) p.options)),
-  taken_no_help _ c.requires (taken_are _ pipe_app _ c.in_ok-pipe_command.ensures refl c.in-Ok.ensures.kinds),
-  (
-    c.requires,
-    taken_are _ pipe_app _ c.in_ok-pipe_command.ensures refl c.in-Ok.ensures.kinds,
-    subst (λ rows. IsBadValue rows c.in-Err-pipe_options.value) (rows_are _ pipe_app _ _ c.in_ok-pipe_command.ensures refl c.in-Ok.ensures.matches) c.in-Err-pipe_options.ensures.value,
-  ),
-)
+returns-in-Ok c =
+    let taken = taken_are _ pipe_app _ c.in_ok-pipe_command.ensures refl c.in-Ok.ensures.kinds in
+    let rows = rows_are _ pipe_app _ _ c.in_ok-pipe_command.ensures refl c.in-Ok.ensures.matches in (
+      pipe_refused _ c.requires taken (λ g at p. c.in-Err-pipe_options.ensures.err g at (subst (λ found. AreOptions found g at) (sym rows) p.options)),
+      inl (c.requires, taken, subst (λ found. IsBadValue found c.in-Err-pipe_options.value) rows c.in-Err-pipe_options.ensures.value),
+    )
 
 pub returns : goal.returns
 returns c = asks_pipe _ _ _ c.requires (kinds_are _ pipe_app _ _ c.in_ok-pipe_command.ensures refl c.in-Err.ensures.kinds) c.answer_of.ensures

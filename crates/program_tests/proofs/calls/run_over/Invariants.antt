@@ -1,5 +1,0 @@
--- the ledger of the faults is the blank one that the call is given
-use Rattle.program_tests.proofs.calls.run_over.Given as goal
-
-abbrev pub ghosts-run_counted : goal.ghosts-run_counted
-ghosts-run_counted a = record { name = a.blank.name; parts = a.blank.parts }

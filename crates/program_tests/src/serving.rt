@@ -1,0 +1,134 @@
+//! Servers at an address in memory.
+
+use crate::calls::{AMPLE, Comers, Outcome, WHOLE, calls_of, run_at};
+use q_outside::{Served, Why};
+use quaestor_prog::Status;
+use std::test::Fail;
+
+/// So many connections come, and then none.
+fn coming(connections: usize) -> Option<Comers> {
+    Some(Comers {
+        connections,
+        failing: None,
+    })
+}
+
+/// The doors fail where the second connection would come.
+const FAILING: Option<Comers> = Some(Comers {
+    connections: 3,
+    failing: Some(1),
+});
+
+/// How many connections the places have back, where they have doors.
+fn count_of(outcome: &Outcome) -> Option<usize> {
+    outcome.handed.as_ref().map(|handed| handed.len())
+}
+
+#[test]
+fn a_server_says_what_it_does(rt: HostRuntime) -> Result<(), Fail> {
+    let rows: [(&[&str], Option<Comers>, Status, &[u8], Option<usize>); 8] = [
+        (
+            &["serve", "here", "--connections", "2"],
+            coming(2),
+            Status::Done,
+            b"listening on here\nserved 2\n",
+            Some(2),
+        ),
+        (
+            &["serve", "--connections=2", "here", "--workers", "1"],
+            coming(1),
+            Status::Done,
+            b"listening on here\nserved 1\n",
+            Some(1),
+        ),
+        (
+            &["serve", "--matchers", "2", "--", "here"],
+            coming(0),
+            Status::Done,
+            b"listening on here\nserved 0\n",
+            Some(0),
+        ),
+        (
+            &["serve", "here", "--active", "0", "--connections", "1"],
+            coming(3),
+            Status::Done,
+            b"listening on here\nserved 1\n",
+            Some(1),
+        ),
+        (
+            &["serve", "here"],
+            FAILING,
+            Status::PlaceFault,
+            b"listening on here\nserved 1\n",
+            Some(1),
+        ),
+        (&["serve", "here"], None, Status::PlaceFault, b"", None),
+        (
+            &["serve", "there"],
+            coming(2),
+            Status::PlaceFault,
+            b"",
+            None,
+        ),
+        (&["serve", ""], coming(2), Status::PlaceFault, b"", None),
+    ];
+    let well = Served {
+        requests: 1,
+        why: Why::InputEnd,
+    };
+    for (at, (line, comers, status, written, count)) in rows.into_iter().enumerate() {
+        let outcome = run_at(
+            &rt,
+            line,
+            b"x",
+            calls_of(WHOLE),
+            AMPLE,
+            calls_of(WHOLE),
+            comers,
+        )?;
+        assert_eq!(rt; outcome.status, status, "at {at}");
+        assert_eq!(rt; outcome.written.as_slice(), written, "at {at}");
+        assert_eq!(rt; count_of(&outcome), count, "at {at}");
+        if let Some(handed) = &outcome.handed {
+            for served in handed {
+                assert_eq!(rt; *served, Some(well), "at {at}");
+            }
+        }
+    }
+    Ok(())
+}
+
+/// What a server writes that has served one connection.
+const ONE: &[u8] = b"listening on here\nserved 1\n";
+
+/// The length of the first line.
+const FIRST: usize = 18;
+
+#[test]
+fn a_server_ends_by_the_first_fault(rt: HostRuntime) -> Result<(), Fail> {
+    for capacity in 0..=ONE.len() {
+        for (comers, ended) in [(coming(1), Status::Done), (FAILING, Status::PlaceFault)] {
+            let outcome = run_at(
+                &rt,
+                &["serve", "here"],
+                b"",
+                calls_of(WHOLE),
+                capacity,
+                calls_of(WHOLE),
+                comers,
+            )?;
+            let is_announced = capacity >= FIRST;
+            let status = if capacity == ONE.len() || (is_announced && ended != Status::Done) {
+                ended
+            } else {
+                Status::WriteFault
+            };
+            let written = ONE.get(..capacity).unwrap_or(ONE);
+            let count = if is_announced { 1 } else { 0 };
+            assert_eq!(rt; outcome.status, status, "at {capacity}");
+            assert_eq!(rt; outcome.written.as_slice(), written, "at {capacity}");
+            assert_eq!(rt; count_of(&outcome), Some(count), "at {capacity}");
+        }
+    }
+    Ok(())
+}

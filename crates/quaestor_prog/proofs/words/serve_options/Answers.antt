@@ -1,0 +1,12 @@
+-- clap has found an address
+use Rattle.std.proofs.Common.{◌≡◌, false, true, is_some, sym, ap, ◌∙◌}
+use Rattle.quaestor_prog.proofs.WordLemmas.{shown, not_shown}
+use Rattle.quaestor_prog.proofs.words.serve_options.Goals as goal
+
+pub options_at-requires : goal.options_at-requires
+options_at-requires c = shown _ _ _ c.value_of.ensures c.in-Some.is
+
+pub unreachable-requires : goal.unreachable-requires
+unreachable-requires c =
+    let bad : false ≡ true = sym (ap is_some (not_shown _ _ c.value_of.ensures c.in-None.is)) ∙ c.requires in
+    absurd cc

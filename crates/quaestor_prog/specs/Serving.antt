@@ -1,0 +1,74 @@
+-- Believed. What a run of `serve` does.
+use Rattle.std.specs.Prelude.{◌≡◌, ◌⊎◌, ℕ, ◌<◌, List, ◌++◌, Some, codes, decimal}
+use Rattle.dialogue.specs.Dialogue.{Sides}
+use Rattle.q_outside.specs.Doors.{DoorsView}
+use Rattle.q_outside.specs.Ends.{End, GaveBytes, GavePart}
+use Rattle.quaestor_prog.specs.Places.{AreNew, PlacesView}
+use Rattle.quaestor_prog.specs.Status.{or_write_fault, status_of_server}
+use Rattle.quaestor_prog.specs.Words.{ServeAsk}
+use Rattle.quaestor_prog.specs.declared.status.Status.{Status}
+use Rattle.quaestor_prog.specs.declared.status.Status.TheVariants.{WriteFault, Memory, PlaceFault}
+use Rattle.quaestor_serve.specs.declared.serve_end.ServeEnd.{ServeEnd}
+use Rattle.quaestor_serve.specs.Serves.{Serves}
+
+-- the line that is given before the first connection
+abbrev pub listening_line : List ℕ → List ℕ
+listening_line address = codes "listening on " ++ address ++ codes "\n"
+
+-- the line that is given behind the last one
+abbrev pub served_line : ℕ → List ℕ
+served_line connections = codes "served " ++ decimal connections ++ codes "\n"
+
+-- the line was given whole and the status is this one, or it was given in part and the fault of the sink counts where the end was none
+abbrev pub EndsWith : (before after : End) → List ℕ → (ended status : Status) → Type 0
+EndsWith before after line ended status =
+    (GaveBytes before after line × (status ≡ ended))
+    ⊎ (GavePart before after line × (status ≡ or_write_fault ended))
+
+-- nothing was begun, out of memory
+abbrev pub IsWithoutMemory : {P : Type 0} → (sink sink' : End) (places places' : P) → Status → Type 0
+IsWithoutMemory sink sink' places places' status = (status ≡ Memory) × (sink' ≡ sink) × (places' ≡ places)
+
+-- the places failed, and nothing was given
+abbrev pub IsUnplaced : {D : Type 0} → (sink sink' : End) (places places' : PlacesView D) → Status → Type 0
+IsUnplaced sink sink' places places' status = (status ≡ PlaceFault) × (sink' ≡ sink) × (places'.kept ≡ places.kept) × (places.faults < places'.faults)
+
+-- the first line was given in part, and the doors are as they were
+abbrev pub IsUnannounced : {D : Type 0} → ServeAsk → (sink sink' : End) → (doors doors' : D) → Status → Type 0
+IsUnannounced ask sink sink' doors doors' status = (status ≡ WriteFault) × GavePart sink sink' (listening_line ask.address) × (doors' ≡ doors)
+
+module _ {D S K C : Type 0} (source_at : S → End) (sink_at : K → End) (tick : C → ℕ → C → Type 0) (may : C → Type 0) (doors_at : D → DoorsView S K) where
+  -- The connections were served that came through the doors, and then the last line was given, or a part of it.
+  pub record IsServed (ask : ServeAsk) (sink sink' : End) (doors doors' : D) (status : Status) : Type 0 where
+    pub end : ServeEnd
+    pub serves : Serves source_at sink_at tick may ask.setting (doors_at doors) (doors_at doors') ask.connections end
+    pub last_line : EndsWith sink sink' (served_line end.connections) (status_of_server end.why) status
+
+  -- the first line was given in part; or whole, and what came then
+  abbrev pub IsThrough : ServeAsk → (sink sink' : End) → (doors doors' : D) → Status → Type 0
+  IsThrough ask sink sink' doors doors' status =
+      IsUnannounced ask sink sink' doors doors' status
+      ⊎ ((announced : End) × GaveBytes sink announced (listening_line ask.address) × IsServed ask announced sink' doors doors' status)
+
+module _ {P D S K C : Type 0} (source_at : S → End) (sink_at : K → End) (tick : C → ℕ → C → Type 0) (may : C → Type 0) (doors_at : D → DoorsView S K) (places_at : P → PlacesView D) (gives : P → List ℕ → ℕ → D → P → Type 0) where
+  -- The places gave doors at the address, and have them back as they are now.
+  pub record HasListened (ask : ServeAsk) (sink sink' : End) (places places' : P) (status : Status) : Type 0 where
+    pub doors : D
+    pub doors_left : D
+    -- the places behind the call
+    pub listening : P
+    pub given : gives places ask.address ask.idle doors listening
+    pub are_new : AreNew (doors_at doors)
+    pub kept : places_at places' ≡ record { faults = (places_at places).faults; kept = Some doors_left }
+    pub through : IsThrough source_at sink_at tick may doors_at ask sink sink' doors doors_left status
+
+  -- the places failed; or doors were listened at, and what came of it
+  abbrev pub HasServed : ServeAsk → (sink sink' : End) → (places places' : P) → Status → Type 0
+  HasServed ask sink sink' places places' status =
+      IsUnplaced sink sink' (places_at places) (places_at places') status ⊎ HasListened ask sink sink' places places' status
+
+  -- what a run of `serve` does: neither the source nor the clock is asked
+  abbrev pub IsServing : ServeAsk → (a b : Sides) → (clock clock' : C) → (places places' : P) → Status → Type 0
+  IsServing ask a b clock clock' places places' status =
+      (b.source ≡ a.source) × (clock' ≡ clock)
+      × (IsWithoutMemory a.sink b.sink places places' status ⊎ HasServed ask a.sink b.sink places places' status)

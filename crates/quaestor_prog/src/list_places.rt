@@ -1,0 +1,82 @@
+//! Places with doors in memory.
+ghost use Rattle.std.specs.Prelude.{◌≡◌, ◌<◌, Some, None, IfSome, string_bytes};
+ghost use Rattle.quaestor_prog.specs.ListPlaces.{AreUnused, AreUnusedIn};
+
+use crate::places::Places;
+use crate::words::is_text;
+use q_outside::{Failed, Faults, ListDoors, Sink, Source};
+use std::sync::ledger::{Blank, Ledger};
+
+/// Places that have one address, give its doors once, and otherwise fail. They show all that they give
+/// and keep.
+#[derive(Drop)]
+pub struct ListPlaces<S: Drop, K: Drop, L: Ledger, F: Ledger> {
+    /// The address.
+    pub address: String,
+    /// Its doors, until they are given.
+    pub left: Option<ListDoors<S, K, L>>,
+    /// The seconds of silence that were last asked for.
+    pub idle: u32,
+    /// The doors last handed back.
+    pub kept: Option<ListDoors<S, K, L>>,
+    /// The number of faults so far.
+    pub faults: Faults<F>,
+    ghost unused: { AreUnusedIn left },
+}
+
+impl<S: Drop, K: Drop, L: Ledger, F: Ledger> ListPlaces<S, K, L, F> {
+    /// Places that give these doors at this address, or none.
+    pub fn new(
+        address: String,
+        doors: Option<ListDoors<S, K, L>>,
+        blank: Blank,
+    ) -> ListPlaces<S, K, L, F>
+        requires unused { IfSome doors AreUnused }
+        requires name { blank.name ≡ F.name }
+        requires parts { blank.parts ≡ F.parts }
+        requires some { 0 < F.parts }
+        ensures address { result.address ≡ address }
+        ensures left { result.left ≡ doors }
+        ensures kept { result.kept ≡ None }
+        ensures faults { result.faults ≡ 0 }
+    {
+        ListPlaces {
+            address,
+            left: doors,
+            idle: 0,
+            kept: None,
+            faults: Faults::new(blank),
+        }
+    }
+}
+
+impl<S, K, L: Ledger, F: Ledger> Places for ListPlaces<S, K, L, F>
+where
+    S: Source + Send + Drop + 'static,
+    K: Sink + Send + Drop + 'static,
+{
+    type Doors = ListDoors<S, K, L>;
+
+    ghost at = { λ p. record { faults = p.faults; kept = p.kept } };
+
+    ghost gives = { λ p address idle doors q. (string_bytes p.address ≡ address) × (p.left ≡ Some doors) × (q.idle ≡ idle) };
+
+    fn listen(&mut self, address: &str, idle: u32) -> Result<ListDoors<S, K, L>, Failed> {
+        if !is_text(&self.address, address) {
+            self.faults.rise();
+            return Err(Failed);
+        }
+        self.idle = idle;
+        match self.left.take() {
+            Some(doors) => Ok(doors),
+            None => {
+                self.faults.rise();
+                Err(Failed)
+            }
+        }
+    }
+
+    fn keep_doors(&mut self, doors: ListDoors<S, K, L>) {
+        self.kept = Some(doors);
+    }
+}
