@@ -24,9 +24,11 @@ run: ## runs the program over standard input: make run ARGS="pipe --clock 100"
 example: ## runs the examples and compares their output with the stored replies
 	./quaestor pipe --clock 100 < examples/first.http | cmp - examples/first.reply
 	./quaestor pipe --clock 100 < examples/curl.http | cmp - examples/curl.reply
+bench: ## measures the server with wrk and prints a table
+	@sh tools/bench.sh
 ci: fmt lint ## the gate, as a merge runs it, after the layout and the style
 	rt ci
 
 named:
 	@test -n "$(CRATE)" || { echo "say which: CRATE=name" >&2; exit 2; }
-.PHONY: help check fmt lint test edits plant crate program run example ci named
+.PHONY: help check fmt lint test edits plant crate program run example bench ci named
