@@ -3,9 +3,10 @@ use Rattle.std.proofs.Common.{◌≡◌, ℕ, List, [], ◌∷◌, length, false
 use Rattle.std.proofs.lemmas.Bool.{ltb-false, or_parts}
 use Rattle.std.specs.Prelude.{None, Ok, nat_lt}
 use Rattle.hub_model.specs.declared.entry.Condition.TheVariants.{Always}
+use Rattle.hub_model.specs.declared.entry.Tags.TheVariants.{Listed}
 use Rattle.http_message.specs.Fields.{values}
 use Rattle.http_message.specs.Message.{Message}
-use Rattle.http_front.specs.Asks.{check_read, condition_of, differs, has_condition, matches, tags_or_not}
+use Rattle.http_front.specs.Asks.{condition_of, differs, has_condition, known_of, matches, tags_or_not}
 use Rattle.http_front.specs.Tags.{tags_in}
 use Rattle.http_front.specs.declared.tags.Comparison.{Comparison}
 use Rattle.http_front.specs.declared.tags.Comparison.TheVariants.{Strong, Weak}
@@ -25,7 +26,7 @@ no_matches m e = ap tags_or_not (no_tags Strong (values (codes "if-match") m.fie
 no_differs : (m : Message) → has_condition m ≡ false → differs m ≡ Ok None
 no_differs m e = ap tags_or_not (no_tags Weak (values (codes "if-none-match") m.fields) (or_parts _ _ e).1)
 
-pub read_free : (m : Message) → has_condition m ≡ false → Ok tt ≡ check_read m
+pub read_free : (m : Message) → has_condition m ≡ false → Ok (Listed []) ≡ known_of m
 read_free m e = rw (no_matches m e, no_differs m e) refl
 
 pub write_free : (m : Message) → has_condition m ≡ false → Ok Always ≡ condition_of m

@@ -17,7 +17,7 @@ use Rattle.q_doc.specs.declared.refusal.DocRefusal.{DocRefusal}
 use Rattle.q_doc.specs.declared.refusal.DocRefusal.TheVariants as doc
 use Rattle.percent_encoding.specs.Percent.{percent_decode}
 use Rattle.http_front.specs.Answered.{and_then}
-use Rattle.http_front.specs.Asks.{ask_at, ask_by, ask_of, check_read, condition_by, document_by, document_in, fields_or_not, has_host, has_length, if_none, has_no_coding, is_head_request, method_by, method_in, name_in, name_or_not, put_of, record_by, tags_or_not, write}
+use Rattle.http_front.specs.Asks.{ask_at, ask_by, ask_of, condition_by, document_by, document_in, fields_or_not, has_host, has_length, known_by, known_of, has_no_coding, is_head_request, method_by, method_in, name_in, name_or_not, put_of, record_by, tags_or_not, write}
 use Rattle.http_front.specs.Early.{decodes_at, is_early, is_early_answer}
 use Rattle.http_front.specs.Free.{is_bare, is_bare_call, is_free_at, is_free_call, is_free_with}
 use Rattle.http_front.specs.Query.{NamedValue, fields_in, fields_of, pieces_of, takes_fields}
@@ -62,13 +62,12 @@ if_none_match m = tags_in Weak (values (codes "if-none-match") m.fields)
 
 -- Conditions and documents are read after the refusals that take no memory.
 module _ (decodes : Bool) where
-  late_read : (one two : Result (Option Tags) TagRefusal) (next : Unit {0} → Result Ask Refused)
-      → is_early_answer decodes (next tt) ≡ false
-      → is_early_answer decodes (and_then (and_then (tags_or_not one) (λ tags. and_then (tags_or_not two) (λ others. if_none others))) next) ≡ false
+  late_read : (one two : Result (Option Tags) TagRefusal) (next : Tags → Result Ask Refused)
+      → ((known : Tags) → is_early_answer decodes (next known) ≡ false)
+      → is_early_answer decodes (and_then (and_then (tags_or_not one) (λ tags. and_then (tags_or_not two) (λ others. Ok (known_by others)))) next) ≡ false
   late_read (Err refusal) two next late = refl
   late_read (Ok tags) (Err refusal) next late = refl
-  late_read (Ok tags) (Ok None) next late = late
-  late_read (Ok tags) (Ok (Some others)) next late = refl
+  late_read (Ok tags) (Ok others) next late = late (known_by others)
 
   late_condition : (tags others : Option Tags) (next : Condition → Result Ask Refused)
       → ((condition : Condition) → is_early_answer decodes (next condition) ≡ false)
@@ -111,17 +110,17 @@ module _ (decodes : Bool) where
   late_record : (m : Message) (collection id : List ℕ) (method : Method) → allows allow.Record method ≡ true
       → is_bare_call m method ≡ false → is_early_answer decodes (record_by m collection id method) ≡ false
   late_record m collection id Get allowed other =
-      late_read (if_match m) (if_none_match m) (λ checked. Ok (Read (key.Record collection id) (Listed []) false)) refl
+      late_read (if_match m) (if_none_match m) (λ known. Ok (Read (key.Record collection id) known false)) (λ known. refl)
   late_record m collection id Head allowed other =
-      late_read (if_match m) (if_none_match m) (λ checked. Ok (Read (key.Record collection id) (Listed []) true)) refl
+      late_read (if_match m) (if_none_match m) (λ known. Ok (Read (key.Record collection id) known true)) (λ known. refl)
   late_record m collection id Put allowed other = late_put m collection id other
   late_record m collection id Delete allowed other =
       late_write (if_match m) (if_none_match m) (λ condition. Ok (write collection id None condition)) (λ condition. refl)
   late_record m collection id Post allowed other = absurd (true≢false (sym allowed))
 
   -- so is a query, once its name is good
-  late_query : (m : Message) (ask : Ask) → is_early_answer decodes (Ok ask) ≡ false → is_early_answer decodes (and_then (check_read m) (λ checked. Ok ask)) ≡ false
-  late_query m ask late = late_read (if_match m) (if_none_match m) (λ checked. Ok ask) late
+  late_query : (m : Message) (ask : Tags → Ask) → ((known : Tags) → is_early_answer decodes (Ok (ask known)) ≡ false) → is_early_answer decodes (and_then (known_of m) (λ known. Ok (ask known))) ≡ false
+  late_query m ask late = late_read (if_match m) (if_none_match m) (λ known. Ok (ask known)) late
 
   free_record : (m : Message) (method : Method) (one two : Result (List ℕ) Refused) → allows allow.Record method ≡ true
       → is_early_answer decodes (and_then one (λ collection. and_then two (λ id. record_by m collection id method))) ≡ true
@@ -134,17 +133,17 @@ module _ (decodes : Bool) where
         | inr other ↦ absurd (true≢false (sym early ∙ late_record m collection id method allowed other))
       ]
 
-free_query : (m : Message) (name : Result (List ℕ) Refused) (ask : List ℕ → Ask)
-    → ((collection : List ℕ) → is_early_answer false (Ok (ask collection)) ≡ false)
-    → is_early_answer false (and_then name (λ collection. and_then (check_read m) (λ checked. Ok (ask collection)))) ≡ true
+free_query : (m : Message) (name : Result (List ℕ) Refused) (ask : List ℕ → Tags → Ask)
+    → ((collection : List ℕ) (known : Tags) → is_early_answer false (Ok (ask collection known)) ≡ false)
+    → is_early_answer false (and_then name (λ collection. and_then (known_of m) (λ known. Ok (ask collection known)))) ≡ true
     → not (is_ok name) ≡ true
 free_query m (Err refused) ask late early = refl
 free_query m (Ok collection) ask late early = absurd (true≢false (sym early ∙ late_query false m (ask collection) (late collection)))
 
 -- a query by its name, once the fields are decoded
-late_named : (m : Message) (name : Result (List ℕ) NameRefusal) (ask : List ℕ → Ask)
-    → ((collection : List ℕ) → is_early_answer true (Ok (ask collection)) ≡ false)
-    → is_early_answer true (and_then (name_or_not name) (λ collection. and_then (check_read m) (λ checked. Ok (ask collection)))) ≡ false
+late_named : (m : Message) (name : Result (List ℕ) NameRefusal) (ask : List ℕ → Tags → Ask)
+    → ((collection : List ℕ) (known : Tags) → is_early_answer true (Ok (ask collection known)) ≡ false)
+    → is_early_answer true (and_then (name_or_not name) (λ collection. and_then (known_of m) (λ known. Ok (ask collection known)))) ≡ false
 late_named m (Err refusal) ask late = refl
 late_named m (Ok collection) ask late = late_query true m (ask collection) (late collection)
 
@@ -157,7 +156,7 @@ module _ (m : Message) (path : List ℕ) (method : Method) where
   free_call : (found : Route) → allows (methods_of found) method ≡ true
       → is_early_answer false (ask_by m path method found []) ≡ true → is_free_call m path found method ≡ true
   free_call Record allowed early = free_record false m method (name_in (collection_in path)) (name_in (id_in path)) allowed early
-  free_call Query allowed early = free_query m (name_in (queried_in path)) (λ collection. asks.Query collection [] (is_head_request method)) (λ collection. refl) early
+  free_call Query allowed early = free_query m (name_in (queried_in path)) (λ collection known. asks.Query collection [] known (is_head_request method)) (λ collection known. refl) early
   free_call Filter allowed early = refl
   free_call Purges allowed early = refl
   free_call Match allowed early = refl
@@ -168,7 +167,7 @@ module _ (m : Message) (path : List ℕ) (method : Method) where
       → is_early_answer true (and_then (fields_or_not values) (λ fields. ask_by m path method Query fields)) ≡ false
   unfolding name_in
   late_queried None = refl
-  late_queried (Some values) = late_named m (read_name (percent_decode (queried_in path))) (λ collection. asks.Query collection values (is_head_request method)) (λ collection. refl)
+  late_queried (Some values) = late_named m (read_name (percent_decode (queried_in path))) (λ collection known. asks.Query collection values known (is_head_request method)) (λ collection known. refl)
 
   late_purges : (values : Option (List NamedValue))
       → is_early_answer true (and_then (fields_or_not values) (λ fields. ask_by m path method Purges fields)) ≡ false

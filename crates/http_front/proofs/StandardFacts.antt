@@ -8,7 +8,7 @@ use Rattle.http_message.specs.declared.refusal.FramingRefusal.TheVariants.{BodyT
 use Rattle.http_front.specs.declared.refused.QueryField.TheVariants.{Order}
 use Rattle.http_front.specs.declared.refused.Refused.TheVariants.{Framing, NoRoute, BadMethod, BadFilter, BadDocument}
 use Rattle.hub_model.specs.declared.entry.Found.TheVariants.{Missing, At}
-use Rattle.hub_model.specs.declared.entry.Outcome.TheVariants.{Whole, Absent}
+use Rattle.hub_model.specs.declared.entry.Outcome.TheVariants.{Whole, Same, Absent}
 use Rattle.hub_model.specs.declared.entry.Written.TheVariants.{Done, Precondition, Full}
 use Rattle.http_front.specs.Reply.{head_text, head_fields, reply_text, status_line}
 use Rattle.http_front.specs.ReplyText.{reply_of}
@@ -44,6 +44,12 @@ read-document = refl
 head-of-document : text_at_100 head (Read (record { commit = 1; clock = 100; ttl = 3600; result = Whole (codes "{\"a\":1}") (Some 1) })) false ≡ codes "HTTP/1.1 200 OK\r\nDate: Thu, 01 Jan 1970 00:01:40 GMT\r\nContent-Type: application/json\r\nContent-Length: 7\r\nETag: \"1\"\r\nCache-Control: max-age=3600\r\nQuaestor-Commit: 1\r\nQuaestor-Version: 1\r\nQuaestor-Until: 3700\r\n\r\n"
 unfolding head_text head_fields status_line digits get put head
 head-of-document = refl
+
+-- a read of what the caller knows, and the same with HEAD
+same-document : (text_at_100 get (Read (record { commit = 7; clock = 100; ttl = 60; result = Same 5 (Some 4) })) false ≡ codes "HTTP/1.1 304 Not Modified\r\nDate: Thu, 01 Jan 1970 00:01:40 GMT\r\nETag: \"5\"\r\nCache-Control: max-age=60\r\nQuaestor-Commit: 7\r\nQuaestor-Version: 4\r\nQuaestor-Until: 160\r\n\r\n")
+    × (text_at_100 head (Read (record { commit = 7; clock = 100; ttl = 60; result = Same 5 (Some 4) })) false ≡ codes "HTTP/1.1 304 Not Modified\r\nDate: Thu, 01 Jan 1970 00:01:40 GMT\r\nETag: \"5\"\r\nCache-Control: max-age=60\r\nQuaestor-Commit: 7\r\nQuaestor-Version: 4\r\nQuaestor-Until: 160\r\n\r\n")
+unfolding head_text head_fields status_line digits get put head
+same-document = (refl, refl)
 
 -- a HEAD that finds none
 head-of-absent : text_at_100 head (Read (record { commit = 1; clock = 100; ttl = 3600; result = Absent })) false ≡ codes "HTTP/1.1 404 Not Found\r\nDate: Thu, 01 Jan 1970 00:01:40 GMT\r\nContent-Type: application/json\r\nContent-Length: 18\r\nCache-Control: max-age=3600\r\nQuaestor-Commit: 1\r\nQuaestor-Until: 3700\r\n\r\n"

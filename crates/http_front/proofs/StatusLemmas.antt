@@ -19,11 +19,15 @@ pub line_201 : status_line 201 ≡ codes "HTTP/1.1 201 Created\r\n"
 unfolding status_line digits
 line_201 = refl
 
+pub line_304 : status_line 304 ≡ codes "HTTP/1.1 304 Not Modified\r\n"
+unfolding status_line digits
+line_304 = refl
+
 pub line_404 : status_line 404 ≡ codes "HTTP/1.1 404 Not Found\r\n"
 unfolding status_line digits
 line_404 = refl
 
-pub ruleset known_lines = (line_200, line_201, line_404)
+pub ruleset known_lines = (line_200, line_201, line_304, line_404)
 
 -- the pieces of a line
 pub status_pieces : (n : ℕ)

@@ -8,11 +8,11 @@ use Rattle.matchit.proofs.OnLiterals.{matchit_on_literals}
 use Rattle.query_normal.specs.declared.key.KeyShape.TheVariants as key
 use Rattle.hub_model.specs.declared.entry.Condition.{Condition}
 use Rattle.hub_model.specs.declared.entry.Condition.TheVariants.{Always, Present, Absent, Unchanged}
-use Rattle.hub_model.specs.declared.entry.Tags.TheVariants.{Listed}
+use Rattle.hub_model.specs.declared.entry.Tags.TheVariants.{Any, Listed}
 use Rattle.http_message.specs.Fields.{Pair, values}
 use Rattle.http_front.specs.declared.refused.Allow.TheVariants as allow
 use Rattle.http_front.specs.declared.refused.Refused.{Refused}
-use Rattle.http_front.specs.declared.refused.Refused.TheVariants.{BadHost, BadTarget, NoRoute, BadMethod, NoLength, BadEncoding, BadTag, NotBuilt}
+use Rattle.http_front.specs.declared.refused.Refused.TheVariants.{BadHost, BadTarget, NoRoute, BadMethod, NoLength, BadEncoding, BadTag}
 use Rattle.http_front.specs.Answered.{and_then}
 use Rattle.http_front.specs.Asks.{ask_of, document_in, has_host, has_length, has_no_coding, name_in, write}
 use Rattle.http_front.specs.Numbers.{number_of}
@@ -61,7 +61,7 @@ pub names : (asked (codes "GET") (codes "/v1/d/shop/P") [] ≡ Err BadTarget)
     × (asked (codes "GET") (codes "/v1/d/shop/a+b") [] ≡ Err BadTarget)
     × (asked (codes "GET") (codes "/v1/d/shop/p%2fq") [] ≡ Err BadTarget)
     × (asked (codes "DELETE") (codes "/v1/d/shop/p1") [] ≡ Ok (write (codes "shop") (codes "p1") None Always))
-    × (asked (codes "GET") (codes "/v1/q/shop") [] ≡ Ok (Query (codes "shop") [] false))
+    × (asked (codes "GET") (codes "/v1/q/shop") [] ≡ Ok (Query (codes "shop") [] (Listed []) false))
     × (asked (codes "GET") (codes "/v1/q/Shop") [] ≡ Err BadTarget)
     × (asked (codes "GET") (codes "/v1/purges") [] ≡ Ok (Purges [] false))
     × (asked (codes "GET") (codes "/v1/purges?from=0") [] ≡ Err BadTarget)
@@ -107,8 +107,10 @@ get fields = asked (codes "GET") (codes "/v1/d/shop/p1") fields
 pub readings : (get ((codes "If-Match", codes "\"7\"") ∷ []) ≡ Ok (Read (key.Record (codes "shop") (codes "p1")) (Listed []) false))
     × (get ((codes "If-Match", codes "7") ∷ []) ≡ Err BadTag)
     × (get ((codes "If-None-Match", codes "7") ∷ []) ≡ Err BadTag)
-    × (get ((codes "If-None-Match", codes "\"7\"") ∷ []) ≡ Err NotBuilt)
+    × (get ((codes "If-None-Match", codes "\"7\"") ∷ []) ≡ Ok (Read (key.Record (codes "shop") (codes "p1")) (Listed (7 ∷ [])) false))
+    × (get ((codes "If-None-Match", codes "*") ∷ []) ≡ Ok (Read (key.Record (codes "shop") (codes "p1")) Any false))
+    × (get ((codes "If-None-Match", codes "\"3\", W/\"5\"") ∷ (codes "If-None-Match", codes "\"x\"") ∷ []) ≡ Ok (Read (key.Record (codes "shop") (codes "p1")) (Listed (3 ∷ 5 ∷ [])) false))
     × (asked (codes "GET") (codes "/v1/q/shop") ((codes "If-Match", codes "7") ∷ []) ≡ Err BadTag)
     × (asked (codes "GET") (codes "/v1/stats") ((codes "If-Match", codes "7") ∷ []) ≡ Ok (Stats false))
 unfolding ask_of has_host values local_part path_of route_of table matchit_on_literals is_utf8 chars lib.Utf8.encode fields_in name_in percent_decode tags_in commits_in members_of trim_ows tag_of number_of
-readings = (refl, refl, refl, refl, refl, refl)
+readings = (refl, refl, refl, refl, refl, refl, refl, refl)

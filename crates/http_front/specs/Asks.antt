@@ -20,7 +20,7 @@ use Rattle.http_front.specs.declared.refused.Allow.{Allow}
 use Rattle.http_front.specs.declared.refused.DocumentReason.TheVariants.{NotJson, NotObject, TooDeep, NotWhole}
 use Rattle.http_message.specs.declared.refusal.FramingRefusal.TheVariants.{BodyTooLarge}
 use Rattle.http_front.specs.declared.refused.Refused.{Refused}
-use Rattle.http_front.specs.declared.refused.Refused.TheVariants.{Framing, BadHost, BadTarget, NoRoute, BadMethod, NoLength, BadEncoding, BadTag, NotBuilt, BadDocument}
+use Rattle.http_front.specs.declared.refused.Refused.TheVariants.{Framing, BadHost, BadTarget, NoRoute, BadMethod, NoLength, BadEncoding, BadTag, BadDocument}
 use Rattle.http_front.specs.Answered.{and_then, unless}
 use Rattle.http_front.specs.Query.{NamedValue, fields_in}
 use Rattle.http_front.specs.Routes.{route_of, served_of, collection_in, id_in, queried_in, method_of, allows, methods_of}
@@ -95,14 +95,14 @@ condition_by (Some tags) (Some others) = Err BadTag
 abbrev pub condition_of : Message → Result Condition Refused
 condition_of m = and_then (matches m) (λ tags. and_then (differs m) (λ others. condition_by tags others))
 
--- tags that are not answered yet
-abbrev pub if_none : Option Tags → Result (Unit {0}) Refused
-if_none None = Ok tt
-if_none (Some tags) = Err NotBuilt
+-- the results that a reader knows, of the tags of If-None-Match: none without these
+abbrev pub known_by : Option Tags → Tags
+known_by None = Listed []
+known_by (Some tags) = tags
 
--- the conditions of a read: those of If-Match are read alone
-abbrev pub check_read : Message → Result (Unit {0}) Refused
-check_read m = and_then (matches m) (λ tags. and_then (differs m) (λ others. if_none others))
+-- the results that the reader of a request knows; the tags of If-Match are read and have no effect
+abbrev pub known_of : Message → Result Tags Refused
+known_of m = and_then (matches m) (λ tags. and_then (differs m) (λ others. Ok (known_by others)))
 
 -- how a body that is no document is refused; a definition of documents refuses none for being out of memory
 abbrev pub refused_for : DocRefusal → Refused
@@ -143,7 +143,7 @@ delete_of m collection id = and_then (condition_of m) (λ condition. Ok (write c
 -- a GET or a HEAD of it
 abbrev pub read_of : Message → List ℕ → List ℕ → Bool → Result Ask Refused
 read_of m collection id head =
-    and_then (check_read m) (λ checked. Ok (Read (key.Record collection id) (Listed []) head))
+    and_then (known_of m) (λ known. Ok (Read (key.Record collection id) known head))
 
 -- by the method
 abbrev pub record_by : Message → List ℕ → List ℕ → Method → Result Ask Refused
@@ -156,7 +156,7 @@ record_by m collection id Post = Err (BadMethod (methods_of route.Record))
 -- a GET or a HEAD of a query
 abbrev pub query_by : Message → List ℕ → List NamedValue → Bool → Result Ask Refused
 query_by m text fields head =
-    and_then (name_in text) (λ collection. and_then (check_read m) (λ checked. Ok (Query collection fields head)))
+    and_then (name_in text) (λ collection. and_then (known_of m) (λ known. Ok (Query collection fields known head)))
 
 -- the method is HEAD
 abbrev pub is_head_request : Method → Bool

@@ -41,7 +41,7 @@ is_early_refusal decodes (BadDocument reason) = false
 abbrev pub is_early_answer : Bool → Result Ask Refused → Bool
 is_early_answer decodes (Ok (Write change condition)) = false
 is_early_answer decodes (Ok (Read key tags head)) = false
-is_early_answer decodes (Ok (Query collection fields head)) = false
+is_early_answer decodes (Ok (Query collection fields tags head)) = false
 is_early_answer decodes (Ok (Purges fields head)) = not decodes
 is_early_answer decodes (Ok MatchAll) = true
 is_early_answer decodes (Ok (Fetch head)) = true

@@ -1,10 +1,10 @@
 -- Internal. Replies are read back as what they are.
-use Rattle.std.specs.Prelude.{◌≡◌, ℕ, ◌++◌, Bool, false, List, map, Some, Ok}
+use Rattle.std.specs.Prelude.{◌≡◌, ℕ, ◌++◌, Bool, true, false, List, map, Some, Ok}
 use Rattle.httparse.specs.Grammar.{ResponseHead, ReadsResponse, status_code}
 use Rattle.httparse.specs.Spans.{name_and_value}
 use Rattle.http1.specs.Fields.{Header, known_fields}
 use Rattle.http1.specs.Framing.{is_bodiless_status, response_framing}
-use Rattle.http1.specs.declared.framing.Framing.TheVariants.{Length}
+use Rattle.http1.specs.declared.framing.Framing.TheVariants.{Length, NoBody}
 use Rattle.http1.specs.declared.framing.MethodKind.TheVariants.{Other}
 use Rattle.http_front.specs.Date.{IsDateOf}
 use Rattle.http_front.specs.Reply.{head_text, head_fields}
@@ -31,6 +31,12 @@ abbrev pub FramesItsBody : Head → Type 0
 FramesItsBody head =
     (date : List ℕ) (size : ℕ) → head.length ≡ Some size → is_bodiless_status head.status ≡ false
     → response_framing Other head.status 1 (known_fields (head_fields head date)) ≡ Ok (Length size)
+
+-- a head whose status has no body ends its reply, whatever its fields say
+abbrev pub EndsWithItsHead : Head → Type 0
+EndsWithItsHead head =
+    (date : List ℕ) → is_bodiless_status head.status ≡ true
+    → response_framing Other head.status 1 (known_fields (head_fields head date)) ≡ Ok NoBody
 
 -- bytes begin with one head alone
 abbrev pub OneReplyIsRead : Type 0

@@ -4,7 +4,7 @@ use Rattle.hub_model.specs.declared.entry.Answer.{Answer}
 use Rattle.hub_model.specs.declared.entry.Found.{Found}
 use Rattle.hub_model.specs.declared.entry.Found.TheVariants.{Missing, At}
 use Rattle.hub_model.specs.declared.entry.Outcome.{Outcome}
-use Rattle.hub_model.specs.declared.entry.Outcome.TheVariants.{Whole, Absent}
+use Rattle.hub_model.specs.declared.entry.Outcome.TheVariants.{Whole, Same, Absent}
 use Rattle.hub_model.specs.declared.entry.Stats.{Stats}
 use Rattle.hub_model.specs.declared.entry.Written.{Written}
 use Rattle.hub_model.specs.declared.entry.Written.TheVariants.{Done, Precondition, Full}
@@ -99,6 +99,7 @@ written_body (Full bytes clock) = codes "{\"bytes\":" ++ decimal bytes ++ codes 
 -- the body of a read
 abbrev pub outcome_body : Outcome → List ℕ
 outcome_body (Whole text version) = text
+outcome_body (Same tag version) = []
 outcome_body Absent = codes "{\"error\":\"absent\"}"
 
 -- the body of the counts
@@ -155,11 +156,18 @@ answer_head a status size close =
       until = Some (a.clock + a.ttl);
     }
 
--- the head of a read that finds a result, and of one that finds none
+-- the head of a read that finds a result, of one that the caller knows (RFC 9110, section 15.4.5), and of one that finds none
 abbrev pub read_head : Answer → Outcome → ℕ → Bool → Head
 read_head a (Whole text version) size close =
     record (answer_head a 200 size close) {
       tag = Some a.commit;
+      version = version;
+    }
+read_head a (Same tag version) size close =
+    record (answer_head a 304 size close) {
+      media = None;
+      length = None;
+      tag = Some tag;
       version = version;
     }
 read_head a Absent size close = answer_head a 404 size close

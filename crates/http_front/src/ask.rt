@@ -5,7 +5,7 @@ ghost use Rattle.std.specs.Prelude.{◌≡◌, ℕ, List, true, false, drop, is_
 ghost use Rattle.std.specs.Option.{option_copied};
 ghost use Rattle.http_message.specs.Fields.{values as values_named};
 ghost use Rattle.http_front.specs.Answered.{and_then};
-ghost use Rattle.http_front.specs.Asks.{ask_at, ask_by, ask_of, check_read, condition_by, condition_of, delete_of, document_in, method_in, name_in, put_of, query_by, read_of, record_by, shape_of, tags_or_not};
+ghost use Rattle.http_front.specs.Asks.{ask_at, ask_by, ask_of, condition_by, condition_of, delete_of, document_in, known_of, method_in, name_in, put_of, query_by, read_of, record_by, shape_of, tags_or_not};
 ghost use Rattle.http_front.specs.Early.{is_early};
 ghost use Rattle.http_front.specs.Free.{is_bare, is_bare_put, is_free_at, is_free_call, is_free_record};
 ghost use Rattle.http_front.specs.Routes.{collection_in, id_in, route_of, served_of};
@@ -43,10 +43,11 @@ pub enum Ask {
         tags: Tags,
         head: bool,
     },
-    /// To read the result of a query with these fields.
+    /// To read the result of a query with these fields, of which the tagged ones are known.
     Query {
         collection: Name,
         fields: QueryFields,
+        tags: Tags,
         head: bool,
     },
     /// To give the purges that these fields ask for.
@@ -280,10 +281,11 @@ fn query_by(
         Ok(name) => name,
         Err(refused) => return Ok(Err(refused)),
     };
-    match check_read(alloc, request)? {
-        Ok(()) => Ok(Ok(Ask::Query {
+    match known_of(alloc, request)? {
+        Ok(tags) => Ok(Ok(Ask::Query {
             collection,
             fields,
+            tags,
             head,
         })),
         Err(refused) => Ok(Err(refused)),
@@ -323,13 +325,13 @@ fn read_of(
 ) -> Result<Result<Ask, Refused>, Memory>
     ensures { IfOk result (λ asked. asked ≡ read_of request.now collection id head) }
 {
-    if let Err(refused) = check_read(alloc, request)? {
-        return Ok(Err(refused));
-    }
+    let tags = match known_of(alloc, request)? {
+        Ok(tags) => tags,
+        Err(refused) => return Ok(Err(refused)),
+    };
     let Ok(key) = Key::record(alloc, collection, id) else {
         return Err(Memory);
     };
-    let tags = Tags::Listed(Commits::new(alloc));
     Ok(Ok(Ask::Read { key, tags, head }))
 }
 
@@ -465,26 +467,26 @@ fn condition_by(tags: Option<Tags>, others: Option<Tags>) -> Result<Condition, R
     }
 }
 
-/// Refuses the conditions that a read does not have yet.
-fn check_read(alloc: Global, request: &Request<'_>) -> Result<Result<(), Refused>, Memory>
-    ensures { IfOk result (λ checked. checked ≡ check_read request.now) }
+/// The results that the reader of a request knows.
+fn known_of(alloc: Global, request: &Request<'_>) -> Result<Result<Tags, Refused>, Memory>
+    ensures { IfOk result (λ known. known ≡ known_of request.now) }
 {
     if !has_condition(request) {
-        return Ok(Ok(()));
+        return Ok(Ok(Tags::Listed(Commits::new(alloc))));
     }
-    check_tags(alloc, request)
+    tagged_results(alloc, request)
 }
 
-/// Refuses the tags of a read that are not answered yet.
-fn check_tags(alloc: Global, request: &Request<'_>) -> Result<Result<(), Refused>, Memory>
-    ensures { IfOk result (λ checked. checked ≡ check_read request.now) }
+/// The results that the tags of a read name.
+fn tagged_results(alloc: Global, request: &Request<'_>) -> Result<Result<Tags, Refused>, Memory>
+    ensures { IfOk result (λ known. known ≡ known_of request.now) }
 {
     if let Err(refused) = read_tags(alloc, request, b"if-match", Comparison::Strong)? {
         return Ok(Err(refused));
     }
     match read_tags(alloc, request, b"if-none-match", Comparison::Weak)? {
-        Ok(None) => Ok(Ok(())),
-        Ok(Some(_)) => Ok(Err(Refused::NotBuilt)),
+        Ok(Some(tags)) => Ok(Ok(tags)),
+        Ok(None) => Ok(Ok(Tags::Listed(Commits::new(alloc)))),
         Err(refused) => Ok(Err(refused)),
     }
 }

@@ -106,12 +106,13 @@ fn precondition_body(found: Found, buffer: &mut [u8]) -> &[u8]
     }
 }
 
-/// The body of a read.
+/// The body of a read: none where the caller knows the result.
 fn outcome_body(outcome: &Outcome) -> &[u8]
     ensures { result.now ≡ outcome_body outcome.now }
 {
     match outcome {
         Outcome::Whole { text, .. } => text.as_slice(),
+        Outcome::Same { .. } => &[],
         Outcome::Absent => ABSENT,
     }
 }

@@ -102,6 +102,13 @@ impl Head {
                 version: *version,
                 ..Head::of_answer(answer, StatusCode::OK, length, close)
             },
+            Outcome::Same { tag, version } => Head {
+                media: None,
+                length: None,
+                tag: Some(*tag),
+                version: *version,
+                ..Head::of_answer(answer, StatusCode::NOT_MODIFIED, length, close)
+            },
             Outcome::Absent => Head::of_answer(answer, StatusCode::NOT_FOUND, length, close),
         }
     }

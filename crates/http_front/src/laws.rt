@@ -1,6 +1,6 @@
 //! Laws of the routes, and of the texts of replies.
 ghost use Rattle.http_front.specs.Paths.{PathsOfRecordsHaveTwoNames};
-ghost use Rattle.http_front.specs.ReadBack.{FramesItsBody, OneReplyIsRead, ReadsBack, RepliesHaveOneText};
+ghost use Rattle.http_front.specs.ReadBack.{EndsWithItsHead, FramesItsBody, OneReplyIsRead, ReadsBack, RepliesHaveOneText};
 
 use crate::head::Head;
 
@@ -17,9 +17,11 @@ pub fn replies_read_back(head: Head)
     let _status = head.status.as_u16();
 }
 
-/// A head with a length frames just this number of bytes, where its status has a body.
+/// A head with a length frames just this number of bytes, where its status has a body; where it has none,
+/// as 304, the reply ends with its head.
 pub fn replies_are_framed(head: Head)
-    ensures { FramesItsBody head }
+    ensures sized { FramesItsBody head }
+    ensures bodiless { EndsWithItsHead head }
 {}
 
 /// Bytes are read as one status, one list of fields and one rest at most.

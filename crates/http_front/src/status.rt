@@ -24,6 +24,7 @@ pub(crate) fn put_status(buffer: &mut [u8], status: StatusCode) -> usize
     match status {
         StatusCode::OK => put(buffer, 0, b"HTTP/1.1 200 OK\r\n"),
         StatusCode::CREATED => put(buffer, 0, b"HTTP/1.1 201 Created\r\n"),
+        StatusCode::NOT_MODIFIED => put(buffer, 0, b"HTTP/1.1 304 Not Modified\r\n"),
         StatusCode::NOT_FOUND => put(buffer, 0, b"HTTP/1.1 404 Not Found\r\n"),
         _ => put_line(buffer, status),
     }

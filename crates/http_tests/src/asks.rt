@@ -90,8 +90,8 @@ fn the_first_cause_is_answered(rt: HostRuntime) -> Result<(), Fail> {
             Refused::BadTag,
         ),
         (
-            b"GET /v1/d/shop/p1 HTTP/1.1\r\nHost: a\r\nIf-None-Match: \"1\"\r\n\r\n",
-            Refused::NotBuilt,
+            b"GET /v1/d/shop/p1 HTTP/1.1\r\nHost: a\r\nIf-None-Match: 1\r\n\r\n",
+            Refused::BadTag,
         ),
         (
             b"PUT /v1/d/shop/p1 HTTP/1.1\r\nHost: a\r\nContent-Length: 9\r\n\r\n{\"a\":1.5}",
@@ -120,6 +120,39 @@ fn the_first_16_strong_tags_that_name_a_commit_count(rt: HostRuntime) -> Result<
     assert!(rt; change.document.is_some());
     let wanted: [u64; 16] = [1, 2, 3, 4, 5, 6, 7, 8, 9, 10, 11, 12, 13, 14, 15, 16];
     assert_eq!(rt; commits.as_slice(), wanted.as_slice());
+    Ok(())
+}
+
+#[test]
+fn a_read_keeps_the_tags_that_its_caller_knows(rt: HostRuntime) -> Result<(), Fail> {
+    let alloc = rt.alloc();
+    let read = asked(
+        alloc,
+        b"GET /v1/d/shop/p1 HTTP/1.1\r\nHost: a\r\nIf-None-Match: \"3\", W/\"5\"\r\nIf-None-Match: \"x\"\r\n\r\n",
+    )?;
+    let Ok(Ask::Read { tags, .. }) = &read else {
+        assert!(rt; false);
+        return Ok(());
+    };
+    let Tags::Listed(commits) = tags else {
+        assert!(rt; false);
+        return Ok(());
+    };
+    let wanted: [u64; 2] = [3, 5];
+    assert_eq!(rt; commits.as_slice(), wanted.as_slice());
+    let query = asked(
+        alloc,
+        b"HEAD /v1/q/shop HTTP/1.1\r\nHost: a\r\nIf-None-Match: *\r\n\r\n",
+    )?;
+    assert!(rt;
+        matches!(
+            &query,
+            Ok(Ask::Query {
+                tags: Tags::Any,
+                ..
+            })
+        )
+    );
     Ok(())
 }
 
@@ -177,6 +210,7 @@ fn an_ask_keeps_the_fields_of_its_query(rt: HostRuntime) -> Result<(), Fail> {
             collection,
             fields,
             head,
+            ..
         },
     ) = &query
     else {

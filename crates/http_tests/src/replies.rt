@@ -30,6 +30,23 @@ const HEAD: Shape = Shape {
 const READ: &str =
     "HTTP/1.1 200 OK\r\nDate: Thu, 01 Jan 1970 00:01:40 GMT\r\nContent-Type: application/json\r\nContent-Length: 7\r\nETag: \"1\"\r\nCache-Control: max-age=3600\r\nQuaestor-Commit: 1\r\nQuaestor-Version: 1\r\nQuaestor-Until: 3700\r\n\r\n";
 
+/// The reply to a read of a result that the caller knows.
+const SAME: &str =
+    "HTTP/1.1 304 Not Modified\r\nDate: Thu, 01 Jan 1970 00:01:40 GMT\r\nETag: \"5\"\r\nCache-Control: max-age=60\r\nQuaestor-Commit: 7\r\nQuaestor-Version: 4\r\nQuaestor-Until: 160\r\n\r\n";
+
+/// A read at commit 7 of a result that the caller knows by this tag, for a minute.
+fn known(tag: Commit, version: Commit, clock: Moment) -> Answer {
+    Answer {
+        commit: 7,
+        clock,
+        ttl: 60,
+        result: Outcome::Same {
+            tag,
+            version: Some(version),
+        },
+    }
+}
+
 /// A write that was accepted.
 fn done(commit: Commit, before: Found, clock: Moment) -> Written {
     Written::Done {
@@ -96,6 +113,8 @@ fn replies_have_their_texts(rt: HostRuntime) -> Result<(), Fail> {
             false,
             "HTTP/1.1 507 Insufficient Storage\r\nDate: Thu, 01 Jan 1970 00:01:40 GMT\r\nContent-Type: application/json\r\nContent-Length: 36\r\nCache-Control: no-store\r\n\r\n{\"bytes\":65837,\"error\":\"store_full\"}",
         ),
+        (PLAIN, Told::Read(known(5, 4, clock)), false, SAME),
+        (HEAD, Told::Read(known(5, 4, clock)), false, SAME),
         (
             PLAIN,
             Told::Match(Matched { front: 2, clock }),

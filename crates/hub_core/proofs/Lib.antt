@@ -8,3 +8,4 @@ pub mod StateLemmas
 pub mod MatchLemmas
 pub mod HubLemmas
 pub mod WriteLemmas
+pub mod OutcomeLemmas

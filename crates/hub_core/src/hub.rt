@@ -3,6 +3,7 @@ ghost use Rattle.std.specs.Prelude.{◌≡◌, ◌<◌, ◌≤◌, ◌++◌, ◌
 ghost use Rattle.hub_model.specs.declared.entry.Entry.TheVariants.{Write, Read, Match, Fetch, Tick};
 ghost use Rattle.commit_book.specs.Journal.{document_at};
 ghost use Rattle.hub_model.specs.Journal.{result_at};
+ghost use Rattle.hub_model.specs.Known.{known_at};
 ghost use Rattle.hub_model.specs.Record.{is_recorded, page_of, record_of};
 ghost use Rattle.hub_model.specs.Reply.{outcome_of, wrote, read, matched, fetched, counted, reply_in};
 ghost use Rattle.hub_model.specs.State.{State, start};
@@ -113,7 +114,8 @@ impl Hub {
         }
     }
 
-    /// Reads the result of a key at the last commit, as one entry.
+    /// Reads the result of a key at the last commit, as one entry. A result that the caller knows by its
+    /// tags is neither printed nor copied.
     pub fn read(&mut self, moment: Moment, key: &Key, tags: &Tags) -> Result<Answer, Memory>
         // What Ok means.
         ensures last { IfOk result (λ a. a.commit ≡ self.old.commits) }
@@ -126,7 +128,7 @@ impl Hub {
         ensures lean { IsLean self.new }
     {
         let commit = self.book.count();
-        let result = outcome_at(&self.book, commit, key)?;
+        let result = outcome_at(&self.book, commit, key, tags)?;
         self.copies.reserve(key)?;
         pass(&mut self.copies, moment);
         let ttl = lifetime(&self.copies, key);
@@ -276,17 +278,25 @@ fn found(book: &Book, change: &Change) -> Found
     }
 }
 
-/// The outcome of a read of a key at a commit: the text that the book keeps, which is shared.
-fn outcome_at(book: &Book, commit: Commit, key: &Key) -> Result<Outcome, Memory>
+/// The outcome of a read of a key at a commit, of a caller with these tags: the commit by which it knows
+/// the result, or the text that the book keeps, which is shared.
+#[tactic(auto, using(crate::proofs::OutcomeLemmas::outcome_rules))]
+fn outcome_at(book: &Book, commit: Commit, key: &Key, tags: &Tags) -> Result<Outcome, Memory>
     requires { commit ≤ length book.now.journal }
-    ensures { IfOk result (λ o. o ≡ outcome_of (result_at key.now book.now.journal commit)) }
+    ensures { IfOk result (λ o. o ≡ outcome_of (result_at key.now book.now.journal commit) (known_at key.now book.now.journal commit tags.now)) }
 {
     let KeyShape::Record { collection, id } = key.shape();
-    match book.text_at(commit, collection, id) {
-        Some((version, text)) => Ok(Outcome::Whole {
+    let Some((version, text)) = book.text_at(commit, collection, id) else {
+        return Ok(Outcome::Absent);
+    };
+    match tags.known_since(version, commit) {
+        Some(tag) => Ok(Outcome::Same {
+            tag,
+            version: Some(version),
+        }),
+        None => Ok(Outcome::Whole {
             text: text.clone()?,
             version: Some(version),
         }),
-        None => Ok(Outcome::Absent),
     }
 }

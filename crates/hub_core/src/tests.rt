@@ -140,7 +140,7 @@ fn change_to(alloc: Global, text: &[u8]) -> Result<Change, Fail> {
 fn is_text(outcome: &Outcome, text: &[u8]) -> bool {
     match outcome {
         Outcome::Whole { text: found, .. } => found.as_slice() == text,
-        Outcome::Absent => false,
+        Outcome::Same { .. } | Outcome::Absent => false,
     }
 }
 
@@ -371,5 +371,33 @@ fn fetch_tick_and_holds_take_no_memory(rt: HostRuntime) -> Result<(), Fail> {
     assert!(rt; is_served(&mut hub, &mut room, &key));
     let next = Vec::<u8>::with_capacity(alloc, 1);
     assert!(rt; next.is_ok(), "the next allocation was refused");
+    Ok(())
+}
+
+/// What a reader of the record p1 is told: of a known commit, with the version, or the whole.
+fn told(alloc: Global, hub: &mut Hub, listed: &[u64]) -> Result<Option<(u64, Option<u64>)>, Fail> {
+    let mut tags = Commits::new(alloc);
+    for commit in listed {
+        if !tags.is_full() {
+            tags.push(*commit)?;
+        }
+    }
+    let answer = hub.read(Moment::of(100), &key(alloc)?, &Tags::Listed(tags))?;
+    Ok(match answer.result {
+        Outcome::Same { tag, version } => Some((tag, version)),
+        Outcome::Whole { .. } | Outcome::Absent => None,
+    })
+}
+
+/// Behind seven commits, of which 1 and 4 put p1, and the others p2.
+#[test]
+fn a_reader_is_told_the_greatest_commit_that_it_knows(rt: HostRuntime) -> Result<(), Fail> {
+    let alloc = rt.alloc();
+    let mut hub = Hub::new(alloc, Config::default())?;
+    write_all(alloc, &mut hub, b"1221222")?;
+    assert_eq!(rt; told(alloc, &mut hub, &[3, 5])?, Some((5, Some(4))));
+    assert_eq!(rt; told(alloc, &mut hub, &[4, 6, 5, 8])?, Some((6, Some(4))));
+    assert_eq!(rt; told(alloc, &mut hub, &[3, 8])?, None);
+    assert_eq!(rt; told(alloc, &mut hub, &[])?, None);
     Ok(())
 }

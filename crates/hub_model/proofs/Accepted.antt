@@ -134,7 +134,7 @@ older collection id n (Some change) before d h late = by (is_of collection id ch
     by false document e = e
 
 -- a document is there at each commit from its own on
-stands : (journal : List Change) (collection id : List ℕ) (n t : ℕ) (d : ℕ × Tree) → document_at journal n collection id ≡ Some d → d.0 ≤ t → t ≤ n → document_at journal t collection id ≡ Some d
+pub stands : (journal : List Change) (collection id : List ℕ) (n t : ℕ) (d : ℕ × Tree) → document_at journal n collection id ≡ Some d → d.0 ≤ t → t ≤ n → document_at journal t collection id ≡ Some d
 stands journal collection id zero t d h late within = cc
 stands journal collection id (suc n) t d h late within = elim (cases_lt t (suc n)) [
   | inl before ↦ stands journal collection id n t d (older collection id n (slice_get journal n) (document_at journal n collection id) d h (omega (arith, late, before))) late (omega (arith, before))

@@ -6,6 +6,7 @@ pub mod Covered
 pub mod Issues
 mod Histories
 pub mod KeySets
+pub mod Known
 mod LaterStates
 mod Moves
 mod CopiesOfReads

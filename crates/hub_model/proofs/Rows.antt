@@ -14,7 +14,9 @@ use Rattle.hub_model.specs.declared.entry.Condition.TheVariants.{Always, Present
 use Rattle.hub_model.specs.declared.entry.Entry.{Entry}
 use Rattle.hub_model.specs.declared.entry.Entry.TheVariants.{Write, Read, Match, Fetch}
 use Rattle.hub_model.specs.declared.entry.Found.TheVariants.{Missing, At}
-use Rattle.hub_model.specs.declared.entry.Outcome.TheVariants.{Whole, Absent as Nothing}
+use Rattle.hub_model.specs.declared.entry.Outcome.TheVariants.{Whole, Same, Absent as Nothing}
+use Rattle.hub_model.specs.declared.entry.Outcome.{Outcome}
+use Rattle.hub_model.specs.declared.entry.Tags.{Tags}
 use Rattle.hub_model.specs.declared.entry.Tags.TheVariants.{Any, Listed}
 use Rattle.hub_model.specs.declared.entry.Written.TheVariants.{Done, Precondition, Full}
 use Rattle.hub_model.specs.Setting.{Setting, default_setting}
@@ -23,7 +25,7 @@ use Rattle.hub_model.specs.Step.{state_of}
 use Rattle.hub_model.specs.State.{IssuedCopy, start, at_moment}
 use Rattle.hub_model.specs.Copies.{active_keys}
 use Rattle.hub_model.specs.Legal.{IsLegal}
-use Rattle.hub_model.specs.Reply.{reply, wrote, read, matched, fetched}
+use Rattle.hub_model.specs.Reply.{Replied, reply, wrote, read, matched, fetched}
 use Rattle.hub_model.specs.Journal.{absent, present, result_at}
 use Rattle.hub_model.specs.Lifetime.{ttl_of}
 use Rattle.hub_model.specs.Outdated.{is_outdated}
@@ -205,15 +207,40 @@ conditions : (reply sixty seven (Write 100 (put_p1 8) (unchanged 3)) ≡ wrote (
 unfolding state_of reply cost_of digits escape_byte
 conditions = (refl, refl, refl, refl, refl, refl, refl, refl, refl)
 
--- an equal document that is put again is another version: what knows the first is not met, and its copy is outdated
+-- an equal document that is put again is another version: what knows the first is not met, its copy is outdated, and its reader gets the second whole
 abbrev put_twice : List Entry
 put_twice = Write 100 (put_p1 1) Always ∷ Write 100 (put_p1 1) Always ∷ []
 
 equal_documents : (reply sixty put_twice (Write 100 (put_p1 2) (unchanged 1)) ≡ wrote (Precondition (At 2) 100))
     × (reply sixty put_twice (Write 100 (put_p1 2) (unchanged 2)) ≡ wrote (Done 3 (At 2) 100))
     × (is_outdated p1 1 (state_of sixty put_twice).journal 2 ≡ true)
+    × (reply sixty put_twice (Read 100 p1 (Listed (1 ∷ [])) 2) ≡ read (record { commit = 2; clock = 100; ttl = 60; result = Whole (printed (a_is 1)) (Some 2) }))
 unfolding state_of reply cost_of digits escape_byte
-equal_documents = (refl, refl, refl)
+equal_documents = (refl, refl, refl, refl)
+
+-- ---- what a reader knows
+
+-- the reply to a read of p1 at commit 7, of a caller with these tags
+abbrev told_at_7 : Tags → Replied
+told_at_7 tags = reply sixty seven (Read 100 p1 tags 7)
+
+abbrev answer_at_7 : Outcome → Replied
+answer_at_7 result = read (record { commit = 7; clock = 100; ttl = 60; result = result })
+
+-- commit 4 put what is there: the greatest listed commit from there to 7 is told, and else the whole
+known_results : (told_at_7 (Listed (3 ∷ 5 ∷ [])) ≡ answer_at_7 (Same 5 (Some 4)))
+    × (told_at_7 (Listed (4 ∷ 6 ∷ 5 ∷ 8 ∷ [])) ≡ answer_at_7 (Same 6 (Some 4)))
+    × (told_at_7 (Listed (3 ∷ 8 ∷ [])) ≡ answer_at_7 (Whole (printed (a_is 4)) (Some 4)))
+    × (told_at_7 (Listed []) ≡ answer_at_7 (Whole (printed (a_is 4)) (Some 4)))
+    × (told_at_7 Any ≡ answer_at_7 (Same 7 (Some 4)))
+unfolding state_of reply cost_of digits escape_byte
+known_results = (refl, refl, refl, refl, refl)
+
+-- what is not there is absent, whatever is known
+unknown_record : (reply sixty [] (Read 100 p1 Any 0) ≡ read (record { commit = 0; clock = 100; ttl = 60; result = Nothing }))
+    × (reply sixty [] (Read 100 p1 (Listed (0 ∷ [])) 0) ≡ read (record { commit = 0; clock = 100; ttl = 60; result = Nothing }))
+unfolding state_of reply cost_of digits escape_byte
+unknown_record = (refl, refl)
 
 -- a refused write moves the clock and adds nothing; the deletion of nothing is a commit
 refused : (state_of sixty (Write 100 (put_p1 1) Present ∷ []) ≡ at_moment start 100)

@@ -3,6 +3,8 @@ pub mod Desk
 pub mod Direct
 pub mod Helps
 pub mod Journal
+pub mod Known
+pub mod KnownSince
 pub mod Later
 pub mod Legal
 pub mod Lifetime

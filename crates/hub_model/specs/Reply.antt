@@ -1,5 +1,5 @@
 -- Believed. What the hub answers to an entry after a history.
-use Rattle.std.specs.Prelude.{ℕ, ◌+◌, if◌then◌else◌, nat_le, List, length, Some}
+use Rattle.std.specs.Prelude.{ℕ, ◌+◌, if◌then◌else◌, nat_le, List, length, Option, Some, None}
 use Rattle.q_doc.specs.Printed.{printed}
 use Rattle.query_normal.specs.Pages.{Page}
 use Rattle.query_normal.specs.declared.key.KeyShape.{KeyShape}
@@ -11,12 +11,13 @@ use Rattle.hub_model.specs.declared.entry.Entry.{Entry}
 use Rattle.hub_model.specs.declared.entry.Entry.TheVariants.{Write, Read, Match, Fetch, Tick}
 use Rattle.hub_model.specs.declared.entry.Matched.{Matched}
 use Rattle.hub_model.specs.declared.entry.Outcome.{Outcome}
-use Rattle.hub_model.specs.declared.entry.Outcome.TheVariants.{Whole, Absent}
+use Rattle.hub_model.specs.declared.entry.Outcome.TheVariants.{Whole, Same, Absent}
 use Rattle.hub_model.specs.declared.entry.Stats.{Stats}
 use Rattle.hub_model.specs.declared.entry.Tags.{Tags}
 use Rattle.hub_model.specs.declared.entry.Written.{Written}
 use Rattle.hub_model.specs.declared.entry.Written.TheVariants.{Done, Precondition, Full}
 use Rattle.hub_model.specs.Journal.{Finding, absent, present, result_at}
+use Rattle.hub_model.specs.Known.{known_at}
 use Rattle.hub_model.specs.Lifetime.{ttl_of}
 use Rattle.hub_model.specs.Record.{page_of}
 use Rattle.hub_model.specs.Setting.{Setting}
@@ -38,10 +39,11 @@ written g change condition s =
     then (if nat_le (kept_with s.journal change) g.capacity then Done (length s.journal + 1) (found_now s change) s.clock else Full (kept_with s.journal change) s.clock)
     else Precondition (found_now s change) s.clock
 
--- the outcome of a read that finds this
-abbrev pub outcome_of : Finding → Outcome
-outcome_of absent = Absent
-outcome_of (present version tree) = Whole (printed tree) (Some version)
+-- the outcome of a read that finds this, and that the caller may know as the result of a commit: nothing is never told as known
+abbrev pub outcome_of : Finding → Option ℕ → Outcome
+outcome_of absent known = Absent
+outcome_of (present version tree) (Some tag) = Same tag (Some version)
+outcome_of (present version tree) None = Whole (printed tree) (Some version)
 
 -- the reply to a read at a commit, in a state whose clock is that of the read
 abbrev pub answered : Setting → KeyShape → Tags → ℕ → State → Answer
@@ -49,7 +51,7 @@ answered g key tags at s = record {
   commit = at;
   clock = s.clock;
   ttl = ttl_of g s key at;
-  result = outcome_of (result_at key s.journal at);
+  result = outcome_of (result_at key s.journal at) (known_at key s.journal at tags);
 }
 
 -- the front and the clock of a state

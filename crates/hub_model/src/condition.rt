@@ -33,19 +33,6 @@ fn is_within(tags: &[Commit], version: Commit, commits: Commit) -> bool
     tags.iter().any(|tag| version <= *tag && *tag <= commits)
 }
 
-impl Clone for Tags {
-    ghost use Rattle.std.specs.Prelude.{◌≡◌};
-
-    ghost is_clone = { λ s t. s ≡ t };
-
-    fn clone(&self) -> Result<Tags, AllocError> {
-        match self {
-            Tags::Any => Ok(Tags::Any),
-            Tags::Listed(tags) => Ok(Tags::Listed(tags.clone()?)),
-        }
-    }
-}
-
 impl Clone for Condition {
     ghost use Rattle.std.specs.Prelude.{◌≡◌};
 

@@ -99,6 +99,12 @@ pub enum Outcome {
         text: SharedText,
         version: Option<Commit>,
     },
+    /// The caller knows the result, as that of this commit, which its tags name. The version is that of
+    /// a record's document.
+    Same {
+        tag: Commit,
+        version: Option<Commit>,
+    },
     /// There is no document.
     Absent,
 }

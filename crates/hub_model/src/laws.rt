@@ -1,9 +1,10 @@
 //! What follows of histories from the definitions alone. Each function states one law, and does
 //! nothing.
-ghost use Rattle.std.specs.Prelude.{◌≡◌, ◌↔◌, ◌+◌, ◌<◌, ◌≤◌, ℕ, Bool, true, suc, max, List, [], ◌∷◌, ◌++◌, length, Option, Some, IsTrue, Contains, slice_get, is_some, nat_lt, ◌&&◌, ◌||◌, if◌then◌else◌};
+ghost use Rattle.std.specs.Prelude.{◌≡◌, ◌≢◌, ◌↔◌, ◌+◌, ◌<◌, ◌≤◌, ℕ, Bool, true, suc, max, List, [], ◌∷◌, ◌++◌, length, Option, Some, None, IsTrue, Contains, slice_get, is_some, nat_lt, ◌&&◌, ◌||◌, if◌then◌else◌};
 ghost use Rattle.std.specs.Bool.{Decides};
 ghost use Rattle.std.specs.List.{list_any, IsDistinct};
 ghost use Rattle.std.specs.List.Sorted.{IsPermutation};
+ghost use Rattle.q_doc.specs.Tree.{Tree};
 ghost use Rattle.query_normal.specs.declared.key.KeyShape.{KeyShape};
 ghost use Rattle.query_normal.specs.Keys.{same_key};
 ghost use Rattle.query_normal.specs.Pages.{is_set, page_holds, positions};
@@ -19,6 +20,8 @@ ghost use Rattle.hub_model.specs.Desk.{IsPrefix};
 ghost use Rattle.hub_model.specs.Direct.{clock_of, front_of, found_behind, IsMet, IsAccepted, IsEqualAtOne, IsJournalOf, IsRead};
 ghost use Rattle.commit_book.specs.Journal.{is_of, document_at};
 ghost use Rattle.hub_model.specs.Journal.{Finding, result_at, same_finding};
+ghost use Rattle.hub_model.specs.Known.{known_at};
+ghost use Rattle.hub_model.specs.KnownSince.{known_since, IsGreatestSame};
 ghost use Rattle.hub_model.specs.Later.{IsLater};
 ghost use Rattle.hub_model.specs.Legal.{MayFollow, IsLegalFrom, IsLegal};
 ghost use Rattle.hub_model.specs.Lifetime.{ttl_of};
@@ -50,6 +53,18 @@ pub fn acceptance_is_tested()
 /// same version. An equal document that was put again is another version.
 pub fn listed_results_are_unchanged()
     ensures { (journal : List AChange) (change : AChange) (tags : List ℕ) → IsMet (Unchanged (Listed tags)) (found_behind journal change) (length journal) ↔ IsEqualAtOne journal change tags }
+{}
+
+/// A read whose caller lists commits is told the greatest of those that are not above its own and find
+/// the same, and no commit exactly where none of them does.
+pub fn the_greatest_same_result_is_told()
+    ensures told { (key : KeyShape) (journal : List AChange) (at : ℕ) (tags : List ℕ) (tag : ℕ) → (known_at key journal at (Listed tags) ≡ Some tag) ↔ IsGreatestSame key journal at tags tag }
+    ensures none { (key : KeyShape) (journal : List AChange) (at : ℕ) (tags : List ℕ) → (known_at key journal at (Listed tags) ≡ None) ↔ ((t : ℕ) → Contains tags t → t ≤ at → result_at key journal t ≢ result_at key journal at) }
+{}
+
+/// A caller knows a record's document exactly by the commits from its version on.
+pub fn records_are_known_since_their_version()
+    ensures { (journal : List AChange) (collection id : List ℕ) (at : ℕ) (found : ℕ × Tree) (tags : SomeTags) → document_at journal at collection id ≡ Some found → known_at (KeyShape.Record collection id) journal at tags ≡ known_since found.0 at tags }
 {}
 
 /// A key is among the active keys, each of which is listed once, exactly where it is active.

@@ -5,6 +5,7 @@ mod commits;
 mod condition;
 mod entry;
 pub mod laws;
+mod tags;
 
 pub use commit_book::Change;
 pub use commits::Commits;

@@ -3,7 +3,7 @@ use Rattle.std.specs.Prelude.{Ok}
 use Rattle.percent_encoding.specs.Percent.{percent_decode}
 use Rattle.q_base.specs.Name.{read_name}
 use Rattle.http_front.specs.Answered.{and_then}
-use Rattle.http_front.specs.Asks.{check_read, name_in}
+use Rattle.http_front.specs.Asks.{known_of, name_in}
 use Rattle.http_front.specs.declared.ask.Ask.TheVariants.{Query}
 use Rattle.http_front.proofs.EarlyLemmas.{bad_name}
 use Rattle.http_front.proofs.ask.query_by.Goals as goal
@@ -11,5 +11,5 @@ use Rattle.http_front.proofs.ask.query_by.Goals as goal
 pub returns-then-not-is_name-clause-asked : goal.returns-then-not-is_name-clause-asked
 unfolding name_in
 returns-then-not-is_name-clause-asked c =
-    bad_name (read_name (percent_decode c.args.collection.now)) (λ collection. and_then (check_read c.args.request.now) (λ checked. Ok (Query collection c.args.fields c.args.head)))
+    bad_name (read_name (percent_decode c.args.collection.now)) (λ collection. and_then (known_of c.args.request.now) (λ known. Ok (Query collection c.args.fields known c.args.head)))
     (sym c.is_name.ensures ∙ (cc))

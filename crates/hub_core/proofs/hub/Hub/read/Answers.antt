@@ -2,6 +2,7 @@
 use Rattle.std.proofs.Common.{◌≡◌, List, max, ap, sym, ◌∙◌, subst, arith}
 use Rattle.commit_book.specs.declared.change.Change.{Change}
 use Rattle.hub_model.specs.Journal.{result_at}
+use Rattle.hub_model.specs.Known.{known_at}
 use Rattle.hub_model.specs.Lifetime.{ttl_of}
 use Rattle.hub_model.specs.Reply.{read, outcome_of}
 use Rattle.hub_model.specs.State.{State, at_moment}
@@ -26,7 +27,7 @@ returns-clause-told c = λ s at.
     let clock : c.clock.result ≡ max s.clock c.args.moment = c.clock.ensures ∙ ap (λ (h : CopiesView). h.clock) c.issue.ensures.rest ∙ is.time.clock in
     let ttl : c.lifetime-ttl.result ≡ ttl_of c.args.self.now.setting (at_moment s c.args.moment) c.args.key.now c.count-commit.result =
     c.lifetime-ttl.ensures ∙ lifetime-at c.pass.new.copies (at_moment s c.args.moment) c.args.key.now c.args.self.now.setting c.count-commit.result is.copies (setting c) in
-    let found = c.in_ok-result.ensures ∙ ap (λ (xs : List Change). outcome_of (result_at c.args.key.now xs c.count-commit.result)) is.book.rows in
+    let found = c.in_ok-result.ensures ∙ ap (λ (xs : List Change). outcome_of (result_at c.args.key.now xs c.count-commit.result) (known_at c.args.key.now xs c.count-commit.result c.args.tags.now)) is.book.rows in
     (λ i. read (record { commit = c.count-commit.result; clock = clock i; ttl = ttl i; result = found i }))
 
 pub returns-clause-after : goal.returns-clause-after

@@ -1,0 +1,6 @@
+use Rattle.hub_model.proofs.Known.{known-record}
+use Rattle.hub_model.proofs.laws.records_are_known_since_their_version.Goals as goal
+
+-- a document is there from its commit on
+pub returns : goal.returns
+returns c = λ journal collection id at found tags is. known-record journal collection id at found is tags
