@@ -26,11 +26,16 @@ pub struct CountingFilter {
 }
 
 impl Model for CountingFilter {
+    ghost use Rattle.std.specs.Coded.{codes};
+    ghost use Rattle.q_doc.specs.Code.{tree_code};
+    ghost use Rattle.query_core.specs.Code.{filter_code};
     ghost use Rattle.expiring_map.specs.Entries.{seconds_of};
     ghost use Rattle.expiring_filter.specs.Filter.{Filter};
     ghost use Rattle.expiring_filter.specs.Held.{IsCounted};
 
     ghost Value = { Filter };
+
+    ghost coded = { Prim.hlevel (codes, tree_code, filter_code) };
 
     ghost view = { λ f. record {
       log2_bits = f.counters.log2_bits;

@@ -33,11 +33,16 @@ pub struct ExpiringMap<V> {
 impl<V> Model for ExpiringMap<V> {
     ghost use Rattle.std.specs.Prelude.{◌+◌, ◌*◌, ◌≤◌, length};
     ghost use Rattle.std.specs.BinaryHeap.{IsHeap, heap_items, heap_len, heap_capacity};
+    ghost use Rattle.std.specs.Coded.{codes};
+    ghost use Rattle.q_doc.specs.Code.{tree_code};
+    ghost use Rattle.query_core.specs.Code.{filter_code};
     ghost use Rattle.indexmap.specs.IndexMap.{index_map_len, spare};
     ghost use Rattle.expiring_map.specs.Due.{queue_cmp, IsCovered};
     ghost use Rattle.expiring_map.specs.Map.{Expiring};
 
     ghost Value = { Expiring V };
+
+    ghost coded = { Prim.hlevel (codes, tree_code, filter_code) };
 
     ghost view = { λ m. record { entries = m.held.entries; reserved = m.reserved } };
 

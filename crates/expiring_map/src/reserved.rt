@@ -21,9 +21,14 @@ pub struct ReservedKeys {
 
 impl Model for ReservedKeys {
     ghost use Rattle.std.specs.Prelude.{List, ◌++◌, option_to_list};
+    ghost use Rattle.std.specs.Coded.{codes};
+    ghost use Rattle.q_doc.specs.Code.{tree_code};
+    ghost use Rattle.query_core.specs.Code.{filter_code};
     ghost use Rattle.query_normal.specs.declared.key.KeyShape.{KeyShape};
 
     ghost Value = { List KeyShape };
+
+    ghost coded = { Prim.hlevel (codes, tree_code, filter_code) };
 
     ghost view = { λ r. option_to_list r.first ++ r.others.keys };
 }

@@ -116,7 +116,7 @@ no-buffer : text_at_100 put (Write (Full 65837 100)) false ≡ codes "HTTP/1.1 5
 unfolding head_text head_fields status_line digits put
 no-buffer = refl
 
--- want of memory
+-- out of memory
 no-memory : text_at_100 get Memory false ≡ codes "HTTP/1.1 503 Service Unavailable\r\nContent-Type: application/json\r\nContent-Length: 18\r\nCache-Control: no-store\r\n\r\n{\"error\":\"memory\"}"
 unfolding head_text head_fields status_line digits get
 no-memory = refl

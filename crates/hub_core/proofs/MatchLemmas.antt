@@ -7,7 +7,7 @@ use Rattle.std.proofs.Math.Seq.{take-suc}
 use Rattle.query_normal.specs.Keys.{same_key}
 use Rattle.query_normal.specs.SameKey.{same_key-Decides, same_key_equiv}
 use Rattle.query_normal.specs.declared.key.KeyShape.{KeyShape}
-use Rattle.query_normal.specs.declared.key.KeyShape.TheVariants.{Record}
+use Rattle.query_normal.specs.declared.key.KeyShape.TheVariants.{Record, Query}
 use Rattle.issued_expiries.specs.Copies.{Copy, latest_where, is_between, is_active}
 use Rattle.commit_book.specs.declared.change.Change.{Change}
 use Rattle.commit_book.specs.Journal.{is_of, document_at}
@@ -54,6 +54,11 @@ is_of-key change collection id = and_comm (bytes_eq change.id id) (bytes_eq chan
 
 -- the key that a commit altered is the only one whose result it changed
 altered-decides : (journal : List Change) (n : ℕ) (key : KeyShape) → n < length journal → is_changed key journal (suc n) ≡ is_key key (altered_key journal (suc n))
+altered-decides journal n (Query kind query) low = sym (no_query (alteration journal (suc n)))
+  where
+    no_query : (altered : Option Change) → is_key (Query kind query) (option_map key_of altered) ≡ false
+    no_query None = refl
+    no_query (Some x) = refl
 altered-decides journal n (Record collection id) low = of (there journal n low)
   where
     there : (xs : List Change) (i : ℕ) → i < length xs → (x : Change) × (slice_get xs i ≡ Some x)

@@ -24,9 +24,14 @@ pub struct Copies {
 }
 
 impl Model for Copies {
+    ghost use Rattle.std.specs.Coded.{codes};
+    ghost use Rattle.q_doc.specs.Code.{tree_code};
+    ghost use Rattle.query_core.specs.Code.{filter_code};
     ghost use Rattle.hub_core.specs.CopiesView.{CopiesView, IsSound};
 
     ghost Value = { CopiesView };
+
+    ghost coded = { Prim.hlevel (codes, tree_code, filter_code) };
 
     ghost view = { λ c. record {
       setting = c.config;

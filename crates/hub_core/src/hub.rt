@@ -38,11 +38,12 @@ impl Model for Hub {
     ghost use Rattle.std.specs.Prelude.{◌≡◌, ◌≤◌, length};
     ghost use Rattle.std.specs.Coded.{codes};
     ghost use Rattle.q_doc.specs.Code.{tree_code};
+    ghost use Rattle.query_core.specs.Code.{filter_code};
     ghost use Rattle.hub_core.specs.HubState.{HubView, IsLean, hub_of};
 
     ghost Value = { HubView };
 
-    ghost coded = { Prim.hlevel (codes, tree_code) };
+    ghost coded = { Prim.hlevel (codes, tree_code, filter_code) };
 
     ghost view = { λ h. hub_of h.book h.front h.copies };
 
@@ -285,7 +286,9 @@ fn outcome_at(book: &Book, commit: Commit, key: &Key, tags: &Tags) -> Result<Out
     requires { commit ≤ length book.now.journal }
     ensures { IfOk result (λ o. o ≡ outcome_of (result_at key.now book.now.journal commit) (known_at key.now book.now.journal commit tags.now)) }
 {
-    let KeyShape::Record { collection, id } = key.shape();
+    let KeyShape::Record { collection, id } = key.shape() else {
+        return Ok(Outcome::Absent);
+    };
     let Some((version, text)) = book.text_at(commit, collection, id) else {
         return Ok(Outcome::Absent);
     };

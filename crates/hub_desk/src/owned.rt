@@ -28,12 +28,13 @@ impl Model for Owned {
     ghost use Rattle.std.specs.Prelude.{vec_capacity};
     ghost use Rattle.std.specs.Coded.{codes};
     ghost use Rattle.q_doc.specs.Code.{tree_code};
+    ghost use Rattle.query_core.specs.Code.{filter_code};
     ghost use Rattle.hub_desk.specs.Desk.{OwnedView};
     ghost use Rattle.hub_core.specs.HubState.{Represents};
 
     ghost Value = { OwnedView };
 
-    ghost coded = { Prim.hlevel (codes, tree_code) };
+    ghost coded = { Prim.hlevel (codes, tree_code, filter_code) };
 
     ghost view = { λ o. record {
       setting = o.hub.setting;

@@ -8,7 +8,7 @@ use Rattle.std.proofs.lemmas.Bool.Decides.{Decides-eqb}
 use Rattle.q_doc.specs.Order.{tree_cmp}
 use Rattle.q_doc.specs.OrderLaws.{tree_eq-Decides}
 use Rattle.query_normal.specs.declared.key.KeyShape.{KeyShape}
-use Rattle.query_normal.specs.declared.key.KeyShape.TheVariants.{Record}
+use Rattle.query_normal.specs.declared.key.KeyShape.TheVariants.{Record, Query}
 use Rattle.query_normal.specs.SameKey.{both, decides_whole}
 use Rattle.commit_book.specs.declared.change.Change.{Change}
 use Rattle.commit_book.specs.Journal.{document_at, document_after}
@@ -47,6 +47,7 @@ document_at-append journal more (suc n) collection id within =
 
 pub result_at-append : (key : KeyShape) (journal more : List Change) (n : ℕ) → n ≤ length journal → result_at key (journal ++ more) n ≡ result_at key journal n
 result_at-append (Record collection id) journal more n within = ap document_finding (document_at-append journal more n collection id within)
+result_at-append (Query kind normal) journal more n within = refl
 
 -- ---- the test of what is outdated
 

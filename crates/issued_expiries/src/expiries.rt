@@ -30,12 +30,17 @@ pub struct Expiries {
 
 impl Model for Expiries {
     ghost use Rattle.std.specs.Prelude.{◌+◌, ◌≤◌, length};
+    ghost use Rattle.std.specs.Coded.{codes};
+    ghost use Rattle.q_doc.specs.Code.{tree_code};
+    ghost use Rattle.query_core.specs.Code.{filter_code};
     ghost use Rattle.indexmap.specs.IndexSet.{spare as set_spare};
     ghost use Rattle.q_base.specs.declared.moment.TheConstants.{GREATEST_SECONDS};
     ghost use Rattle.issued_expiries.specs.Entries.{IsSound, copies_in, held_of};
     ghost use Rattle.issued_expiries.specs.Expiries.{Issued};
 
     ghost Value = { Issued };
+
+    ghost coded = { Prim.hlevel (codes, tree_code, filter_code) };
 
     ghost view = { λ e. record {
       clock = e.clock;

@@ -18,12 +18,12 @@ pub record DoorsView (S K : Type 0) : Type 0 where
   -- the number of their faults so far
   pub faults : ℕ
 
--- so many were given and so many handed back; doors that keep no memory for them count none
+-- a number of connections were given and a number handed back; doors that keep no memory for them count none
 abbrev pub Counts : Option ℕ → Option ℕ → (given handed : ℕ) → Type 0
 Counts None after given handed = after ≡ None
 Counts (Some before) after given handed = (now : ℕ) × (after ≡ Some now) × (now + handed ≡ before + given)
 
--- Between two states doors gave these connections, took those back and were closed so many times. Their count of faults has not fallen.
+-- Between two states doors gave these connections, took those back and were closed a number of times. Their count of faults has not fallen.
 pub record Passes {S K : Type 0} (before after : DoorsView S K) (given : List (S × K)) (handed : List (Back S K)) (closed : ℕ) : Type 0 where
   pub left : Takes before.left after.left given
   pub handed_back : Gives before.handed after.handed handed

@@ -15,7 +15,7 @@ pub trait Places {
     ghost at: { Self → PlacesView Self.Doors };
 
     /// From the first state the places gave these doors at this address, where a connection may be silent
-    /// for so many seconds, and came to the second state, where they show so.
+    /// for a number of seconds, and came to the second state, where they show so.
     ghost gives: { Self → List ℕ → ℕ → Self.Doors → Self → Type 0 };
 
     /// Listens for connections at an address. A connection from which nothing comes for `idle` seconds is

@@ -2,7 +2,7 @@
 use Rattle.std.proofs.Common.{◌≡◌, ℕ, List, [], ◌∷◌, true, false, pos, negsuc, map, codes, ◌++◌, refl}
 use Rattle.std.specs.Fmt.{digits}
 use Rattle.q_doc.specs.Tree.{Tree, null, boolean, number, text, array, object, no_items, item, no_members, member}
-use Rattle.query_core.specs.declared.filter.Op.TheVariants.{Equal, Unequal, Less, AtMost, Greater, AtLeast}
+use Rattle.query_core.specs.declared.operator.Op.TheVariants.{Equal, Unequal, Less, AtMost, Greater, AtLeast}
 use Rattle.query_core.specs.declared.query.Query.{Query}
 use Rattle.query_core.specs.Filters.{Filter, constant, compared, listed, having, present, negated, every, some, operands_of, height}
 use Rattle.query_core.specs.Limits.{leaves}

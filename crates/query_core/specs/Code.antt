@@ -4,9 +4,9 @@ use Rattle.std.proofs.Common.{ap, ◌∙◌}
 use Rattle.std.specs.Coded.{Coded, code_by, coded×, coded_ℕ, coded_list}
 use Rattle.q_doc.specs.Tree.{Tree}
 use Rattle.q_doc.specs.Code.{tree_code}
-use Rattle.query_core.specs.declared.filter.Op.{Op}
-use Rattle.query_core.specs.declared.filter.Op.TheVariants.{Equal}
-use Rattle.query_core.specs.contracts.filter.Op as op_rows
+use Rattle.query_core.specs.declared.operator.Op.{Op}
+use Rattle.query_core.specs.declared.operator.Op.TheVariants.{Equal}
+use Rattle.query_core.specs.contracts.operator.Op as op_rows
 use Rattle.query_core.specs.Filters.{Filter, constant, compared, listed, having, present, negated, every, some, Operands, no_operands, operand}
 
 -- an atom, or a joint of filters: its number, its path, its operator and its values

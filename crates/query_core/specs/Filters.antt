@@ -1,7 +1,7 @@
--- Internal. What a filter is.
+-- Believed. What a filter is.
 use Rattle.std.specs.Prelude.{ℕ, suc, max, List, [], ◌∷◌, Bool}
 use Rattle.q_doc.specs.Tree.{Tree}
-use Rattle.query_core.specs.declared.filter.Op.{Op}
+use Rattle.query_core.specs.declared.operator.Op.{Op}
 
 mutual
   -- true of all documents or of none; a comparison; one of several values; an element of an array; any value; and filters of filters

@@ -1,10 +1,9 @@
--- Internal. Whether two queries are equal.
+-- Believed. Whether two queries are equal.
 use Rattle.std.specs.Prelude.{ℕ, Bool, true, false, ◌&&◌, ◌==◌, List}
 use Rattle.std.specs.Str.{bytes_eq}
 use Rattle.std.specs.Cmp.Lexicographic.{pointwise}
-use Rattle.q_doc.specs.TextOrder.{path_eq}
-use Rattle.query_core.specs.declared.filter.Op.{Op}
-use Rattle.query_core.specs.declared.filter.Op.TheVariants.{Equal, Unequal, Less, AtMost, Greater, AtLeast}
+use Rattle.query_core.specs.declared.operator.Op.{Op}
+use Rattle.query_core.specs.declared.operator.Op.TheVariants.{Equal, Unequal, Less, AtMost, Greater, AtLeast}
 use Rattle.query_core.specs.declared.query.Query.{Query}
 use Rattle.query_core.specs.Filters.{Filter, constant, compared, listed, having, present, negated, every, some, Operands, no_operands, operand}
 use Rattle.query_core.specs.Meaning.{same_value}
@@ -35,7 +34,7 @@ same_op a b = op_number a == op_number b
 
 -- paths of the same segments
 abbrev pub same_path : List (List ℕ) → List (List ℕ) → Bool
-same_path = path_eq
+same_path = pointwise bytes_eq
 
 -- the equality of filters
 abbrev mutual

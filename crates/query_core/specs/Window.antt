@@ -1,4 +1,4 @@
--- Internal. The window of a query over the documents of its collection.
+-- Believed. The window of a query over the documents of its collection.
 use Rattle.std.specs.Prelude.{ℕ, List, [], ◌∷◌, Bool, if◌then◌else◌, filter, fold, take, drop}
 use Rattle.std.specs.Ordering.{ordering_then, ordering_reverse, is_lt, nat_cmp}
 use Rattle.std.specs.declared.cmp.Ordering.{Ordering}

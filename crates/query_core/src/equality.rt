@@ -5,7 +5,8 @@ ghost use Rattle.query_core.specs.Filters.{operands_of};
 ghost use Rattle.query_core.specs.Same.{op_number, same_op, same_filter, same_operands, same_order, same_query};
 ghost use Rattle.query_core.specs.SameLaws.{same_filter_equiv, same_order_equiv, same_query_equiv};
 
-use crate::filter::{Filter, Form, Op};
+use crate::filter::{Filter, Form};
+use crate::operator::Op;
 use crate::query::{Order, Query};
 
 impl PartialEq for Filter {

@@ -1,24 +1,8 @@
 //! Filters: conditions on a document.
 
+use crate::operator::Op;
 use q_doc::{Node, Path};
 use std::marker::Model;
-
-/// The operator of a comparison.
-#[derive(Clone, Copy, Debug, PartialEq, Eq, Drop)]
-pub enum Op {
-    /// `=`
-    Equal,
-    /// `!=`
-    Unequal,
-    /// `<`
-    Less,
-    /// `<=`
-    AtMost,
-    /// `>`
-    Greater,
-    /// `>=`
-    AtLeast,
-}
 
 /// A condition on a document. Contracts see it as a `Filter` of `specs/Filters.antt`.
 #[cycle(filter)]

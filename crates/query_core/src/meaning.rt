@@ -5,7 +5,8 @@ ghost use Rattle.q_doc.specs.Tree.{items_of};
 ghost use Rattle.query_core.specs.Filters.{operands_of};
 ghost use Rattle.query_core.specs.Meaning.{satisfies, satisfies_every, satisfies_some, op_holds, compares, is_listed, has_value, has_item, same_value};
 
-use crate::filter::{Filter, Form, Op};
+use crate::filter::{Filter, Form};
+use crate::operator::Op;
 use q_doc::{Doc, Node, Shape};
 use std::cmp::Ordering;
 

@@ -3,7 +3,8 @@ ghost use Rattle.std.specs.Prelude.{◌≡◌, ◌++◌, ◌||◌, IfOk, OnOk};
 ghost use Rattle.query_core.specs.Filters.{constant, compared, listed, having, present, negated, operands_of};
 ghost use Rattle.query_core.specs.Print.{value_text, values_text, op_text, is_every, is_some, in_parentheses, filter_text, every_text, some_text, order_item_text, order_text, print_query};
 
-use crate::filter::{Filter, Form, Op};
+use crate::filter::{Filter, Form};
+use crate::operator::Op;
 use crate::query::{Order, Query};
 use crate::words::{write_path, write_quoted};
 use itoa::{Buffer, Integer};

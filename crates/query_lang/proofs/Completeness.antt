@@ -6,7 +6,7 @@ use Rattle.query_lang.specs.declared.filter_reader.ValueTest.TheVariants.{Compar
 use Rattle.query_lang.specs.declared.filter_reader.Pending.TheVariants as pending
 use Rattle.query_lang.specs.declared.token.Reserved.TheVariants.{And, Or, Not, In, Has}
 use Rattle.query_lang.specs.declared.token.Sign.TheVariants.{Compare, Open, Close, OpenList, CloseList, Dot}
-use Rattle.query_core.specs.declared.filter.Op.{Op}
+use Rattle.query_core.specs.declared.operator.Op.{Op}
 use Rattle.query_lang.specs.FilterText.{capped, decided}
 use Rattle.query_lang.specs.FilterReading.{State, on_token, on_operand, on_path, on_list, on_first_item, on_after_item, item_at, on_joint, opened, atom, join_all, joined, joined_height, start, judged, judged_if, ended, capped_sum, without_pending}
 use Rattle.query_core.specs.Filters.{height}

@@ -20,6 +20,9 @@ pub mod ReadQueries
 pub mod PrintedSpelling
 pub mod PrintedReading
 pub mod OneNormalForm
+pub mod KeyPieces
+pub mod KeyReading
+pub mod KeyLoops
 pub mod Runs
 pub mod Capped
 pub mod Steps

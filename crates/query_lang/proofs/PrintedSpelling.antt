@@ -6,8 +6,8 @@ use Rattle.std.proofs.lemmas.List.Elements.{recursion_from_All}
 use Rattle.std.specs.List.{flat_map, join_by, AllByRecursion}
 use Rattle.q_doc.specs.Document.{FitsI64}
 use Rattle.q_doc.specs.Tree.{Tree, null, boolean, number as whole, text, array, object}
-use Rattle.query_core.specs.declared.filter.Op.{Op}
-use Rattle.query_core.specs.declared.filter.Op.TheVariants.{Equal, Unequal, Less, AtMost, Greater, AtLeast}
+use Rattle.query_core.specs.declared.operator.Op.{Op}
+use Rattle.query_core.specs.declared.operator.Op.TheVariants.{Equal, Unequal, Less, AtMost, Greater, AtLeast}
 use Rattle.query_core.specs.Filters.{Filter, constant, compared, listed, having, present, negated, every, some, Operands, no_operands, operand, operand_list, operands_of, height, operands_height}
 use Rattle.query_core.specs.Limits.{IsScalar, is_scalar, IsFilter, AreFilters}
 use Rattle.query_core.specs.Print.{is_bare, segment_text, path_text, value_text, op_text, filter_text, every_text, every_rest, some_text, some_rest, in_parentheses, is_every, is_some}

@@ -12,7 +12,7 @@ use Rattle.query_core.specs.Filters.{Filter, operands_of, height}
 use Rattle.query_core.specs.Limits.{IsScalar, IsUtf8Path, IsFilter, AreFilters, IsQuery, leaves, most_leaves, most_height, most_skip, most_take}
 use Rattle.query_core.specs.Print.{quoted_byte, is_bare, is_word}
 use Rattle.query_core.specs.Window.{Order}
-use Rattle.query_core.specs.declared.filter.Op.TheVariants.{Equal, Unequal, Less, AtMost, Greater, AtLeast}
+use Rattle.query_core.specs.declared.operator.Op.TheVariants.{Equal, Unequal, Less, AtMost, Greater, AtLeast}
 use Rattle.query_lang.specs.Bytes.{is_blank, is_word_byte}
 use Rattle.query_lang.specs.FilterText.{IsFilterText}
 use Rattle.query_lang.specs.Grammar.{Segment, bare, in_quotes, path_tokens, path_keys, segment_token, segment_key, Value, text_value, number_value, truth_value, null_value, value_token, value_tree, more_values, value_tokens, FilterTree, alternatives, OrTail, no_or, or_and, AndTree, conjuncts, AndTail, no_and, and_not, NotTree, negation, one, Atom, nested, always, never, existing, comparing, listing, holding, filter_tokens, or_tokens, and_tokens, further_tokens, not_tokens, atom_tokens, all_of, any_of, filter_meaning, or_meanings, and_meaning, further_meanings, not_meaning, atom_meaning, FilterFits, OrsFit, AndFits, FurtherFit, NotFits, AtomFits, Item, item_tokens, more_items, order_tokens, direction_tokens, item_meaning, order_meaning, ItemsFit}
@@ -38,7 +38,7 @@ use Rattle.query_lang.proofs.Utf8Lemmas.{IsUtf8-split, IsUtf8-unescaped}
 -- ---- texts before a text that is UTF-8
 
 -- each byte is ASCII
-abbrev Ascii : List ℕ → Type 0
+abbrev pub Ascii : List ℕ → Type 0
 Ascii = AllByRecursion (λ b. b < 128)
 
 ascii_at : (bs : List ℕ) → Ascii bs → IsAscii bs
@@ -46,7 +46,7 @@ ascii_at [] all i = lit< tt
 ascii_at (b ∷ bs) all zero = all.0
 ascii_at (b ∷ bs) all (suc i) = ascii_at bs all.1 i
 
-ascii_utf8 : (bs : List ℕ) → Ascii bs → IsUtf8 bs
+pub ascii_utf8 : (bs : List ℕ) → Ascii bs → IsUtf8 bs
 ascii_utf8 bs all = IsUtf8-from_ascii bs (ascii_at bs all)
 
 -- after ASCII the text is UTF-8 too
@@ -54,7 +54,7 @@ behind_ascii : (prefix rest : List ℕ) → IsAscii prefix → IsUtf8 (prefix ++
 behind_ascii [] rest ascii utf8 = utf8
 behind_ascii (b ∷ bs) rest ascii utf8 = behind_ascii bs rest (λ i. ascii (suc i)) (IsUtf8-split [] (bs ++ rest) b (ascii 0) utf8).1
 
-tested_ascii : (p : ℕ → Bool) → ((b : ℕ) → p b ≡ true → b < 128) → (bs : List ℕ) → list_all p bs ≡ true → Ascii bs
+pub tested_ascii : (p : ℕ → Bool) → ((b : ℕ) → p b ≡ true → b < 128) → (bs : List ℕ) → list_all p bs ≡ true → Ascii bs
 tested_ascii p small [] e = tt
 tested_ascii p small (b ∷ bs) e = let (here, more) = and_parts (p b) (list_all p bs) e in (small b here, tested_ascii p small bs more)
 

@@ -1,7 +1,7 @@
 -- Signs are read as they are written, and written as they are read.
 use Rattle.std.proofs.Common.{◌≡◌, ℕ, suc, Bool, true, false, not, ◌&&◌, ◌==◌, List, [], ◌∷◌, ◌++◌, length, take, drop, if◌then◌else◌, Option, Some, None, refl, sym, ap, ◌∙◌, subst, arith, eqb-true}
 use Rattle.std.proofs.lemmas.Bool.{ne_eqb, and_parts}
-use Rattle.query_core.specs.declared.filter.Op.TheVariants.{Equal, Unequal, Less, AtMost, Greater, AtLeast}
+use Rattle.query_core.specs.declared.operator.Op.TheVariants.{Equal, Unequal, Less, AtMost, Greater, AtLeast}
 use Rattle.query_lang.specs.Lexing.{sign_at, lexeme_at}
 use Rattle.query_lang.specs.Spelling.{sign_text, ends_before}
 use Rattle.query_lang.specs.Tokens.{sign, found}

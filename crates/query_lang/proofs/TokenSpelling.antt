@@ -7,7 +7,7 @@ use Rattle.std.proofs.lemmas.Fmt.{decimal_is_IsNumeral}
 use Rattle.std.specs.Fmt.{decimal}
 use Rattle.std.specs.Str.Parse.{IsNumeral, without_leading_sign, signed_digits_value}
 use Rattle.query_core.specs.Print.{starts_word, quoted_byte, quoted as quoted_text}
-use Rattle.query_core.specs.declared.filter.Op.TheVariants.{Equal}
+use Rattle.query_core.specs.declared.operator.Op.TheVariants.{Equal}
 use Rattle.query_lang.specs.Bytes.{is_blank, is_letter, is_digit, is_word_byte, after_blanks}
 use Rattle.query_lang.specs.Lexing.{lexeme, lexeme_at, word_token, number_of_digits, number_token, minus_len, quoted_at, by_scan, by_sign, sign_at, fits}
 use Rattle.query_lang.specs.Quoted.{QuotedScan, closed, open_end, bad, scan, unescaped}

@@ -15,7 +15,7 @@
 -- The tokens of a tree are given together with those that follow it.
 use Rattle.std.specs.Prelude.{ℕ, suc, ◌<◌, Bool, true, false, List, [], ◌∷◌, length, map, ℤ, Option, Some, None}
 use Rattle.q_doc.specs.Tree.{Tree, null, boolean, number as whole, text}
-use Rattle.query_core.specs.declared.filter.Op.{Op}
+use Rattle.query_core.specs.declared.operator.Op.{Op}
 use Rattle.query_core.specs.Filters.{Filter, constant, compared, listed, having, present, negated, every, some, operands_of}
 use Rattle.query_core.specs.Window.{Order}
 use Rattle.query_lang.specs.declared.token.Reserved.TheVariants.{And, Or, Not, In, Has, Exists, True, False, Null, Asc, Desc}

@@ -2,6 +2,7 @@ pub mod Bytes
 pub mod FilterReading
 pub mod FilterText
 pub mod Grammar
+pub mod KeyTexts
 pub mod Lexing
 pub mod Limits
 pub mod Numbers

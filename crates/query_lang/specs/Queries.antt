@@ -41,12 +41,16 @@ kind_field bytes =
     else (if bytes_eq bytes (codes "objects") then Ok Objects
     else (if bytes_eq bytes (codes "ids") then Ok Ids else Err (Syntax 107 0)))
 
--- the query and the kind that the fields are, read in the order f, o, s, n, k
-unfoldable pub read_query : List ℕ → Fields → Result (Query × Kind) QueryRefusal
-read_query collection fields = do
-  filter ← filter_field (bytes_of fields.f)
-  order ← read_order (bytes_of fields.o)
-  skip ← number_field 115 0 most_skip 0 (bytes_of fields.s)
-  take ← number_field 110 1 most_take usual_take (bytes_of fields.n)
-  kind ← kind_field (bytes_of fields.k)
+-- the query and the kind that the texts of the fields f, o, s, n and k are, read in this order
+abbrev pub read_texts : List ℕ → List ℕ → List ℕ → List ℕ → List ℕ → List ℕ → Result (Query × Kind) QueryRefusal
+read_texts collection f o s n k = do
+  filter ← filter_field f
+  order ← read_order o
+  skip ← number_field 115 0 most_skip 0 s
+  take ← number_field 110 1 most_take usual_take n
+  kind ← kind_field k
   Ok (record { collection = collection; filter = filter; order = order; skip = skip; take = take }, kind)
+
+-- the query and the kind that the fields are
+unfoldable pub read_query : List ℕ → Fields → Result (Query × Kind) QueryRefusal
+read_query collection fields = read_texts collection (bytes_of fields.f) (bytes_of fields.o) (bytes_of fields.s) (bytes_of fields.n) (bytes_of fields.k)

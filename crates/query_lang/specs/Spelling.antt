@@ -3,7 +3,7 @@ use Rattle.std.specs.Prelude.{◌≡◌, ℕ, Bool, true, not, ◌==◌, List, [
 use Rattle.std.specs.List.{list_all}
 use Rattle.std.specs.Fmt.{signed_decimal}
 use Rattle.query_core.specs.Print.{is_bare, op_text, quoted as quoted_text}
-use Rattle.query_core.specs.declared.filter.Op.TheVariants.{Less, Greater}
+use Rattle.query_core.specs.declared.operator.Op.TheVariants.{Less, Greater}
 use Rattle.query_lang.specs.Bytes.{is_blank, is_digit, is_word_byte}
 use Rattle.query_lang.specs.Lexing.{fits}
 use Rattle.query_lang.specs.declared.token.Reserved.{Reserved}

@@ -1,5 +1,5 @@
 -- The text of a key determines the key.
-use Rattle.std.proofs.Common.{◌≡◌, ℕ, ◌≤◌, Bool, true, false, not, List, [], ◌∷◌, ◌++◌, length, Some, None, cond, nat_lt, inl, inr, refl, sym, ap, ap₂, append_assoc, ◌∙◌, arith, subst}
+use Rattle.std.proofs.Common.{◌≡◌, ℕ, ◌≤◌, Bool, true, false, not, List, [], ◌∷◌, ◌++◌, length, Some, None, cond, nat_lt, inl, inr, refl, sym, ap, ap₂, append_assoc, ◌∙◌, arith, subst, get_or}
 use Rattle.std.specs.Prelude.{bytes_eq}
 use Rattle.std.specs.Bool.{Decides}
 use Rattle.std.specs.List.{position_or_len}
@@ -7,8 +7,8 @@ use Rattle.std.proofs.lemmas.Bool.{cases_Bool, ltb-false}
 use Rattle.std.proofs.lemmas.Slice.Eq.{bytes_eq-Decides}
 use Rattle.q_base.specs.Name.{IsName, is_name_byte}
 use Rattle.query_normal.specs.declared.key.KeyShape.{KeyShape}
-use Rattle.query_normal.specs.declared.key.KeyShape.TheVariants.{Record}
-use Rattle.query_normal.specs.Keys.{key_text, same_key, IsKey}
+use Rattle.query_normal.specs.declared.key.KeyShape.TheVariants.{Record, Query}
+use Rattle.query_normal.specs.Keys.{key_text, same_key, IsKey, IsRecordKey}
 use Rattle.query_normal.specs.SameKey.{same_key-Decides}
 
 -- no byte is a slash
@@ -51,14 +51,16 @@ parts_unique (x ∷ xs) (y ∷ ys) c d p q e =
     let head : x ≡ y = cc in
     ((let h : x ∷ xs ≡ y ∷ ys = cc (head, rest.0) in h), rest.1)
 
--- keys of one text are one key
-pub key_text-injective : (a b : KeyShape) → IsKey a → IsKey b → key_text a ≡ key_text b → a ≡ b
+-- keys of one text, the first of which is of a record, are one key
+pub key_text-injective : (a b : KeyShape) → IsKey a → IsKey b → IsRecordKey a → key_text a ≡ key_text b → a ≡ b
 unfolding key_text
-key_text-injective (Record c i) (Record d j) p q e =
+key_text-injective (Record c i) (Record d j) p q r e =
     let tails : (c ++ 47 ∷ []) ++ i ≡ (d ++ 47 ∷ []) ++ j = cc in
     let cut : c ++ 47 ∷ i ≡ d ++ 47 ∷ j = sym (append_assoc c (47 ∷ []) i) ∙ tails ∙ append_assoc d (47 ∷ []) j in
     let parts = parts_unique c d i j (no_slash c p.0) (no_slash d q.0) cut in
     ap₂ Record parts.0 parts.1
+key_text-injective (Record c i) (Query k q) p n r e = absurd (let first : 114 ≡ 113 = ap (λ (xs : List ℕ). get_or xs 0 0) e in omega (arith, first))
+key_text-injective (Query k q) b p n r e = absurd r
 
 -- tests of facts that follow of each other answer alike
 pub alike : {P Q : Type 0} (x y : Bool) → Decides x P → Decides y Q → (P → Q) → (Q → P) → x ≡ y
@@ -68,7 +70,7 @@ alike false true d e to back = d.1 (back (e.0 refl))
 alike false false d e to back = refl
 
 -- to compare the texts of keys is to compare the keys
-pub same_text-same_key : (a b : KeyShape) → IsKey a → IsKey b → bytes_eq (key_text a) (key_text b) ≡ same_key a b
-same_text-same_key a b p q =
+pub same_text-same_key : (a b : KeyShape) → IsKey a → IsKey b → IsRecordKey a → bytes_eq (key_text a) (key_text b) ≡ same_key a b
+same_text-same_key a b p q r =
     alike (bytes_eq (key_text a) (key_text b)) (same_key a b) (bytes_eq-Decides (key_text a) (key_text b)) (same_key-Decides a b)
-    (key_text-injective a b p q) (ap key_text)
+    (key_text-injective a b p q r) (ap key_text)

@@ -7,7 +7,7 @@ use Rattle.std.proofs.lemmas.Bool.Decides.{nat_tests}
 use Rattle.q_doc.specs.Tree.{Tree}
 use Rattle.q_doc.specs.Order.{rank, tree_cmp}
 use Rattle.q_doc.specs.Path.{tree_at}
-use Rattle.query_core.specs.declared.filter.Op.TheVariants.{Equal as EqualTo}
+use Rattle.query_core.specs.declared.operator.Op.TheVariants.{Equal as EqualTo}
 use Rattle.query_core.specs.Filters.{Filter, constant, compared, listed, having, present, negated, every, some, Operands, no_operands, operand, operands_of, operand_list}
 use Rattle.query_core.specs.Meaning.{satisfies, satisfies_every, satisfies_some, compares, is_listed, same_value}
 use Rattle.query_core.specs.Same.{same_filter, same_truth}

@@ -2,11 +2,12 @@
 use Rattle.std.proofs.Common.{◌≡◌, ℕ, List, [], ◌∷◌, true, false, pos, codes, refl}
 use Rattle.std.specs.Fmt.{digits}
 use Rattle.q_doc.specs.Tree.{Tree, number, text, null, object, no_members}
-use Rattle.query_core.specs.declared.filter.Op.TheVariants.{Equal, Less, AtLeast}
+use Rattle.query_core.specs.declared.operator.Op.TheVariants.{Equal, Less, AtLeast}
+use Rattle.query_core.specs.declared.query.Kind.TheVariants.{Objects}
 use Rattle.query_core.specs.declared.query.Query.{Query as AQuery}
 use Rattle.query_core.specs.Filters.{Filter, constant, compared, listed, present, negated, every, some, operands_of}
 use Rattle.query_core.specs.Meaning.{satisfies}
-use Rattle.query_normal.specs.declared.key.KeyShape.TheVariants.{Record}
+use Rattle.query_normal.specs.declared.key.KeyShape.TheVariants.{Record, Query}
 use Rattle.query_normal.specs.Keys.{key_text}
 use Rattle.query_normal.specs.Normal.{normal_filter, normal_order, normal_query}
 
@@ -40,7 +41,11 @@ one_of_these fs = some (operands_of fs)
 abbrev query : Filter → AQuery
 query f = record { collection = codes "shop"; filter = f; order = []; skip = 0; take = 100 }
 
--- `a = 1 and b = 2`, and `(b = 2) and a = 1 and a = 1`, have one normal form
+-- `a = 1 and b = 2`, and `(b = 2) and a = 1 and a = 1`, have one key
+pub one_key : key_text (Query Objects (normal_query (query (all_of (a_is_1 ∷ b_is_2 ∷ []))))) ≡ codes "q/shop/objects/f=a = 1 and b = 2;o=;s=0;n=100"
+unfolding key_text digits
+one_key = refl
+
 pub other_spelling : normal_query (query (all_of (b_is_2 ∷ a_is_1 ∷ a_is_1 ∷ []))) ≡ normal_query (query (all_of (a_is_1 ∷ b_is_2 ∷ [])))
 unfolding digits
 other_spelling = refl

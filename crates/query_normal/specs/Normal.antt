@@ -7,7 +7,7 @@ use Rattle.std.specs.declared.cmp.Ordering.{Ordering}
 use Rattle.std.specs.Cmp.Lexicographic.{slice_cmp}
 use Rattle.q_doc.specs.Tree.{Tree}
 use Rattle.q_doc.specs.Order.{tree_cmp}
-use Rattle.query_core.specs.declared.filter.Op.TheVariants.{Equal as EqualTo}
+use Rattle.query_core.specs.declared.operator.Op.TheVariants.{Equal as EqualTo}
 use Rattle.query_core.specs.declared.query.Query.{Query}
 use Rattle.query_core.specs.Filters.{Filter, constant, compared, listed, having, present, negated, every, some, Operands, no_operands, operand, operands_of, operand_list}
 use Rattle.query_core.specs.Limits.{IsQuery}

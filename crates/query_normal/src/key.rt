@@ -1,11 +1,13 @@
 //! Keys and their texts.
 ghost use Rattle.std.specs.Prelude.{◌≡◌, ◌+◌, ◌<◌, ◌≤◌, ◌^◌, ◌++◌, length, codes, IfOk};
 ghost use Rattle.std.specs.Cmp.{partial_equiv_from_equiv};
-ghost use Rattle.query_normal.specs.Keys.{key_text};
+ghost use Rattle.query_normal.specs.Keys.{key_text, kind_text, same_kind, same_key, IsRecordKey};
 ghost use Rattle.query_normal.specs.declared.text.TheConstants.{MAX_INLINE};
 
+use crate::normal_query::Normal;
 use crate::text::{KeyText, MAX_INLINE, put};
 use q_base::{Memory, Name};
+use query_core::{Kind, print_query};
 use std::alloc::{AllocError, Global};
 use std::hash::{Hash, Hasher};
 use std::marker::Model;
@@ -21,6 +23,13 @@ pub enum KeyShape {
         /// The record's id in it.
         id: Name,
     },
+    /// The result of a query, as its documents or as its ids.
+    Query {
+        /// What the result shows of its rows.
+        kind: Kind,
+        /// The query, in its normal form.
+        normal: Normal,
+    },
 }
 
 /// What all clones of a key share.
@@ -32,8 +41,13 @@ struct Shared {
 
 impl Model for Shared {
     ghost use Rattle.query_normal.specs.declared.key.KeyShape.{KeyShape};
+    ghost use Rattle.std.specs.Coded.{codes};
+    ghost use Rattle.q_doc.specs.Code.{tree_code};
+    ghost use Rattle.query_core.specs.Code.{filter_code};
 
     ghost Value = { KeyShape };
+
+    ghost coded = { Prim.hlevel (codes, tree_code, filter_code) };
 
     ghost use Rattle.query_normal.specs.Keys.{key_text, IsKey};
     ghost use Rattle.std.specs.Prelude.{◌≡◌};
@@ -53,8 +67,13 @@ pub struct Key {
 
 impl Model for Key {
     ghost use Rattle.query_normal.specs.declared.key.KeyShape.{KeyShape};
+    ghost use Rattle.std.specs.Coded.{codes};
+    ghost use Rattle.q_doc.specs.Code.{tree_code};
+    ghost use Rattle.query_core.specs.Code.{filter_code};
 
     ghost Value = { KeyShape };
+
+    ghost coded = { Prim.hlevel (codes, tree_code, filter_code) };
 
     ghost use Rattle.std.specs.Arc.{arc_value};
 
@@ -89,6 +108,16 @@ impl Key {
     {
         let text = record_text(alloc, &collection, &id)?;
         let shape = KeyShape::Record { collection, id };
+        let shared = Arc::new(alloc, Shared { shape, text })?;
+        Ok(Key { shared })
+    }
+
+    /// The key of the result of a query.
+    pub fn query(alloc: Global, kind: Kind, normal: Normal) -> Result<Key, Memory>
+        ensures { IfOk result (λ key. key ≡ KeyShape.Query kind normal) }
+    {
+        let text = KeyText::long(query_text(alloc, kind, &normal)?);
+        let shape = KeyShape::Query { kind, normal };
         let shared = Arc::new(alloc, Shared { shape, text })?;
         Ok(Key { shared })
     }
@@ -150,6 +179,46 @@ fn long_text(alloc: Global, collection: &[u8], id: &[u8]) -> Result<KeyText, Mem
     Ok(KeyText::long(text))
 }
 
+/// The text of a query's key: `q/COLLECTION/KIND/f=FILTER;o=ORDER;s=SKIP;n=TAKE`.
+fn query_text(alloc: Global, kind: Kind, normal: &Normal) -> Result<Vec<u8>, Memory>
+    ensures { IfOk result (λ text. text.items ≡ key_text (KeyShape.Query kind normal.now)) }
+{
+    let query = normal.query();
+    let printed = print_query(alloc, query)?;
+    let name = query.collection.as_slice();
+    let kind = kind_text(kind);
+    let printed = printed.as_slice();
+    let size = name.len() + kind.len();
+    let mut text = Vec::with_capacity(alloc, printed.len().saturating_add(size).saturating_add(4))?;
+    text.extend_from_slice(b"q/")?;
+    text.extend_from_slice(name)?;
+    text.push(b'/')?;
+    text.extend_from_slice(kind)?;
+    text.push(b'/')?;
+    text.extend_from_slice(printed)?;
+    Ok(text)
+}
+
+/// The word of a kind in the texts of keys.
+fn kind_text(kind: Kind) -> &'static [u8]
+    ensures { result.now ≡ kind_text kind }
+{
+    match kind {
+        Kind::Objects => b"objects",
+        Kind::Ids => b"ids",
+    }
+}
+
+fn same_kind(a: Kind, b: Kind) -> bool
+    ensures { result ≡ same_kind a b }
+{
+    match (a, b) {
+        (Kind::Objects, Kind::Objects) => true,
+        (Kind::Ids, Kind::Ids) => true,
+        _ => false,
+    }
+}
+
 impl Clone for KeyShape {
     ghost is_clone = { λ s t. s ≡ t };
 
@@ -158,6 +227,10 @@ impl Clone for KeyShape {
             KeyShape::Record { collection, id } => Ok(KeyShape::Record {
                 collection: collection.clone()?,
                 id: id.clone()?,
+            }),
+            KeyShape::Query { kind, normal } => Ok(KeyShape::Query {
+                kind: *kind,
+                normal: normal.clone()?,
             }),
         }
     }
@@ -180,6 +253,14 @@ impl PartialEq for KeyShape {
                     id: other_id,
                 },
             ) => collection == other_collection && id == other_id,
+            (
+                KeyShape::Query { kind, normal },
+                KeyShape::Query {
+                    kind: other_kind,
+                    normal: other_normal,
+                },
+            ) => same_kind(*kind, *other_kind) && normal == other_normal,
+            _ => false,
         }
     }
 }
@@ -210,9 +291,18 @@ impl PartialEq for Key {
     fn eq(&self, other: &Key) -> bool {
         match (self.shape(), other.shape()) {
             // The texts of two keys of records determine their names.
-            (KeyShape::Record { .. }, KeyShape::Record { .. }) => self.text() == other.text(),
+            (KeyShape::Record { .. }, KeyShape::Record { .. }) => same_record(self, other),
+            (shape, other_shape) => shape == other_shape,
         }
     }
+}
+
+/// Whether two keys are equal, the first of which is that of a record.
+fn same_record(a: &Key, b: &Key) -> bool
+    requires { IsRecordKey a.now }
+    ensures { result ≡ same_key a.now b.now }
+{
+    a.text() == b.text()
 }
 
 impl Eq for Key {

@@ -9,11 +9,12 @@ ghost use Rattle.query_core.specs.Window.{Row as ARow, window};
 ghost use Rattle.query_normal.specs.Normal.{normal_filter, normal_query};
 ghost use Rattle.std.specs.Bool.{Decides};
 ghost use Rattle.query_normal.specs.declared.key.KeyShape.{KeyShape as AKey};
-ghost use Rattle.query_normal.specs.Keys.{key_text, same_key, IsKey};
+ghost use Rattle.query_normal.specs.Keys.{key_text, same_key, IsKey, IsRecordKey};
 
-/// Two keys of records are equal exactly where their texts are.
-pub fn keys_are_equal_where_their_texts_are()
-    ensures { (a b : AKey) → IsKey a → IsKey b → (a ≡ b) ↔ (key_text a ≡ key_text b) }
+/// A key of a record is equal to another key exactly where their texts are. That this holds of any two keys
+/// is a law of `query_lang`, where printed queries are read again.
+pub fn keys_of_records_are_equal_where_their_texts_are()
+    ensures { (a b : AKey) → IsKey a → IsKey b → IsRecordKey a → (a ≡ b) ↔ (key_text a ≡ key_text b) }
 {}
 
 /// `same_key` is true exactly of equal keys.

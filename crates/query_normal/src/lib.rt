@@ -15,7 +15,7 @@ mod text;
 pub use forms::normal;
 pub use key::{Key, KeyShape};
 pub use laws::{
-    heights_do_not_grow, keys_are_equal_where_their_texts_are, leaves_do_not_grow,
+    heights_do_not_grow, keys_of_records_are_equal_where_their_texts_are, leaves_do_not_grow,
     normal_forms_are_queries, normal_forms_keep_their_meaning, normal_forms_keep_their_windows,
     normal_forms_stay, same_key_is_equality,
 };
