@@ -24,6 +24,7 @@ run: ## runs the program over standard input: make run ARGS="pipe --clock 100"
 example: ## runs the examples and compares their output with the stored replies
 	./quaestor pipe --clock 100 < examples/first.http | cmp - examples/first.reply
 	./quaestor pipe --clock 100 < examples/curl.http | cmp - examples/curl.reply
+	./quaestor pipe --clock 100 < examples/query.http | cmp - examples/query.reply
 bench: ## measures the server with wrk and prints a table
 	@sh tools/bench.sh
 ci: fmt lint ## the gate, as a merge runs it, after the layout and the style

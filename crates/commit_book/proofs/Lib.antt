@@ -1,10 +1,11 @@
 mod CommitLemmas
 mod ContentsLemmas
 mod DocumentLemmas
-mod GrowLemmas
+pub mod GrowLemmas
 mod IndexLemmas
 mod NameLemmas
 mod OrderLemmas
 mod SpaceLemmas
 mod SameLemmas
 mod StandardFacts
+pub mod VersionLemmas

@@ -1,4 +1,4 @@
--- Internal. The documents of a collection after the first changes of a journal.
+-- Believed. The documents of a collection after the first changes of a journal.
 use Rattle.std.specs.Prelude.{◌≡◌, ℕ, zero, suc, Bool, not, if◌then◌else◌, List, [], ◌∷◌, Option, Some, None, slice_get, filter, bytes_eq, option_map}
 use Rattle.std.specs.Ordering.{is_lt, nat_cmp}
 use Rattle.std.specs.Cmp.Lexicographic.{slice_cmp}

@@ -287,8 +287,10 @@ impl Book {
         Ok(rows)
     }
 
-    /// The documents of a collection after a commit, in the order in which their ids came.
-    fn documents_of(
+    /// The documents of a collection after a commit, each with its id and the commit that put it, in no
+    /// particular order. A query's window over them is that over `docs_at`, since its rows are put in order
+    /// anyhow, and no ids are sorted.
+    pub fn documents_of(
         &self,
         commit: Commit,
         collection: &Name,

@@ -7,6 +7,11 @@ use Rattle.hub_model.specs.declared.entry.Condition.TheVariants.{Always, Present
 use Rattle.hub_model.specs.declared.entry.Tags.{Tags}
 use Rattle.hub_model.specs.declared.entry.Tags.TheVariants.{Any, Listed}
 use Rattle.query_normal.specs.declared.key.KeyShape.TheVariants as key
+use Rattle.query_core.specs.declared.query.Kind.{Kind}
+use Rattle.query_core.specs.declared.query.Query.{Query as AQuery}
+use Rattle.query_normal.specs.Normal.{normal_query}
+use Rattle.query_lang.specs.declared.refusal.QueryRefusal.{QueryRefusal}
+use Rattle.query_lang.specs.Queries.{read_texts}
 use Rattle.http_message.specs.Fields.{values}
 use Rattle.http_message.specs.Message.{Message}
 use Rattle.q_base.specs.Name.{read_name}
@@ -19,6 +24,7 @@ use Rattle.percent_encoding.specs.Percent.{percent_decode}
 use Rattle.http_front.specs.Answered.{and_then}
 use Rattle.http_front.specs.Asks.{ask_at, ask_by, ask_of, condition_by, document_by, document_in, fields_or_not, has_host, has_length, known_by, known_of, has_no_coding, is_head_request, method_by, method_in, name_in, name_or_not, put_of, record_by, tags_or_not, write}
 use Rattle.http_front.specs.Early.{decodes_at, is_early, is_early_answer}
+use Rattle.http_front.specs.Filters.{query_in, query_or_not, text_in}
 use Rattle.http_front.specs.Free.{is_bare, is_bare_call, is_free_at, is_free_call, is_free_with}
 use Rattle.http_front.specs.Query.{NamedValue, fields_in, fields_of, pieces_of, takes_fields}
 use Rattle.http_front.specs.Routes.{route_of, served_of, collection_in, id_in, queried_in, method_of, allows, methods_of}
@@ -26,7 +32,6 @@ use Rattle.http_front.specs.Target.{local_part, path_of, query_of}
 use Rattle.http_front.proofs.QueryLemmas.{no_fields_in}
 use Rattle.http_front.specs.declared.ask.Ask.{Ask}
 use Rattle.http_front.specs.declared.ask.Ask.TheVariants.{Read}
-use Rattle.http_front.specs.declared.ask.Ask.TheVariants as asks
 use Rattle.http_front.specs.declared.refused.Allow.{Allow}
 use Rattle.http_front.specs.declared.refused.Allow.TheVariants as allow
 use Rattle.http_front.specs.declared.refused.Refused.{Refused}
@@ -52,6 +57,10 @@ pub bad_names : {A : Type 0} (one two : Result (List ℕ) NameRefusal) (next : L
 bad_names (Err refusal) two next bad = refl
 bad_names (Ok collection) (Err refusal) next bad = refl
 bad_names (Ok collection) (Ok id) next bad = absurd (true≢false bad)
+
+-- a read of the query that was read, or the refusal of a field
+abbrev read_by : Result (AQuery × Kind) Refused → Tags → Bool → Result Ask Refused
+read_by read known head = and_then read (λ found. Ok (Read (key.Query found.1 (normal_query found.0)) known head))
 
 -- the tags of a request
 abbrev if_match : Message → Result (Option Tags) TagRefusal
@@ -119,8 +128,17 @@ module _ (decodes : Bool) where
   late_record m collection id Post allowed other = absurd (true≢false (sym allowed))
 
   -- so is a query, once its name is good
-  late_query : (m : Message) (ask : Tags → Ask) → ((known : Tags) → is_early_answer decodes (Ok (ask known)) ≡ false) → is_early_answer decodes (and_then (known_of m) (λ known. Ok (ask known))) ≡ false
-  late_query m ask late = late_read (if_match m) (if_none_match m) (λ known. Ok (ask known)) late
+  late_fields : (read : Result (AQuery × Kind) QueryRefusal) (known : Tags) (head : Bool)
+      → is_early_answer decodes (read_by (query_or_not read) known head) ≡ false
+  late_fields (Ok found) known head = refl
+  late_fields (Err refused) known head = refl
+
+  late_query : (m : Message) (collection : List ℕ) (fields : List NamedValue) (head : Bool)
+      → is_early_answer decodes (and_then (known_of m) (λ known. read_by (query_in collection fields) known head)) ≡ false
+  unfolding query_in
+  late_query m collection fields head =
+      late_read (if_match m) (if_none_match m) (λ known. read_by (query_in collection fields) known head)
+      (λ known. late_fields (read_texts collection (text_in 102 fields) (text_in 111 fields) (text_in 115 fields) (text_in 110 fields) (text_in 107 fields)) known head)
 
   free_record : (m : Message) (method : Method) (one two : Result (List ℕ) Refused) → allows allow.Record method ≡ true
       → is_early_answer decodes (and_then one (λ collection. and_then two (λ id. record_by m collection id method))) ≡ true
@@ -133,19 +151,17 @@ module _ (decodes : Bool) where
         | inr other ↦ absurd (true≢false (sym early ∙ late_record m collection id method allowed other))
       ]
 
-free_query : (m : Message) (name : Result (List ℕ) Refused) (ask : List ℕ → Tags → Ask)
-    → ((collection : List ℕ) (known : Tags) → is_early_answer false (Ok (ask collection known)) ≡ false)
-    → is_early_answer false (and_then name (λ collection. and_then (known_of m) (λ known. Ok (ask collection known)))) ≡ true
+free_query : (m : Message) (name : Result (List ℕ) Refused) (fields : List NamedValue) (head : Bool)
+    → is_early_answer false (and_then name (λ collection. and_then (known_of m) (λ known. read_by (query_in collection fields) known head))) ≡ true
     → not (is_ok name) ≡ true
-free_query m (Err refused) ask late early = refl
-free_query m (Ok collection) ask late early = absurd (true≢false (sym early ∙ late_query false m (ask collection) (late collection)))
+free_query m (Err refused) fields head early = refl
+free_query m (Ok collection) fields head early = absurd (true≢false (sym early ∙ late_query false m collection fields head))
 
 -- a query by its name, once the fields are decoded
-late_named : (m : Message) (name : Result (List ℕ) NameRefusal) (ask : List ℕ → Tags → Ask)
-    → ((collection : List ℕ) (known : Tags) → is_early_answer true (Ok (ask collection known)) ≡ false)
-    → is_early_answer true (and_then (name_or_not name) (λ collection. and_then (known_of m) (λ known. Ok (ask collection known)))) ≡ false
-late_named m (Err refusal) ask late = refl
-late_named m (Ok collection) ask late = late_query true m (ask collection) (late collection)
+late_named : (m : Message) (name : Result (List ℕ) NameRefusal) (fields : List NamedValue) (head : Bool)
+    → is_early_answer true (and_then (name_or_not name) (λ collection. and_then (known_of m) (λ known. read_by (query_in collection fields) known head))) ≡ false
+late_named m (Err refusal) fields head = refl
+late_named m (Ok collection) fields head = late_query true m collection fields head
 
 not_true : (b : Bool) → not b ≡ true → b ≡ false
 not_true true is = absurd (true≢false (sym is))
@@ -156,7 +172,7 @@ module _ (m : Message) (path : List ℕ) (method : Method) where
   free_call : (found : Route) → allows (methods_of found) method ≡ true
       → is_early_answer false (ask_by m path method found []) ≡ true → is_free_call m path found method ≡ true
   free_call Record allowed early = free_record false m method (name_in (collection_in path)) (name_in (id_in path)) allowed early
-  free_call Query allowed early = free_query m (name_in (queried_in path)) (λ collection known. asks.Query collection [] known (is_head_request method)) (λ collection known. refl) early
+  free_call Query allowed early = free_query m (name_in (queried_in path)) [] (is_head_request method) early
   free_call Filter allowed early = refl
   free_call Purges allowed early = refl
   free_call Match allowed early = refl
@@ -167,7 +183,7 @@ module _ (m : Message) (path : List ℕ) (method : Method) where
       → is_early_answer true (and_then (fields_or_not values) (λ fields. ask_by m path method Query fields)) ≡ false
   unfolding name_in
   late_queried None = refl
-  late_queried (Some values) = late_named m (read_name (percent_decode (queried_in path))) (λ collection known. asks.Query collection values known (is_head_request method)) (λ collection known. refl)
+  late_queried (Some values) = late_named m (read_name (percent_decode (queried_in path))) values (is_head_request method)
 
   late_purges : (values : Option (List NamedValue))
       → is_early_answer true (and_then (fields_or_not values) (λ fields. ask_by m path method Purges fields)) ≡ false

@@ -4,6 +4,7 @@ mod DateLemmas
 mod DigitLemmas
 mod EarlyLemmas
 mod FieldLemmas
+mod FilterLemmas
 mod NumberLemmas
 mod FramingLemmas
 mod GiveLemmas
@@ -19,5 +20,7 @@ mod RequestFacts
 mod RouteLemmas
 mod StandardFacts
 mod TagLemmas
+mod ValueLemmas
 mod VisibleLemmas
+mod WorkedQueries
 mod WorkedRequests

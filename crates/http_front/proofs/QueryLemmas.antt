@@ -1,12 +1,14 @@
 -- The fields of a query one by one.
-use Rattle.std.proofs.Common.{◌≡◌, ℕ, true, false, List, [], ◌∷◌, ◌++◌, map, refl, sym, ap, inl, inr, append_assoc}
+use Rattle.std.proofs.Common.{◌≡◌, ℕ, true, false, List, [], ◌∷◌, ◌++◌, refl, sym, ap, inl, inr, append_assoc}
 use Rattle.std.proofs.lemmas.Bool.{cases_Bool, or_left, false_from_ne_true, true≢false}
 use Rattle.std.proofs.lemmas.Str.{IsUtf8-from_is_utf8, is_utf8-from_IsUtf8}
 use Rattle.std.specs.Prelude.{bytes_eq, Option, Some, None}
 use Rattle.std.specs.Str.{IsUtf8, is_utf8}
-use Rattle.percent_encoding.specs.Percent.{percent_decode}
-use Rattle.http_front.specs.Query.{NamedValue, decoded, field_of, fields_in, fields_of, is_among, name_of, pieces_of, spaced, takes_fields, with_field}
+use Rattle.http_front.specs.Numbers.{number_of}
+use Rattle.http_front.specs.Query.{NamedValue, field_of, fields_in, fields_of, is_among, is_start, is_value, name_of, pieces_of, takes_fields, valued, with_field}
 use Rattle.http_front.specs.Target.{ahead_of, behind}
+use Rattle.http_front.specs.declared.refused.QueryField.{QueryField}
+use Rattle.http_front.specs.declared.refused.QueryField.TheVariants as field
 use Rattle.http_front.specs.declared.routes.Route.{Route}
 use Rattle.http_front.specs.declared.routes.Route.TheVariants.{Record, Query, Filter, Purges, Match, Stats}
 use Rattle.http_front.proofs.CutLemmas.{parted, whole}
@@ -94,10 +96,25 @@ utf8_no bytes never = false_from_ne_true (is_utf8 bytes) (λ e. never (IsUtf8-fr
 pub utf8_yes : (bytes : List ℕ) → IsUtf8 bytes → is_utf8 bytes ≡ true
 utf8_yes bytes text = is_utf8-from_IsUtf8 bytes text
 
--- a value once its escapes are decoded
-pub decoded_spaced : (text copy : List ℕ) → copy ≡ map spaced text → percent_decode copy ≡ decoded text
-unfolding decoded
-decoded_spaced text copy e = ap percent_decode e
+-- the value of a field that is a text, and of one that is none
+pub text_of_start : (found : QueryField) (text : List ℕ) → IsUtf8 text → found ≡ field.From → is_start (number_of text) ≡ is_value found text
+text_of_start found text utf8 is = rw (is, utf8_yes text utf8) refl
+
+pub text_of_others : (found : QueryField) (text : List ℕ) → IsUtf8 text → ¬ (found ≡ field.From) → true ≡ is_value found text
+text_of_others field.Filter text utf8 other = sym (utf8_yes text utf8)
+text_of_others field.Order text utf8 other = sym (utf8_yes text utf8)
+text_of_others field.Skip text utf8 other = sym (utf8_yes text utf8)
+text_of_others field.Take text utf8 other = sym (utf8_yes text utf8)
+text_of_others field.Kind text utf8 other = sym (utf8_yes text utf8)
+text_of_others field.From text utf8 other = absurd (other refl)
+
+pub no_text : (found : QueryField) (value : List ℕ) → is_utf8 value ≡ false → valued (Some found) value ≡ None
+no_text field.Filter value e = rw e refl
+no_text field.Order value e = rw e refl
+no_text field.Skip value e = rw e refl
+no_text field.Take value e = rw e refl
+no_text field.Kind value e = rw e refl
+no_text field.From value e = rw e refl
 
 -- a route that takes no fields has no query
 no_fields_of : (route : Route) (rest : List ℕ) → takes_fields route ≡ false → fields_of route (pieces_of rest) ≡ None

@@ -1,11 +1,11 @@
 -- Worked replies, computed from the definitions.
-use Rattle.std.proofs.Common.{◌≡◌, ℕ, Bool, true, false, List, [], Some, codes, refl}
+use Rattle.std.proofs.Common.{◌≡◌, ℕ, Bool, true, false, List, [], Some, None, codes, refl}
 use Rattle.std.specs.Fmt.{digits}
 use Rattle.http_front.specs.declared.refused.Allow.TheVariants.{Record, Match as MatchAll, Other}
 use Rattle.http_front.specs.declared.refused.DocumentReason.TheVariants.{NotWhole}
-use Rattle.http_front.specs.declared.refused.FilterReason.TheVariants.{TooManyPaths}
+use Rattle.http_front.specs.declared.refused.FilterReason.TheVariants.{Syntax, TooManyPaths}
 use Rattle.http_message.specs.declared.refusal.FramingRefusal.TheVariants.{BodyTooLarge}
-use Rattle.http_front.specs.declared.refused.QueryField.TheVariants.{Order}
+use Rattle.http_front.specs.declared.refused.QueryField.TheVariants.{Filter, Order}
 use Rattle.http_front.specs.declared.refused.Refused.TheVariants.{Framing, NoRoute, BadMethod, BadFilter, BadDocument}
 use Rattle.hub_model.specs.declared.entry.Found.TheVariants.{Missing, At}
 use Rattle.hub_model.specs.declared.entry.Outcome.TheVariants.{Whole, Same, Absent}
@@ -50,6 +50,12 @@ same-document : (text_at_100 get (Read (record { commit = 7; clock = 100; ttl = 
     × (text_at_100 head (Read (record { commit = 7; clock = 100; ttl = 60; result = Same 5 (Some 4) })) false ≡ codes "HTTP/1.1 304 Not Modified\r\nDate: Thu, 01 Jan 1970 00:01:40 GMT\r\nETag: \"5\"\r\nCache-Control: max-age=60\r\nQuaestor-Commit: 7\r\nQuaestor-Version: 4\r\nQuaestor-Until: 160\r\n\r\n")
 unfolding head_text head_fields status_line digits get put head
 same-document = (refl, refl)
+
+-- a read of a query, and of one whose result the caller knows: they must not be kept, and have no version
+result-of-query : (text_at_100 get (Read (record { commit = 1; clock = 100; ttl = 0; result = Whole (codes "[\"p1\"]") None })) false ≡ codes "HTTP/1.1 200 OK\r\nDate: Thu, 01 Jan 1970 00:01:40 GMT\r\nContent-Type: application/json\r\nContent-Length: 6\r\nETag: \"1\"\r\nCache-Control: no-store\r\nQuaestor-Commit: 1\r\nQuaestor-Until: 100\r\n\r\n[\"p1\"]")
+    × (text_at_100 get (Read (record { commit = 2; clock = 100; ttl = 0; result = Same 1 None })) false ≡ codes "HTTP/1.1 304 Not Modified\r\nDate: Thu, 01 Jan 1970 00:01:40 GMT\r\nETag: \"1\"\r\nCache-Control: no-store\r\nQuaestor-Commit: 2\r\nQuaestor-Until: 100\r\n\r\n")
+unfolding head_text head_fields status_line digits get put head
+result-of-query = (refl, refl)
 
 -- a HEAD that finds none
 head-of-absent : text_at_100 head (Read (record { commit = 1; clock = 100; ttl = 3600; result = Absent })) false ≡ codes "HTTP/1.1 404 Not Found\r\nDate: Thu, 01 Jan 1970 00:01:40 GMT\r\nContent-Type: application/json\r\nContent-Length: 18\r\nCache-Control: max-age=3600\r\nQuaestor-Commit: 1\r\nQuaestor-Until: 3700\r\n\r\n"
@@ -120,6 +126,11 @@ no-buffer = refl
 no-memory : text_at_100 get Memory false ≡ codes "HTTP/1.1 503 Service Unavailable\r\nContent-Type: application/json\r\nContent-Length: 18\r\nCache-Control: no-store\r\n\r\n{\"error\":\"memory\"}"
 unfolding head_text head_fields status_line digits get
 no-memory = refl
+
+-- a filter that ends too early
+bad-filter : text_at_100 get (Refusal (BadFilter (record { field = Filter; place = 3; reason = Syntax })) 100) false ≡ codes "HTTP/1.1 400 Bad Request\r\nDate: Thu, 01 Jan 1970 00:01:40 GMT\r\nContent-Type: application/json\r\nContent-Length: 62\r\nCache-Control: no-store\r\n\r\n{\"error\":\"bad_filter\",\"field\":\"f\",\"place\":3,\"reason\":\"syntax\"}"
+unfolding head_text head_fields status_line digits get
+bad-filter = refl
 
 -- a fifth path in an order
 bad-order : text_at_100 get (Refusal (BadFilter (record { field = Order; place = 9; reason = TooManyPaths })) 100) false ≡ codes "HTTP/1.1 400 Bad Request\r\nDate: Thu, 01 Jan 1970 00:01:40 GMT\r\nContent-Type: application/json\r\nContent-Length: 70\r\nCache-Control: no-store\r\n\r\n{\"error\":\"bad_filter\",\"field\":\"o\",\"place\":9,\"reason\":\"too_many_paths\"}"

@@ -21,15 +21,15 @@ use Rattle.http_front.specs.Routes.{all_routes, route_of, table}
 use Rattle.http_front.specs.Tags.{commits_in, members_of, tag_of, tags_in}
 use Rattle.http_front.specs.Target.{local_part, path_of}
 use Rattle.http_front.specs.declared.ask.Ask.{Ask}
-use Rattle.http_front.specs.declared.ask.Ask.TheVariants.{Read, Query, Purges, MatchAll, Fetch, Stats}
+use Rattle.http_front.specs.declared.ask.Ask.TheVariants.{Read, Purges, MatchAll, Fetch, Stats}
 
 -- what a request of these fields asks
-abbrev asked_of : ℕ → List ℕ → List ℕ → List Pair → Result Ask Refused
+abbrev pub asked_of : ℕ → List ℕ → List ℕ → List Pair → Result Ask Refused
 asked_of minor method target fields =
     ask_of all_routes (record { method = method; target = target; minor = minor; fields = fields; body = codes "{}" })
 
 -- of HTTP/1.1 with a Host
-abbrev asked : List ℕ → List ℕ → List Pair → Result Ask Refused
+abbrev pub asked : List ℕ → List ℕ → List Pair → Result Ask Refused
 asked method target fields = asked_of 1 method target ((codes "hOST", codes "a") ∷ fields)
 
 -- a PUT of a record that gives its length, and what it asks where its body is a document
@@ -61,12 +61,11 @@ pub names : (asked (codes "GET") (codes "/v1/d/shop/P") [] ≡ Err BadTarget)
     × (asked (codes "GET") (codes "/v1/d/shop/a+b") [] ≡ Err BadTarget)
     × (asked (codes "GET") (codes "/v1/d/shop/p%2fq") [] ≡ Err BadTarget)
     × (asked (codes "DELETE") (codes "/v1/d/shop/p1") [] ≡ Ok (write (codes "shop") (codes "p1") None Always))
-    × (asked (codes "GET") (codes "/v1/q/shop") [] ≡ Ok (Query (codes "shop") [] (Listed []) false))
     × (asked (codes "GET") (codes "/v1/q/Shop") [] ≡ Err BadTarget)
     × (asked (codes "GET") (codes "/v1/purges") [] ≡ Ok (Purges [] false))
     × (asked (codes "GET") (codes "/v1/purges?from=0") [] ≡ Err BadTarget)
 unfolding ask_of has_host values local_part path_of route_of table matchit_on_literals is_utf8 chars lib.Utf8.encode fields_in decoded percent_decode name_in tags_in number_of
-names = (refl, refl, refl, refl, refl, refl, refl, refl, refl, refl)
+names = (refl, refl, refl, refl, refl, refl, refl, refl, refl)
 
 -- the fields of Host (RFC 9112, section 3.2)
 pub hosts : (asked_of 1 (codes "GET") (codes "*") [] ≡ Err BadHost)

@@ -9,6 +9,7 @@ use Rattle.q_doc.specs.Tree.{Tree}
 use Rattle.q_doc.specs.Judged.{judged}
 use Rattle.q_doc.specs.declared.refusal.DocRefusal.{DocRefusal}
 use Rattle.q_doc.specs.declared.refusal.DocRefusal.TheVariants as doc
+use Rattle.query_normal.specs.Normal.{normal_query}
 use Rattle.query_normal.specs.declared.key.KeyShape.TheVariants as key
 use Rattle.hub_model.specs.declared.entry.Condition.{Condition}
 use Rattle.hub_model.specs.declared.entry.Condition.TheVariants.{Always, Present, Absent, Unchanged}
@@ -22,12 +23,13 @@ use Rattle.http_message.specs.declared.refusal.FramingRefusal.TheVariants.{BodyT
 use Rattle.http_front.specs.declared.refused.Refused.{Refused}
 use Rattle.http_front.specs.declared.refused.Refused.TheVariants.{Framing, BadHost, BadTarget, NoRoute, BadMethod, NoLength, BadEncoding, BadTag, BadDocument}
 use Rattle.http_front.specs.Answered.{and_then, unless}
+use Rattle.http_front.specs.Filters.{query_in}
 use Rattle.http_front.specs.Query.{NamedValue, fields_in}
 use Rattle.http_front.specs.Routes.{route_of, served_of, collection_in, id_in, queried_in, method_of, allows, methods_of}
 use Rattle.http_front.specs.Tags.{tags_in}
 use Rattle.http_front.specs.Target.{local_part, path_of, query_of}
 use Rattle.http_front.specs.declared.ask.Ask.{Ask}
-use Rattle.http_front.specs.declared.ask.Ask.TheVariants.{Write, Read, Query, Purges, MatchAll, Fetch, Stats}
+use Rattle.http_front.specs.declared.ask.Ask.TheVariants.{Write, Read, Purges, MatchAll, Fetch, Stats}
 use Rattle.http_front.specs.declared.routes.Served.{Served}
 use Rattle.http_front.specs.declared.routes.Route.{Route}
 use Rattle.http_front.specs.declared.routes.Route.TheVariants as route
@@ -156,7 +158,9 @@ record_by m collection id Post = Err (BadMethod (methods_of route.Record))
 -- a GET or a HEAD of a query
 abbrev pub query_by : Message → List ℕ → List NamedValue → Bool → Result Ask Refused
 query_by m text fields head =
-    and_then (name_in text) (λ collection. and_then (known_of m) (λ known. Ok (Query collection fields known head)))
+    and_then (name_in text) (λ collection.
+    and_then (known_of m) (λ known.
+    and_then (query_in collection fields) (λ read. Ok (Read (key.Query read.1 (normal_query read.0)) known head))))
 
 -- the method is HEAD
 abbrev pub is_head_request : Method → Bool

@@ -6,7 +6,7 @@ use Rattle.http_front.specs.Query.{takes_fields}
 use Rattle.http_front.specs.Routes.{route_of, served_of}
 use Rattle.http_front.specs.Target.{local_part, path_of, query_of}
 use Rattle.http_front.specs.declared.ask.Ask.{Ask}
-use Rattle.http_front.specs.declared.ask.Ask.TheVariants.{Write, Read, Query, Purges, MatchAll, Fetch, Stats}
+use Rattle.http_front.specs.declared.ask.Ask.TheVariants.{Write, Read, Purges, MatchAll, Fetch, Stats}
 use Rattle.http_front.specs.declared.refused.Refused.{Refused}
 use Rattle.http_front.specs.declared.refused.Refused.TheVariants.{Framing, BadHost, BadTarget, NoRoute, BadMethod, NoLength, BadEncoding, BadTag, BadFilter, NotBuilt, BadDocument}
 use Rattle.http_front.specs.declared.routes.Route.{Route}
@@ -41,7 +41,6 @@ is_early_refusal decodes (BadDocument reason) = false
 abbrev pub is_early_answer : Bool → Result Ask Refused → Bool
 is_early_answer decodes (Ok (Write change condition)) = false
 is_early_answer decodes (Ok (Read key tags head)) = false
-is_early_answer decodes (Ok (Query collection fields tags head)) = false
 is_early_answer decodes (Ok (Purges fields head)) = not decodes
 is_early_answer decodes (Ok MatchAll) = true
 is_early_answer decodes (Ok (Fetch head)) = true

@@ -3,6 +3,7 @@ pub mod Answered
 pub mod Asks
 pub mod Date
 pub mod Early
+pub mod Filters
 pub mod Free
 pub mod Lines
 pub mod Numbers

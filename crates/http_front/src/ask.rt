@@ -3,18 +3,23 @@
 //! A call answers `Err` where it is out of memory, and `Ok` with what is asked, or why it is refused.
 ghost use Rattle.std.specs.Prelude.{◌≡◌, ℕ, List, true, false, drop, is_ok, length, IfNone, IfOk, IfSome, IsOk, Err};
 ghost use Rattle.std.specs.Option.{option_copied};
+ghost use Rattle.query_normal.specs.Normal.{normal_query};
+ghost use Rattle.query_normal.specs.declared.key.KeyShape.TheVariants as keys;
 ghost use Rattle.http_message.specs.Fields.{values as values_named};
 ghost use Rattle.http_front.specs.Answered.{and_then};
 ghost use Rattle.http_front.specs.Asks.{ask_at, ask_by, ask_of, condition_by, condition_of, delete_of, document_in, known_of, method_in, name_in, put_of, query_by, read_of, record_by, shape_of, tags_or_not};
 ghost use Rattle.http_front.specs.Early.{is_early};
+ghost use Rattle.http_front.specs.Filters.{query_in};
 ghost use Rattle.http_front.specs.Free.{is_bare, is_bare_put, is_free_at, is_free_call, is_free_record};
 ghost use Rattle.http_front.specs.Routes.{collection_in, id_in, route_of, served_of};
 ghost use Rattle.http_front.specs.Tags.{tags_in};
 ghost use Rattle.http_front.specs.Target.{after, ahead_of, path_of, query_of};
+ghost use Rattle.http_front.specs.declared.ask.Ask.TheVariants.{Read};
 ghost use Rattle.http_front.specs.declared.routes.Route.TheVariants.{Record};
 
 use crate::cut::{cut_at, cut_in_two};
 use crate::fields::{has_condition, has_host, has_length, has_no_coding};
+use crate::filter::query_in;
 use crate::names::{are_names, is_name, name_in};
 use crate::query::{QueryFields, fields_in};
 use crate::refused::{DocumentReason, Refused};
@@ -26,7 +31,7 @@ use http_message::{FramingRefusal, Request};
 use hub_model::{Change, Commits, Condition, Tags};
 use q_base::{Memory, Name};
 use q_doc::{Doc, DocRefusal, ReadBuffer};
-use query_normal::Key;
+use query_normal::{Key, normal};
 use std::alloc::Global;
 
 /// What a request asks of the store.
@@ -40,13 +45,6 @@ pub enum Ask {
     /// To read the result of a key, of which the tagged ones are known. `head`: without its body.
     Read {
         key: Key,
-        tags: Tags,
-        head: bool,
-    },
-    /// To read the result of a query with these fields, of which the tagged ones are known.
-    Query {
-        collection: Name,
-        fields: QueryFields,
         tags: Tags,
         head: bool,
     },
@@ -281,15 +279,30 @@ fn query_by(
         Ok(name) => name,
         Err(refused) => return Ok(Err(refused)),
     };
-    match known_of(alloc, request)? {
-        Ok(tags) => Ok(Ok(Ask::Query {
-            collection,
-            fields,
-            tags,
-            head,
-        })),
-        Err(refused) => Ok(Err(refused)),
-    }
+    let known = match known_of(alloc, request)? {
+        Ok(known) => known,
+        Err(refused) => return Ok(Err(refused)),
+    };
+    ask_query(alloc, collection, &fields, known, head)
+}
+
+/// What a GET or a HEAD of these fields asks, of which the tagged results are known.
+fn ask_query(
+    alloc: Global,
+    collection: Name,
+    fields: &QueryFields,
+    tags: Tags,
+    head: bool,
+) -> Result<Result<Ask, Refused>, Memory>
+    ensures { IfOk result (λ asked. asked ≡ and_then (query_in collection fields.now) (λ read. Ok (Read (keys.Query read.1 (normal_query read.0)) tags head))) }
+{
+    let (query, kind) = match query_in(alloc, collection, fields)? {
+        Ok(read) => read,
+        Err(refused) => return Ok(Err(refused)),
+    };
+    let normal = normal(alloc, query)?;
+    let key = Key::query(alloc, kind, normal)?;
+    Ok(Ok(Ask::Read { key, tags, head }))
 }
 
 /// What a request of a record asks.

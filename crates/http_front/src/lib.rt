@@ -6,6 +6,7 @@ mod body;
 mod cut;
 mod date;
 mod fields;
+mod filter;
 mod give;
 mod head;
 mod laws;

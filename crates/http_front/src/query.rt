@@ -1,9 +1,10 @@
 //! The fields of a target's query.
-ghost use Rattle.std.specs.Prelude.{◌≡◌, true, IfOk, IsOk, map, option_map};
+ghost use Rattle.std.specs.Prelude.{◌≡◌, true, IfOk, IsOk, option_map};
 ghost use Rattle.std.specs.Option.{option_copied};
-ghost use Rattle.std.specs.Str.{is_utf8};
+ghost use Rattle.query_lang.specs.Queries.{bytes_of};
+ghost use Rattle.http_front.specs.Filters.{letter_of, text_in};
 ghost use Rattle.http_front.specs.Free.{is_free_query};
-ghost use Rattle.http_front.specs.Query.{decoded, field_named, fields_in, fields_of, is_among, is_start, is_value, name_of, pieces_of, spaced, takes_fields, valued};
+ghost use Rattle.http_front.specs.Query.{decoded, field_named, fields_in, fields_of, is_among, is_start, is_value, name_of, pieces_of, takes_fields, valued};
 ghost use Rattle.http_front.specs.declared.routes.Route.TheVariants.{Query};
 
 use crate::cut::{cut_at, cut_in_two};
@@ -19,15 +20,16 @@ use std::marker::Model;
 #[derive(Drop)]
 pub struct FieldValue {
     field: QueryField,
-    value: Vec<u8>,
+    value: String,
 }
 
 impl Model for FieldValue {
+    ghost use Rattle.std.specs.Prelude.{string_bytes};
     ghost use Rattle.http_front.specs.Query.{NamedValue};
 
     ghost Value = { NamedValue };
 
-    ghost view = { λ v. (v.field, v.value.items) };
+    ghost view = { λ v. (v.field, string_bytes v.value) };
 }
 
 impl FieldValue {
@@ -39,10 +41,10 @@ impl FieldValue {
     }
 
     /// Its value, without escapes.
-    pub fn value(&self) -> &[u8]
+    pub fn value(&self) -> &str
         ensures { result.now ≡ self.now.1 }
     {
-        self.value.as_slice()
+        self.value.as_str()
     }
 }
 
@@ -68,6 +70,25 @@ impl QueryFields {
     {
         self.values.as_slice()
     }
+
+    /// The value of a field, where it is among them.
+    pub fn value_of(&self, field: QueryField) -> Option<&str>
+        ensures { bytes_of result ≡ text_in (letter_of field) self.now }
+    {
+        value_in(self.as_slice(), field)
+    }
+}
+
+/// The value of the first field that is this one.
+fn value_in(values: &[FieldValue], field: QueryField) -> Option<&str>
+    ensures { bytes_of result ≡ text_in (letter_of field) values.now }
+{
+    for value in values {
+        if value.field() == field {
+            return Some(value.value());
+        }
+    }
+    None
 }
 
 /// The fields of a query, where each is one of the route and in its form, and none is repeated.
@@ -136,8 +157,10 @@ fn read_field(
     let Some(field) = field_named(route, name) else {
         return Ok(None);
     };
-    let value = read_value(alloc, value)?;
-    if is_value(field, value.as_slice()) {
+    let Ok(value) = String::from_utf8(read_value(alloc, value)?) else {
+        return Ok(None);
+    };
+    if is_value(field, value.as_str()) {
         Ok(Some(FieldValue { field, value }))
     } else {
         Ok(None)
@@ -177,23 +200,13 @@ fn query_named(name: &[u8]) -> Option<QueryField>
     None
 }
 
-/// Whether a value is in the form that its field has.
-fn is_value(field: QueryField, value: &[u8]) -> bool
+/// Whether a text is in the form that its field has.
+fn is_value(field: QueryField, value: &str) -> bool
     ensures { result ≡ is_value field value.now }
 {
     match field {
-        QueryField::From => is_text(value) && is_start(number_of(value)),
-        _ => is_text(value),
-    }
-}
-
-/// Whether the bytes are UTF-8.
-fn is_text(bytes: &[u8]) -> bool
-    ensures { result ≡ is_utf8 bytes.now }
-{
-    match str::from_utf8(bytes) {
-        Ok(_) => true,
-        Err(_) => false,
+        QueryField::From => is_start(number_of(value.as_bytes())),
+        _ => true,
     }
 }
 
@@ -235,26 +248,15 @@ fn name_of(piece: &[u8]) -> &[u8]
 fn read_value(alloc: Global, text: &[u8]) -> Result<Vec<u8>, Memory>
     ensures { IfOk result (λ value. value.items ≡ decoded text.now) }
 {
-    let spaced = with_spaces(alloc, text)?;
-    let mut value = Vec::with_capacity(alloc, spaced.len())?;
-    percent_decode(&spaced).append_to(&mut value)?;
-    Ok(value)
-}
-
-/// The text with spaces for `+`.
-fn with_spaces(alloc: Global, text: &[u8]) -> Result<Vec<u8>, Memory>
-    ensures { IfOk result (λ copy. copy.items ≡ map spaced text.now) }
-{
-    let mut spaced = Vec::with_capacity(alloc, text.len())?;
-    for byte in text {
-        spaced.push(space_for_plus(*byte))?;
+    let mut value = Vec::with_capacity(alloc, text.len())?;
+    let mut rest = text;
+    loop {
+        let (piece, behind) = cut_at(rest, b'+');
+        percent_decode(piece).append_to(&mut value)?;
+        let Some(others) = behind else {
+            return Ok(value);
+        };
+        value.push(b' ')?;
+        rest = others;
     }
-    Ok(spaced)
-}
-
-/// A space for `+`, and else the byte.
-fn space_for_plus(byte: u8) -> u8
-    ensures { result ≡ spaced byte }
-{
-    if byte == b'+' { b' ' } else { byte }
 }

@@ -23,7 +23,7 @@ fn buffer_of(alloc: Global, bytes: &[u8]) -> Result<RequestRoom, Memory> {
 }
 
 /// What the request of these bytes asks.
-fn asked(alloc: Global, bytes: &[u8]) -> Result<Result<Ask, Refused>, Memory> {
+pub(crate) fn asked(alloc: Global, bytes: &[u8]) -> Result<Result<Ask, Refused>, Memory> {
     let routes = Routes::new(alloc)?;
     let buffer = buffer_of(alloc, bytes)?;
     ask_of(
@@ -35,7 +35,12 @@ fn asked(alloc: Global, bytes: &[u8]) -> Result<Result<Ask, Refused>, Memory> {
 }
 
 /// Checks that the request of these bytes is refused so.
-fn refuses(rt: &impl Abort, alloc: Global, bytes: &[u8], wanted: Refused) -> Result<(), Memory> {
+pub(crate) fn refuses(
+    rt: &impl Abort,
+    alloc: Global,
+    bytes: &[u8],
+    wanted: Refused,
+) -> Result<(), Memory> {
     match asked(alloc, bytes)? {
         Ok(_) => assert!(rt; false),
         Err(refused) => assert_eq!(rt; refused, wanted),
@@ -147,8 +152,9 @@ fn a_read_keeps_the_tags_that_its_caller_knows(rt: HostRuntime) -> Result<(), Fa
     assert!(rt;
         matches!(
             &query,
-            Ok(Ask::Query {
+            Ok(Ask::Read {
                 tags: Tags::Any,
+                head: true,
                 ..
             })
         )
@@ -193,36 +199,11 @@ fn the_fields_of_a_query_are_decoded(rt: HostRuntime) -> Result<(), Fail> {
     let values = fields.as_slice();
     assert_eq!(rt; values.len(), 2);
     assert_eq!(rt; values[0].field(), QueryField::Filter);
-    assert_eq!(rt; values[0].value(), b"a = 1".as_slice());
+    assert_eq!(rt; values[0].value(), "a = 1");
     assert_eq!(rt; values[1].field(), QueryField::Order);
-    assert_eq!(rt; values[1].value(), b"-year".as_slice());
-    Ok(())
-}
-
-#[test]
-fn an_ask_keeps_the_fields_of_its_query(rt: HostRuntime) -> Result<(), Fail> {
-    let query = asked(
-        rt.alloc(),
-        b"HEAD /v1/q/shop?f=a+%3D+1 HTTP/1.1\r\nHost: a\r\n\r\n",
-    )?;
-    let Ok(
-        Ask::Query {
-            collection,
-            fields,
-            head,
-            ..
-        },
-    ) = &query
-    else {
-        assert!(rt; false);
-        return Ok(());
-    };
-    assert_eq!(rt; collection.as_slice(), b"shop".as_slice());
-    assert!(rt; *head);
-    let values = fields.as_slice();
-    assert_eq!(rt; values.len(), 1);
-    assert_eq!(rt; values[0].field(), QueryField::Filter);
-    assert_eq!(rt; values[0].value(), b"a = 1".as_slice());
+    assert_eq!(rt; values[1].value(), "-year");
+    assert_eq!(rt; fields.value_of(QueryField::Order), Some("-year"));
+    assert_eq!(rt; fields.value_of(QueryField::Skip), None);
     Ok(())
 }
 
@@ -240,7 +221,7 @@ fn an_ask_for_purges_keeps_its_start(rt: HostRuntime) -> Result<(), Fail> {
     let values = fields.as_slice();
     assert_eq!(rt; values.len(), 1);
     assert_eq!(rt; values[0].field(), QueryField::From);
-    assert_eq!(rt; values[0].value(), b"7".as_slice());
+    assert_eq!(rt; values[0].value(), "7");
     Ok(())
 }
 

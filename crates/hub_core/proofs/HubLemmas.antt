@@ -19,7 +19,7 @@ use Rattle.hub_model.proofs.Untils.{recorded_until}
 use Rattle.hub_core.specs.declared.invalidations.Invalidation.{Invalidation}
 use Rattle.hub_core.specs.Invalidations.{AreInvalidationsOf, invalidated_until}
 use Rattle.hub_core.specs.HubState.{HubView, IsAt, hub_of}
-use Rattle.hub_core.specs.CopiesView.{CopiesView, Passes, lifetime, invalidated_keys, until_in, AreInvalidated, IsInvalidationReserved, CanInvalidate}
+use Rattle.hub_core.specs.CopiesView.{CopiesView, Passes, lifetime, invalidated_keys, until_in, AreInvalidated, AreOfRecords, IsInvalidationReserved, CanInvalidate}
 use Rattle.hub_core.proofs.IssueLemmas.{active-later}
 use Rattle.hub_core.proofs.MatchLemmas.{invalidations-raise}
 use Rattle.hub_core.proofs.StateLemmas.{time-moved, copies-later, invalidations-later, invalidations-written, copies-read, invalidations-read, lifetime-at}
@@ -82,18 +82,17 @@ module _ (book : Contents) (front : ℕ) (h : CopiesView) (s : State) (is : IsAt
   }
 
   -- with the invalidations by the matched commits
-  pub hub-matched : (to moment : ℕ) (before new : CopiesView) (invalidations : List Invalidation) → front ≤ to → Passes moment before h → AreInvalidationsOf book.journal before.copies front to invalidations →
+  pub hub-matched : (to : ℕ) (new : CopiesView) (invalidations : List Invalidation) → front ≤ to → AreOfRecords h.copies → AreInvalidationsOf book.journal front to invalidations →
       ((key : KeyShape) → until_in new.outdated key ≡ max (until_in h.outdated key) (invalidated_until h.copies invalidations key)) → new.clock ≡ h.clock → new.copies ≡ h.copies → IsAt (hub_of book to new) (record s { front = to })
-  hub-matched to moment before new invalidations forward passes are outdated clock copies = record {
+  hub-matched to new invalidations forward records are outdated clock copies = record {
     time = record { clock = clock ∙ is.time.clock; front = refl };
     book = record { commits = is.book.commits; rows = is.book.rows };
     copies = λ key test. ap (λ (xs : List Copy). latest_where key test xs) copies ∙ is.copies key test;
     invalidations = λ key.
         outdated key
         ∙ ap (λ (n : ℕ). max n (invalidated_until h.copies invalidations key)) (is.invalidations key ∙ sym (ap (λ (n : ℕ). until_of_outdated (record s { front = n }) key) is.time.front))
-        ∙ sym (invalidations-raise h.copies before.copies s front to invalidations key is.copies forward
-        (subst (λ (xs : List Change). AreInvalidationsOf xs before.copies front to invalidations) is.book.rows are)
-        (active-later h.clock before.copies h.copies passes.copies key));
+        ∙ sym (invalidations-raise h.copies s front to invalidations key is.copies forward
+        (subst (λ (xs : List Change). AreInvalidationsOf xs front to invalidations) is.book.rows are) (records key));
   }
 
   -- the invalidated keys are those of the record, each once

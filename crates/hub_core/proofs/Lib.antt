@@ -9,3 +9,4 @@ pub mod MatchLemmas
 pub mod HubLemmas
 pub mod WriteLemmas
 pub mod OutcomeLemmas
+pub mod QueryLemmas

@@ -12,6 +12,7 @@ use Rattle.issued_expiries.specs.Copies.{Copy, latest_where, is_between, is_acti
 use Rattle.commit_book.specs.declared.change.Change.{Change}
 use Rattle.commit_book.specs.Journal.{is_of, document_at}
 use Rattle.hub_model.specs.Copies.{live}
+use Rattle.hub_model.specs.Lifetime.{is_query}
 use Rattle.hub_model.specs.Outdated.{is_changed}
 use Rattle.hub_model.specs.State.{IssuedCopy, State, until_of}
 use Rattle.hub_model.specs.Until.{until_among, latest_until, until_of_outdated}
@@ -52,14 +53,10 @@ below-until copies s key commit same =
 pub is_of-key : (change : Change) (collection id : List ℕ) → is_of collection id change ≡ same_key (key_of change) (Record collection id)
 is_of-key change collection id = and_comm (bytes_eq change.id id) (bytes_eq change.collection collection)
 
--- the key that a commit altered is the only one whose result it changed
-altered-decides : (journal : List Change) (n : ℕ) (key : KeyShape) → n < length journal → is_changed key journal (suc n) ≡ is_key key (altered_key journal (suc n))
-altered-decides journal n (Query kind query) low = sym (no_query (alteration journal (suc n)))
-  where
-    no_query : (altered : Option Change) → is_key (Query kind query) (option_map key_of altered) ≡ false
-    no_query None = refl
-    no_query (Some x) = refl
-altered-decides journal n (Record collection id) low = of (there journal n low)
+-- the key that a commit altered is the only record's whose result it changed
+altered-decides : (journal : List Change) (n : ℕ) (key : KeyShape) → is_query key ≡ false → n < length journal → is_changed key journal (suc n) ≡ is_key key (altered_key journal (suc n))
+altered-decides journal n (Query kind query) record_key low = absurd (let e = record_key in cc)
+altered-decides journal n (Record collection id) record_key low = of (there journal n low)
   where
     there : (xs : List Change) (i : ℕ) → i < length xs → (x : Change) × (slice_get xs i ≡ Some x)
     there [] i low = absurd (omega (arith, low))
@@ -91,20 +88,20 @@ altered-decides journal n (Record collection id) low = of (there journal n low)
 -- ---- the invalidations by commits
 
 -- no commit is after itself
-pub invalidations-none : (journal : List Change) (copies : List Copy) (front : ℕ) → AreInvalidationsOf journal copies front front []
-invalidations-none journal copies front key commit active =
+pub invalidations-none : (journal : List Change) (front : ℕ) → AreInvalidationsOf journal front front []
+invalidations-none journal front key commit record_key =
     elim (cases_lt front commit) [
       | inl above ↦ rw (lt-ltb front commit above, lt-leb commit front above) refl
       | inr below ↦ rw (le-ltb front commit below) refl
     ]
 
 -- one commit more
-pub invalidations-next : (journal : List Change) (copies : List Copy) (front n : ℕ) (old new : List Invalidation) → AreInvalidationsOf journal copies front n old →
+pub invalidations-next : (journal : List Change) (front n : ℕ) (old new : List Invalidation) → AreInvalidationsOf journal front n old →
     ((key : KeyShape) (commit : ℕ) → list_any (is_invalidation key commit) new ≡ (list_any (is_invalidation key commit) old || (is_key key (altered_key journal (n + 1)) && (n + 1 == commit)))) →
-    front ≤ n → n < length journal → AreInvalidationsOf journal copies front (n + 1) new
-invalidations-next journal copies front n old new were more forward within key commit active =
+    front ≤ n → n < length journal → AreInvalidationsOf journal front (n + 1) new
+invalidations-next journal front n old new were more forward within key commit record_key =
     more key commit
-    ∙ ap (λ (b : Bool). b || (is_key key (altered_key journal (n + 1)) && (n + 1 == commit))) (were key commit active)
+    ∙ ap (λ (b : Bool). b || (is_key key (altered_key journal (n + 1)) && (n + 1 == commit))) (were key commit record_key)
     ∙ by (cases_Bool (n + 1 == commit))
   where
     by : ((n + 1 == commit) ≡ true) ⊎ ((n + 1 == commit) ≡ false) → ((is_after front n commit && is_changed key journal commit) || (is_key key (altered_key journal (n + 1)) && (n + 1 == commit))) ≡ (is_after front (n + 1) commit && is_changed key journal commit)
@@ -112,7 +109,7 @@ invalidations-next journal copies front n old new were more forward within key c
         let same : n + 1 ≡ commit = eqb-true (n + 1) commit hit in
         let next : suc n ≡ n + 1 = omega arith in
         let told : is_key key (altered_key journal (n + 1)) ≡ is_changed key journal commit =
-        ap (λ (m : ℕ). is_key key (altered_key journal m)) (sym next) ∙ sym (altered-decides journal n key within) ∙ ap (is_changed key journal) (next ∙ same) in
+        ap (λ (m : ℕ). is_key key (altered_key journal m)) (sym next) ∙ sym (altered-decides journal n key record_key within) ∙ ap (is_changed key journal) (next ∙ same) in
         let above : front < commit = omega (arith, same, forward) in
         let beyond : n < commit = omega (arith, same) in
         let up : commit ≤ n + 1 = omega (arith, same) in
@@ -212,10 +209,10 @@ both-parts true true false h = absurd (let e = h in cc)
 both-parts true false c h = absurd (let e = h in cc)
 both-parts false b c h = absurd (let e = h in cc)
 
--- the invalidations by the commits up to one raise a key as far as these outdate its copies
-pub invalidations-raise : (copies before : List Copy) (s : State) (front to : ℕ) (invalidations : List Invalidation) (key : KeyShape) → HasCopies copies s → front ≤ to → AreInvalidationsOf s.journal before front to invalidations → (is_active copies key ≡ true → is_active before key ≡ true) →
+-- the invalidations by the commits up to one raise a key that is active only if it is a record's as far as these outdate its copies
+pub invalidations-raise : (copies : List Copy) (s : State) (front to : ℕ) (invalidations : List Invalidation) (key : KeyShape) → HasCopies copies s → front ≤ to → AreInvalidationsOf s.journal front to invalidations → (is_active copies key ≡ true → is_query key ≡ false) →
     until_of_outdated (record s { front = to }) key ≡ max (until_of_outdated (record s { front = front }) key) (invalidated_until copies invalidations key)
-invalidations-raise copies before s front to invalidations key same forward are was =
+invalidations-raise copies s front to invalidations key same forward are records =
     let upper = raised-most raised own changed step front (invalidated_until copies invalidations key) to forward (λ n above within hit. reached (cases_Bool (is_active copies key)) n above within hit) in
     let lower = best-le (λ (m : Invalidation). until_below copies m.key m.commit) (λ (m : Invalidation). same_key key m.key) (raised to) invalidations (λ k d low hit. covered (cases_Bool (is_active copies key)) k d low hit) in
     let stays = raised-stays raised own changed step front to forward in
@@ -239,7 +236,7 @@ invalidations-raise copies before s front to invalidations key same forward are 
     reached : (is_active copies key ≡ true) ⊎ (is_active copies key ≡ false) → (n : ℕ) → front < n → n ≤ to → changed n ≡ true → own n ≤ invalidated_until copies invalidations key
     reached (inl active) n above within hit =
         let there : list_any (is_invalidation key n) invalidations ≡ true =
-        are key n (was active) ∙ ap₂ (λ (b c : Bool). (b && c) && is_changed key s.journal n) (lt-ltb front n above) (le-leb n to within) ∙ hit in
+        are key n (records active) ∙ ap₂ (λ (b c : Bool). (b && c) && is_changed key s.journal n) (lt-ltb front n above) (le-leb n to within) ∙ hit in
         let most = any-most copies key n invalidations there in
         let is = below-until copies s key n same in
         omega (arith, most, is)
@@ -254,7 +251,7 @@ invalidations-raise copies before s front to invalidations key same forward are 
         let k_is : key ≡ m.key = (same_key-Decides key m.key).0 hit in
         let invalidation : is_invalidation key m.commit m ≡ true = ap₂ (λ (a b : Bool). a && b) hit (eq-eqb m.commit m.commit refl) in
         let there : list_any (is_invalidation key m.commit) invalidations ≡ true = any-own (is_invalidation key m.commit) invalidations k d low invalidation in
-        let parts = both-parts (nat_lt front m.commit) (nat_le m.commit to) (is_changed key s.journal m.commit) (sym (are key m.commit (was active)) ∙ there) in
+        let parts = both-parts (nat_lt front m.commit) (nat_le m.commit to) (is_changed key s.journal m.commit) (sym (are key m.commit (records active)) ∙ there) in
         let above = ltb-true front m.commit parts.0 in
         let least = raised-least raised own changed step to m.commit (omega (arith, above)) (leb-true m.commit to parts.1) parts.2 in
         let is = below-until copies s key m.commit same in

@@ -1,10 +1,11 @@
 -- Internal. The keys that the commits of a match invalidate.
-use Rattle.std.specs.Prelude.{◌≡◌, ℕ, ◌==◌, Bool, false, ◌&&◌, List, map, filter, Option, Some, None, IsTrue, nat_le, nat_lt, option_map}
+use Rattle.std.specs.Prelude.{◌≡◌, ℕ, ◌==◌, Bool, false, ◌&&◌, List, map, filter, Option, Some, None, nat_le, nat_lt, option_map}
 use Rattle.std.specs.List.{list_any}
 use Rattle.query_normal.specs.Keys.{same_key}
 use Rattle.query_normal.specs.declared.key.KeyShape.{KeyShape}
 use Rattle.query_normal.specs.declared.key.KeyShape.TheVariants.{Record}
-use Rattle.issued_expiries.specs.Copies.{Copy, is_active}
+use Rattle.issued_expiries.specs.Copies.{Copy}
+use Rattle.hub_model.specs.Lifetime.{is_query}
 use Rattle.hub_model.specs.Outdated.{is_changed}
 use Rattle.hub_model.specs.Until.{greatest}
 use Rattle.commit_book.specs.declared.change.Change.{Change}
@@ -20,9 +21,9 @@ is_invalidation key commit m = same_key key m.key && (m.commit == commit)
 abbrev pub is_after : ℕ → ℕ → ℕ → Bool
 is_after front to commit = nat_lt front commit && nat_le commit to
 
--- A commit invalidates an active key exactly where it comes after one commit, up to another, and changes the result of the key.
-abbrev pub AreInvalidationsOf : List Change → List Copy → ℕ → ℕ → List Invalidation → Type 0
-AreInvalidationsOf journal copies front to invalidations = (key : KeyShape) (commit : ℕ) → IsTrue (is_active copies key) → list_any (is_invalidation key commit) invalidations ≡ (is_after front to commit && is_changed key journal commit)
+-- A commit invalidates the key of a record exactly where it comes after one commit, up to another, and changes the result of the key.
+abbrev pub AreInvalidationsOf : List Change → ℕ → ℕ → List Invalidation → Type 0
+AreInvalidationsOf journal front to invalidations = (key : KeyShape) (commit : ℕ) → is_query key ≡ false → list_any (is_invalidation key commit) invalidations ≡ (is_after front to commit && is_changed key journal commit)
 
 -- the key of the record that a change is of
 abbrev pub key_of : Change → KeyShape

@@ -4,6 +4,7 @@ pub mod CopiesView
 pub mod HubState
 pub mod Invalidations
 pub mod PageRoom
+pub mod QueryRows
 pub use Rattle.flat_snapshot.specs.PageText
 pub use Rattle.hub_model.specs.Legal
 pub use Rattle.hub_model.specs.Record

@@ -4,14 +4,15 @@ ghost use Rattle.issued_expiries.specs.Copies.{SameCopies, is_active, unexpired}
 ghost use Rattle.query_normal.specs.Bits.{flat_bits};
 ghost use Rattle.query_normal.specs.Keys.{same_key};
 ghost use Rattle.query_normal.specs.declared.key.KeyShape.{KeyShape as AKey};
+ghost use Rattle.hub_model.specs.Lifetime.{is_query};
 ghost use Rattle.hub_model.specs.Record.{bits_of};
-ghost use Rattle.hub_core.specs.CopiesView.{no_copies, may_issue, while_later, until_in, until_below, is_idle, is_invalidated, invalidated_keys, AreInvalidated, IsReadyFor, IsInvalidationReserved, CanInvalidate};
+ghost use Rattle.hub_core.specs.CopiesView.{no_copies, may_issue, while_later, until_in, until_below, is_idle, is_invalidated, invalidated_keys, AreInvalidated, AreOfRecords, IsReadyFor, IsInvalidationReserved, CanInvalidate};
 
 use crate::config::Config;
 use expiring_filter::CountingFilter;
 use issued_expiries::Expiries;
 use q_base::{Commit, Memory, Moment};
-use query_normal::Key;
+use query_normal::{Key, KeyShape};
 use std::alloc::Global;
 use std::marker::Model;
 
@@ -80,6 +81,7 @@ impl Copies {
         ensures clock { self.new.clock ≡ max self.old.clock moment }
         ensures copies { SameCopies self.new.copies (unexpired self.new.clock self.old.copies) }
         ensures outdated { (key : AKey) → until_in self.new.outdated key ≡ while_later self.new.clock (until_in self.old.outdated key) }
+        ensures records { AreOfRecords self.new.copies }
         ensures rest { self.new ≡ record self.old { clock = self.new.clock; copies = self.new.copies; outdated = self.new.outdated; idle = self.new.idle } }
     {
         self.issued.advance(moment);
@@ -110,11 +112,13 @@ impl Copies {
         self.issued.reserve(key)
     }
 
-    /// Whether a copy of a key may be issued: the key is active, or one key more may be.
+    /// Whether a copy of a key may be issued: the key is that of a record, and it is active, or one key
+    /// more may be.
     pub fn may_issue(&self, key: &Key) -> bool
         ensures { result ≡ may_issue self.now key.now }
     {
-        self.issued.active_count() < self.config.active() || self.issued.active(key)
+        is_record(key)
+            && (self.issued.active_count() < self.config.active() || self.issued.active(key))
     }
 
     /// Issues a copy of a key for a lifetime, and none where that is 0. The key is not ready any
@@ -188,5 +192,15 @@ impl Copies {
         ensures len { 8 * length result.now ≡ 2 ^ self.now.setting.log2_bits }
     {
         self.outdated.bits()
+    }
+}
+
+/// Whether the key is that of a record.
+fn is_record(key: &Key) -> bool
+    ensures { result ≡ not (is_query key.now) }
+{
+    match key.shape() {
+        KeyShape::Record { .. } => true,
+        KeyShape::Query { .. } => false,
     }
 }

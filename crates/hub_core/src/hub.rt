@@ -1,6 +1,7 @@
 //! The hub.
 ghost use Rattle.std.specs.Prelude.{◌≡◌, ◌<◌, ◌≤◌, ◌++◌, ◌∷◌, [], length, option_map, Some, true, IfOk, OnOk, OnErr};
 ghost use Rattle.hub_model.specs.declared.entry.Entry.TheVariants.{Write, Read, Match, Fetch, Tick};
+ghost use Rattle.query_normal.specs.declared.key.KeyShape.TheVariants.{Record};
 ghost use Rattle.commit_book.specs.Journal.{document_at};
 ghost use Rattle.hub_model.specs.Journal.{result_at};
 ghost use Rattle.hub_model.specs.Known.{known_at};
@@ -17,9 +18,10 @@ use crate::config::Config;
 use crate::copies::Copies;
 use crate::invalidations::{invalidate_all, reserve_invalidations};
 use crate::page_room::{Numbers, PageRoom};
+use crate::query_outcome::query_outcome;
 use commit_book::{Book, BookRefusal};
 use hub_model::{Answer, Change, Condition, Found, Matched, Outcome, Stats, Tags, Written};
-use q_base::{Commit, Memory, Moment};
+use q_base::{Commit, Memory, Moment, Name};
 use query_normal::{Key, KeyShape};
 use std::alloc::Global;
 use std::marker::Model;
@@ -116,7 +118,7 @@ impl Hub {
     }
 
     /// Reads the result of a key at the last commit, as one entry. A result that the caller knows by its
-    /// tags is neither printed nor copied.
+    /// tags is neither printed nor copied. A copy is issued of a record's result only.
     pub fn read(&mut self, moment: Moment, key: &Key, tags: &Tags) -> Result<Answer, Memory>
         // What Ok means.
         ensures last { IfOk result (λ a. a.commit ≡ self.old.commits) }
@@ -129,7 +131,7 @@ impl Hub {
         ensures lean { IsLean self.new }
     {
         let commit = self.book.count();
-        let result = outcome_at(&self.book, commit, key, tags)?;
+        let result = outcome_at(self.alloc, &self.book, commit, key, tags)?;
         self.copies.reserve(key)?;
         pass(&mut self.copies, moment);
         let ttl = lifetime(&self.copies, key);
@@ -280,15 +282,38 @@ fn found(book: &Book, change: &Change) -> Found
 }
 
 /// The outcome of a read of a key at a commit, of a caller with these tags: the commit by which it knows
-/// the result, or the text that the book keeps, which is shared.
-#[tactic(auto, using(crate::proofs::OutcomeLemmas::outcome_rules))]
-fn outcome_at(book: &Book, commit: Commit, key: &Key, tags: &Tags) -> Result<Outcome, Memory>
+/// the result, or the text of the result.
+fn outcome_at(
+    alloc: Global,
+    book: &Book,
+    commit: Commit,
+    key: &Key,
+    tags: &Tags,
+) -> Result<Outcome, Memory>
     requires { commit ≤ length book.now.journal }
     ensures { IfOk result (λ o. o ≡ outcome_of (result_at key.now book.now.journal commit) (known_at key.now book.now.journal commit tags.now)) }
 {
-    let KeyShape::Record { collection, id } = key.shape() else {
-        return Ok(Outcome::Absent);
-    };
+    match key.shape() {
+        KeyShape::Record { collection, id } => record_outcome(book, commit, collection, id, tags),
+        KeyShape::Query { kind, normal } => {
+            query_outcome(alloc, book, commit, *kind, normal.query(), tags)
+        }
+    }
+}
+
+/// The outcome of a read of a record at a commit: the commit by which the caller knows the document, or
+/// the text that the book keeps, which is shared.
+#[tactic(auto, using(crate::proofs::OutcomeLemmas::outcome_rules))]
+fn record_outcome(
+    book: &Book,
+    commit: Commit,
+    collection: &Name,
+    id: &Name,
+    tags: &Tags,
+) -> Result<Outcome, Memory>
+    requires { commit ≤ length book.now.journal }
+    ensures { IfOk result (λ o. o ≡ outcome_of (result_at (Record collection.now id.now) book.now.journal commit) (known_at (Record collection.now id.now) book.now.journal commit tags.now)) }
+{
     let Some((version, text)) = book.text_at(commit, collection, id) else {
         return Ok(Outcome::Absent);
     };

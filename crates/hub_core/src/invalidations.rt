@@ -30,7 +30,7 @@ pub fn reserve_invalidations(
 ) -> Result<Vec<Invalidation>, Memory>
     requires forward { front ≤ to }
     requires within { to ≤ length book.now.journal }
-    ensures invalidations { IfOk result (λ invalidations. AreInvalidationsOf book.now.journal copies.new.copies front to invalidations.items) }
+    ensures invalidations { IfOk result (λ invalidations. AreInvalidationsOf book.now.journal front to invalidations.items) }
     ensures reserved { IfOk result (λ invalidations. All (λ m. IsInvalidationReserved copies.new m.key) invalidations.items) }
     ensures rest { copies.new ≡ record copies.old { invalidatable = copies.new.invalidatable } }
 {

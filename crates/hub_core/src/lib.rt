@@ -7,6 +7,7 @@ mod hub;
 mod invalidations;
 mod laws;
 mod page_room;
+mod query_outcome;
 
 pub use config::{Config, ConfigRefusal};
 pub use hub::Hub;

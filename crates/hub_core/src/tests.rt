@@ -9,7 +9,8 @@ use flat_snapshot::{set_bit, write_head};
 use hub_model::{Change, Commits, Condition, Found, Outcome, Tags, Written};
 use q_base::{Moment, Name};
 use q_doc::Doc;
-use query_normal::Key;
+use query_core::{Filter, Form, Kind, Order, Query};
+use query_normal::{Key, normal};
 use std::alloc::Global;
 use std::test::Fail;
 
@@ -389,15 +390,73 @@ fn told(alloc: Global, hub: &mut Hub, listed: &[u64]) -> Result<Option<(u64, Opt
     })
 }
 
+/// What a reader is told of the record p1 that lists these commits.
+type Told = (&'static [u64], Option<(u64, Option<u64>)>);
+
 /// Behind seven commits, of which 1 and 4 put p1, and the others p2.
+const TOLD: &[Told] = &[
+    (&[3, 5], Some((5, Some(4)))),
+    (&[4, 6, 5, 8], Some((6, Some(4)))),
+    (&[3, 8], None),
+    (&[], None),
+];
+
+/// Whether each reader is told what it knows.
+fn are_told(alloc: Global, hub: &mut Hub, cases: &[Told]) -> Result<bool, Fail> {
+    for case in cases {
+        if told(alloc, hub, case.0)? != case.1 {
+            return Ok(false);
+        }
+    }
+    Ok(true)
+}
+
 #[test]
 fn a_reader_is_told_the_greatest_commit_that_it_knows(rt: HostRuntime) -> Result<(), Fail> {
     let alloc = rt.alloc();
     let mut hub = Hub::new(alloc, Config::default())?;
     write_all(alloc, &mut hub, b"1221222")?;
-    assert_eq!(rt; told(alloc, &mut hub, &[3, 5])?, Some((5, Some(4))));
-    assert_eq!(rt; told(alloc, &mut hub, &[4, 6, 5, 8])?, Some((6, Some(4))));
-    assert_eq!(rt; told(alloc, &mut hub, &[3, 8])?, None);
-    assert_eq!(rt; told(alloc, &mut hub, &[])?, None);
+    assert!(rt; are_told(alloc, &mut hub, TOLD)?);
+    Ok(())
+}
+
+/// The key of the query for all documents of the collection shop.
+fn query_key(alloc: Global, kind: Kind) -> Result<Key, Fail> {
+    let query = Query {
+        collection: Name::read(alloc, b"shop")?,
+        filter: Filter {
+            form: Form::Constant(true),
+        },
+        order: Order::of(Vec::new(alloc)),
+        skip: 0,
+        take: 10,
+    };
+    Ok(Key::query(alloc, kind, normal(alloc, query)?)?)
+}
+
+/// Whether a query's result has this text, which may not be kept, and is known by its commit after a
+/// further one that does not change it.
+fn is_queried(alloc: Global, hub: &mut Hub, kind: Kind, text: &[u8]) -> Result<bool, Fail> {
+    let key = query_key(alloc, kind)?;
+    let mut tags = Commits::new(alloc);
+    let first = hub.read(Moment::of(100), &key, &Tags::Listed(tags.clone()?))?;
+    write(alloc, hub, b'3', None, Asks::Nothing)?;
+    tags.push(first.commit)?;
+    let next = hub.read(Moment::of(100), &key, &Tags::Listed(tags))?;
+    let is_known = match next.result {
+        Outcome::Same { tag, version: None } => tag == first.commit,
+        _ => false,
+    };
+    Ok(first.ttl == 0 && is_text(&first.result, text) && is_known)
+}
+
+#[test]
+fn queries_are_answered_by_the_kept_texts(rt: HostRuntime) -> Result<(), Fail> {
+    let alloc = rt.alloc();
+    let mut hub = Hub::new(alloc, Config::default())?;
+    write_all(alloc, &mut hub, b"1")?;
+    let objects = br#"[{"doc":{"a":1},"id":"p1","version":1}]"#;
+    assert!(rt; is_queried(alloc, &mut hub, Kind::Objects, objects)?);
+    assert!(rt; is_queried(alloc, &mut hub, Kind::Ids, br#"["p1"]"#)?);
     Ok(())
 }

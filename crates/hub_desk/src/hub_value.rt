@@ -25,11 +25,12 @@ pub struct Noted {
 impl Model for Noted {
     ghost use Rattle.std.specs.Coded.{codes};
     ghost use Rattle.q_doc.specs.Code.{tree_code};
+    ghost use Rattle.query_core.specs.Code.{filter_code};
     ghost use Rattle.hub_model.specs.declared.entry.Entry.{Entry};
 
     ghost Value = { Entry };
 
-    ghost coded = { Prim.hlevel (codes, tree_code) };
+    ghost coded = { Prim.hlevel (codes, tree_code, filter_code) };
 
     ghost view = { λ n. n.entry };
 }
@@ -45,11 +46,12 @@ pub struct HubValue {
 impl Model for HubValue {
     ghost use Rattle.std.specs.Coded.{codes};
     ghost use Rattle.q_doc.specs.Code.{tree_code};
+    ghost use Rattle.query_core.specs.Code.{filter_code};
     ghost use Rattle.hub_desk.specs.HubValue.{HubValueView};
 
     ghost Value = { HubValueView };
 
-    ghost coded = { Prim.hlevel (codes, tree_code) };
+    ghost coded = { Prim.hlevel (codes, tree_code, filter_code) };
 
     ghost view = { λ v. record {
       hub = v.hub.value;

@@ -10,6 +10,7 @@ pub mod Known
 mod LaterStates
 mod Moves
 mod CopiesOfReads
+pub mod Queries
 pub mod Recorded
 pub mod Results
 mod Rows

@@ -1,22 +1,48 @@
 -- Results of keys in a journal.
-use Rattle.std.proofs.Common.{◌∙◌, sym, ◌≡◌, ◌≢◌, ℕ, zero, suc, ◌<◌, ◌≤◌, true, not, ◌&&◌, ◌==◌, List, [], ◌∷◌, ◌++◌, length, refl, ap, ap₂, inl, inr, arith, subst}
-use Rattle.std.specs.Prelude.{slice_get, nat_lt}
+use Rattle.std.proofs.Common.{◌∙◌, sym, ◌≡◌, ◌≢◌, ℕ, zero, suc, ◌<◌, ◌≤◌, true, not, ◌&&◌, ◌==◌, List, ◌++◌, length, refl, ap, ap₂, inl, inr, arith, subst}
+use Rattle.std.specs.Prelude.{nat_lt, bytes_eq}
 use Rattle.std.specs.Bool.{Decides}
 use Rattle.std.specs.Ordering.{eq_by_cmp}
 use Rattle.std.proofs.lemmas.Bool.{cases_Bool, cases_lt, and_parts, or_cases, or_left, or_right, and_from, lt-ltb, ltb-true, not-true, not_from_false, both_ways}
 use Rattle.std.proofs.lemmas.Bool.Decides.{Decides-eqb}
+use Rattle.std.proofs.lemmas.Slice.Eq.{bytes_eq-Decides, slice_eq-Decides}
+use Rattle.std.specs.Cmp.Lexicographic.{pointwise}
 use Rattle.q_doc.specs.Order.{tree_cmp}
 use Rattle.q_doc.specs.OrderLaws.{tree_eq-Decides}
+use Rattle.q_doc.specs.Tree.{Tree}
 use Rattle.query_normal.specs.declared.key.KeyShape.{KeyShape}
 use Rattle.query_normal.specs.declared.key.KeyShape.TheVariants.{Record, Query}
 use Rattle.query_normal.specs.SameKey.{both, decides_whole}
 use Rattle.commit_book.specs.declared.change.Change.{Change}
-use Rattle.commit_book.specs.Journal.{document_at, document_after}
-use Rattle.hub_model.specs.Journal.{Finding, absent, present, document_finding, result_at, same_finding}
+use Rattle.commit_book.specs.Documents.{Row}
+use Rattle.commit_book.proofs.GrowLemmas.{document_prefix, docs_prefix}
+use Rattle.query_core.specs.Window.{window}
+use Rattle.result_kinds.specs.Results.{QueryResult, objects, ids, result_of}
+use Rattle.hub_model.specs.Journal.{Finding, absent, present, queried, document_finding, result_at, same_row, same_queried, same_finding}
 use Rattle.hub_model.specs.Outdated.{IsOutdated, is_outdated}
 use Rattle.hub_model.proofs.Moves.{IsDecided}
 
 -- ---- equality of results
+
+-- a version and a document
+same_document-Decides : (v w : ℕ) (t u : Tree) → Decides (v == w && eq_by_cmp tree_cmp t u) (◌≡◌ {A = ℕ × Tree} (v, t) (w, u))
+same_document-Decides v w t u =
+    decides_whole (v == w && eq_by_cmp tree_cmp t u) (both (v == w) (eq_by_cmp tree_cmp t u) (Decides-eqb v w) (tree_eq-Decides t u))
+    (λ e j. (e.0 j, e.1 j)) (λ e. (ap (λ (d : ℕ × Tree). d.0) e, ap (λ (d : ℕ × Tree). d.1) e))
+
+-- a row
+same_row-Decides : (a b : Row) → Decides (same_row a b) (a ≡ b)
+same_row-Decides a b =
+    decides_whole (same_row a b) (both (bytes_eq a.0 b.0) (a.1 == b.1 && eq_by_cmp tree_cmp a.2 b.2) (bytes_eq-Decides a.0 b.0) (same_document-Decides a.1 b.1 a.2 b.2))
+    (λ e j. (e.0 j, (e.1 j).0, (e.1 j).1)) (λ e. (ap (λ (r : Row). r.0) e, ap (λ (r : Row). (r.1, r.2)) e))
+
+-- the result of a query
+pub same_queried-Decides : (a b : QueryResult) → Decides (same_queried a b) (a ≡ b)
+same_queried-Decides (objects rows) (objects others) =
+    decides_whole (pointwise same_row rows others) (slice_eq-Decides same_row-Decides rows others (pointwise same_row rows others) refl) (ap objects) (λ e. let h : rows ≡ others = cc in h)
+same_queried-Decides (ids names) (ids others) =
+    decides_whole (pointwise bytes_eq names others) (slice_eq-Decides bytes_eq-Decides names others (pointwise bytes_eq names others) refl) (ap ids) (λ e. let h : names ≡ others = cc in h)
+same_queried-Decides a b = ((λ h. cc), (λ h. cc))
 
 -- the test whether two results are equal decides it
 pub same_finding-Decides : (a b : Finding) → Decides (same_finding a b) (a ≡ b)
@@ -24,6 +50,7 @@ same_finding-Decides absent absent = ((λ _. refl), (λ _. refl))
 same_finding-Decides (present v t) (present w u) =
     decides_whole (v == w && eq_by_cmp tree_cmp t u) (both (v == w) (eq_by_cmp tree_cmp t u) (Decides-eqb v w) (tree_eq-Decides t u))
     (λ e. ap₂ present e.0 e.1) (λ e. (let h : v ≡ w = cc in h, let h : t ≡ u = cc in h))
+same_finding-Decides (queried a) (queried b) = decides_whole (same_queried a b) (same_queried-Decides a b) (ap queried) (λ e. let h : a ≡ b = cc in h)
 same_finding-Decides a b = ((λ h. cc), (λ h. cc))
 
 -- any two results of a key are equal or not
@@ -35,19 +62,9 @@ result_at_decided key journal n m = elim (cases_Bool (same_finding (result_at ke
 
 -- ---- a result depends on the first changes alone
 
-slice_get-append : {X : Type 0} (xs ys : List X) (n : ℕ) → n < length xs → slice_get (xs ++ ys) n ≡ slice_get xs n
-slice_get-append [] ys n within = absurd (omega (arith, within))
-slice_get-append (x ∷ xs) ys zero within = refl
-slice_get-append (x ∷ xs) ys (suc n) within = slice_get-append xs ys n (omega (arith, within))
-
-document_at-append : (journal more : List Change) (n : ℕ) (collection id : List ℕ) → n ≤ length journal → document_at (journal ++ more) n collection id ≡ document_at journal n collection id
-document_at-append journal more zero collection id within = refl
-document_at-append journal more (suc n) collection id within =
-    ap₂ (document_after collection id (suc n)) (slice_get-append journal more n (omega (arith, within))) (document_at-append journal more n collection id (omega (arith, within)))
-
 pub result_at-append : (key : KeyShape) (journal more : List Change) (n : ℕ) → n ≤ length journal → result_at key (journal ++ more) n ≡ result_at key journal n
-result_at-append (Record collection id) journal more n within = ap document_finding (document_at-append journal more n collection id within)
-result_at-append (Query kind normal) journal more n within = refl
+result_at-append (Record collection id) journal more n within = ap document_finding (document_prefix journal more n collection id within)
+result_at-append (Query kind normal) journal more n within = ap (λ (rows : List Row). queried (result_of kind (window normal rows))) (docs_prefix journal more n normal.collection within)
 
 -- ---- the test of what is outdated
 

@@ -1,12 +1,17 @@
 -- Worked histories, computed from the definitions alone.
-use Rattle.std.proofs.Common.{◌≡◌, ◌<◌, ◌≤◌, ℕ, ◌++◌, List, [], ◌∷◌, Some, None, true, false, pos, codes, refl, ap, arith}
+use Rattle.std.proofs.Common.{◌≡◌, ◌<◌, ◌≤◌, ℕ, ◌++◌, List, [], ◌∷◌, Some, None, true, false, pos, codes, map, refl, ap, arith}
 use Rattle.std.specs.Fmt.{digits}
 use Rattle.json.specs.Print.{escape_byte}
 use Rattle.q_doc.specs.Printed.{printed}
 use Rattle.q_doc.specs.Tree.{Tree, number, object, no_members, member}
 use Rattle.query_normal.specs.declared.key.KeyShape.{KeyShape}
-use Rattle.query_normal.specs.declared.key.KeyShape.TheVariants.{Record}
+use Rattle.query_core.specs.declared.operator.Op.TheVariants.{Equal}
+use Rattle.query_core.specs.declared.query.Kind.{Kind}
+use Rattle.query_core.specs.declared.query.Kind.TheVariants.{Objects, Ids}
+use Rattle.query_core.specs.Filters.{compared}
+use Rattle.query_normal.specs.declared.key.KeyShape.TheVariants.{Record, Query}
 use Rattle.query_normal.specs.Pages.{Page}
+use Rattle.result_kinds.specs.Results.{ids}
 use Rattle.commit_book.specs.declared.change.Change.{Change}
 use Rattle.commit_book.specs.Journal.{cost_of}
 use Rattle.hub_model.specs.declared.entry.Condition.{Condition}
@@ -26,7 +31,7 @@ use Rattle.hub_model.specs.State.{IssuedCopy, start, at_moment}
 use Rattle.hub_model.specs.Copies.{active_keys}
 use Rattle.hub_model.specs.Legal.{IsLegal}
 use Rattle.hub_model.specs.Reply.{Replied, reply, wrote, read, matched, fetched}
-use Rattle.hub_model.specs.Journal.{absent, present, result_at}
+use Rattle.hub_model.specs.Journal.{absent, present, queried, result_at, same_finding}
 use Rattle.hub_model.specs.Lifetime.{ttl_of}
 use Rattle.hub_model.specs.Outdated.{is_outdated}
 
@@ -260,3 +265,54 @@ capacities : (reply (few_bytes 154) (Write 100 (put_p1 1) Always ∷ []) (Write 
     × (reply (few_bytes 153) (Write 100 (put_p1 1) Always ∷ []) (Write 100 (put_p2 2) Present) ≡ wrote (Precondition Missing 100))
 unfolding state_of reply cost_of digits escape_byte
 capacities = (refl, refl, refl, refl)
+
+-- ---- what a query finds, and its reader knows
+
+-- `a = 1` in the collection shop
+abbrev where_a_is_1 : Kind → KeyShape
+where_a_is_1 kind = Query kind (record { collection = codes "shop"; filter = compared (codes "a" ∷ []) Equal (number (pos 1)); order = []; skip = 0; take = 100 })
+
+-- p1 is put, p2 beside it, the same record elsewhere, and p1 again
+abbrev four : List Change
+four = put_p1 1 ∷ put_p2 2 ∷ put_elsewhere 1 ∷ put_p1 1 ∷ []
+
+query_results : (result_at (where_a_is_1 Ids) four 0 ≡ queried (ids []))
+    × (result_at (where_a_is_1 Ids) four 1 ≡ queried (ids (codes "p1" ∷ [])))
+    × (result_at (where_a_is_1 Ids) four 4 ≡ queried (ids (codes "p1" ∷ [])))
+    × (result_at (where_a_is_1 Ids) (four ++ delete_p1 ∷ []) 5 ≡ queried (ids []))
+query_results = (refl, refl, refl, refl)
+
+-- commit 4 put an equal document again: another result of the documents, and the same of their ids
+query_changes : (same_finding (result_at (where_a_is_1 Objects) four 1) (result_at (where_a_is_1 Objects) four 3) ≡ true)
+    × (same_finding (result_at (where_a_is_1 Objects) four 1) (result_at (where_a_is_1 Objects) four 4) ≡ false)
+    × (same_finding (result_at (where_a_is_1 Ids) four 1) (result_at (where_a_is_1 Ids) four 4) ≡ true)
+    × (is_outdated (where_a_is_1 Objects) 1 four 4 ≡ true)
+    × (is_outdated (where_a_is_1 Ids) 1 four 4 ≡ false)
+query_changes = (refl, refl, refl, refl, refl)
+
+-- these commits, of a caller that then reads the query with these tags
+abbrev told_at_4 : Kind → Tags → Replied
+told_at_4 kind tags = reply sixty (map (λ change. Write 100 change Always) four) (Read 100 (where_a_is_1 kind) tags 4)
+
+abbrev answer_at_4 : Outcome → Replied
+answer_at_4 result = read (record { commit = 4; clock = 100; ttl = 0; result = result })
+
+query_replies : (told_at_4 Ids (Listed []) ≡ answer_at_4 (Whole (codes "[\"p1\"]") None))
+    × (told_at_4 Objects (Listed []) ≡ answer_at_4 (Whole (codes "[{\"doc\":{\"a\":1},\"id\":\"p1\",\"version\":4}]") None))
+    × (told_at_4 Ids (Listed (0 ∷ 2 ∷ 3 ∷ [])) ≡ answer_at_4 (Same 3 None))
+    × (told_at_4 Objects (Listed (0 ∷ 2 ∷ 3 ∷ [])) ≡ answer_at_4 (Whole (codes "[{\"doc\":{\"a\":1},\"id\":\"p1\",\"version\":4}]") None))
+    × (told_at_4 Objects Any ≡ answer_at_4 (Same 4 None))
+unfolding state_of reply cost_of digits escape_byte
+query_replies = (refl, refl, refl, refl, refl)
+
+-- at commit 1, as a caller that has put p1 alone reads it
+first_query : (reply sixty (Write 100 (put_p1 1) Always ∷ []) (Read 100 (where_a_is_1 Objects) (Listed []) 1) ≡ read (record { commit = 1; clock = 100; ttl = 0; result = Whole (codes "[{\"doc\":{\"a\":1},\"id\":\"p1\",\"version\":1}]") None }))
+    × (reply sixty [] (Read 100 (where_a_is_1 Ids) (Listed []) 0) ≡ read (record { commit = 0; clock = 100; ttl = 0; result = Whole (codes "[]") None }))
+unfolding state_of reply cost_of digits escape_byte
+first_query = (refl, refl)
+
+-- a reply to a query is no active key, and takes no place of one
+query_lifetimes : (active_keys (state_of (few_active 1) (Read 100 (where_a_is_1 Ids) (Listed []) 0 ∷ [])) ≡ [])
+    × (ttl_of (few_active 1) (state_of (few_active 1) (Read 100 (where_a_is_1 Ids) (Listed []) 0 ∷ [])) p1 0 ≡ 60)
+unfolding state_of cost_of digits escape_byte
+query_lifetimes = (refl, refl)

@@ -16,13 +16,14 @@ use Rattle.hub_model.specs.declared.entry.Stats.{Stats}
 use Rattle.hub_model.specs.declared.entry.Tags.{Tags}
 use Rattle.hub_model.specs.declared.entry.Written.{Written}
 use Rattle.hub_model.specs.declared.entry.Written.TheVariants.{Done, Precondition, Full}
-use Rattle.hub_model.specs.Journal.{Finding, absent, present, result_at}
+use Rattle.hub_model.specs.Journal.{Finding, absent, present, queried, result_at}
 use Rattle.hub_model.specs.Known.{known_at}
 use Rattle.hub_model.specs.Lifetime.{ttl_of}
 use Rattle.hub_model.specs.Record.{page_of}
 use Rattle.hub_model.specs.Setting.{Setting}
 use Rattle.hub_model.specs.State.{State, at_moment}
 use Rattle.hub_model.specs.Step.{found_now, is_met, has_matched, state_of}
+use Rattle.result_kinds.specs.Results.{text_of_result}
 
 -- What the hub replies to a caller.
 pub data Replied : Type 0 where
@@ -44,6 +45,8 @@ abbrev pub outcome_of : Finding → Option ℕ → Outcome
 outcome_of absent known = Absent
 outcome_of (present version tree) (Some tag) = Same tag (Some version)
 outcome_of (present version tree) None = Whole (printed tree) (Some version)
+outcome_of (queried result) (Some tag) = Same tag None
+outcome_of (queried result) None = Whole (text_of_result result) None
 
 -- the reply to a read at a commit, in a state whose clock is that of the read
 abbrev pub answered : Setting → KeyShape → Tags → ℕ → State → Answer

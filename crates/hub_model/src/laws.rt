@@ -1,10 +1,13 @@
 //! What follows of histories from the definitions alone. Each function states one law, and does
 //! nothing.
-ghost use Rattle.std.specs.Prelude.{◌≡◌, ◌≢◌, ◌↔◌, ◌+◌, ◌<◌, ◌≤◌, ℕ, Bool, true, suc, max, List, [], ◌∷◌, ◌++◌, length, Option, Some, None, IsTrue, Contains, slice_get, is_some, nat_lt, ◌&&◌, ◌||◌, if◌then◌else◌};
+ghost use Rattle.std.specs.Prelude.{◌≡◌, ◌≢◌, ◌↔◌, ◌+◌, ◌<◌, ◌≤◌, ℕ, Bool, true, false, suc, max, List, [], ◌∷◌, ◌++◌, length, Option, Some, None, IsTrue, Contains, slice_get, is_some, nat_lt, ◌&&◌, ◌||◌, if◌then◌else◌};
 ghost use Rattle.std.specs.Bool.{Decides};
-ghost use Rattle.std.specs.List.{list_any, IsDistinct};
+ghost use Rattle.std.specs.List.{list_any, All, IsDistinct};
 ghost use Rattle.std.specs.List.Sorted.{IsPermutation};
 ghost use Rattle.q_doc.specs.Tree.{Tree};
+ghost use Rattle.query_core.specs.declared.query.Kind.{Kind as AKind};
+ghost use Rattle.query_core.specs.declared.query.Query.{Query as AQuery};
+ghost use Rattle.query_core.specs.Window.{window};
 ghost use Rattle.query_normal.specs.declared.key.KeyShape.{KeyShape};
 ghost use Rattle.query_normal.specs.Keys.{same_key};
 ghost use Rattle.query_normal.specs.Pages.{is_set, page_holds, positions};
@@ -18,13 +21,15 @@ ghost use Rattle.hub_model.specs.declared.entry.Tags.TheVariants.{Listed};
 ghost use Rattle.hub_model.specs.Copies.{IsActive, live, active_keys, is_active};
 ghost use Rattle.hub_model.specs.Desk.{IsPrefix};
 ghost use Rattle.hub_model.specs.Direct.{clock_of, front_of, found_behind, IsMet, IsAccepted, IsEqualAtOne, IsJournalOf, IsRead};
+ghost use Rattle.commit_book.specs.Documents.{docs};
 ghost use Rattle.commit_book.specs.Journal.{is_of, document_at};
+ghost use Rattle.result_kinds.specs.Same.{same_result};
 ghost use Rattle.hub_model.specs.Journal.{Finding, result_at, same_finding};
 ghost use Rattle.hub_model.specs.Known.{known_at};
 ghost use Rattle.hub_model.specs.KnownSince.{known_since, IsGreatestSame};
 ghost use Rattle.hub_model.specs.Later.{IsLater};
 ghost use Rattle.hub_model.specs.Legal.{MayFollow, IsLegalFrom, IsLegal};
-ghost use Rattle.hub_model.specs.Lifetime.{ttl_of};
+ghost use Rattle.hub_model.specs.Lifetime.{is_query, ttl_of};
 ghost use Rattle.hub_model.specs.Outdated.{IsOutdated, IsChangedAfter, is_outdated, is_changed};
 ghost use Rattle.hub_model.specs.Record.{IsRecorded, is_recorded, record_of, outdated_copies, bits_of, page_of};
 ghost use Rattle.hub_model.specs.Setting.{Setting};
@@ -89,6 +94,23 @@ pub fn bits_are_of_recorded_keys()
 /// The page holds each key in the record.
 pub fn page_holds_recorded_keys()
     ensures { (g : Setting) (s : State) (key : KeyShape) → IsRecorded s key → IsTrue (page_holds (page_of g s) key) }
+{}
+
+// What holds of queries.
+
+/// The results of a query at two commits are equal exactly where its windows there have the same ids and
+/// versions in order, or for one of ids the same ids.
+pub fn query_results_are_told_by_versions()
+    ensures { (kind : AKind) (normal : AQuery) (journal : List AChange) (n m : ℕ) → same_finding (result_at (KeyShape.Query kind normal) journal n) (result_at (KeyShape.Query kind normal) journal m) ≡ same_result kind (window normal (docs journal n normal.collection)) (window normal (docs journal m normal.collection)) }
+{}
+
+/// A reply to a query may not be kept, so that a read of one leaves the unexpired copies as they are; none
+/// is of a query, and every active key is a record's.
+pub fn queries_are_not_issued()
+    ensures lifetime { (g : Setting) (s : State) (kind : AKind) (normal : AQuery) (at : ℕ) → ttl_of g s (KeyShape.Query kind normal) at ≡ 0 }
+    ensures reads { (g : Setting) (s : State) (kind : AKind) (normal : AQuery) (at : ℕ) → live (has_read g (KeyShape.Query kind normal) at s) ≡ live s }
+    ensures copies { (g : Setting) (history : List AnEntry) → All (λ r. is_query r.key ≡ false) (live (state_of g history)) }
+    ensures active { (g : Setting) (history : List AnEntry) (key : KeyShape) → IsTrue (is_active (state_of g history) key) → is_query key ≡ false }
 {}
 
 // What a history comes to, said of its entries.

@@ -206,3 +206,8 @@ pub popped_inactive : (o : Option KeyShape) (clock : ℕ) (entries : Entries) (i
     IfSome o (λ key. is_active (held_of clock entries) key ≡ false)
 popped_inactive None clock entries idle distinct unexpired gone there = tt
 popped_inactive (Some key) clock entries idle distinct unexpired gone there = active_kept clock entries key distinct unexpired ∙ ap (λ (o : Option KeptCopies). is_some o) (gone key there)
+
+-- of a copy that has expired no key is taken from the idle ones
+pub idle_kept : (k late i : Bool) → late ≡ false → i ≡ (not (k && late) && i)
+idle_kept true late i early = sym (ap (λ (b : Bool). not b && i) early)
+idle_kept false late i early = refl

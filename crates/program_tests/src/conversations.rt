@@ -2,7 +2,7 @@
 
 use crate::calls::{AMPLE, WHOLE, assert_run, calls_of, pipe_over};
 use crate::texts::{Row, reply_of};
-use crate::worked::{EMPTY, GET_AGAIN, NO_STORE, PUT, PUT_EXPECTING, STORED, UNCHANGED};
+use crate::worked::{EMPTY, NO_STORE, PUT_EXPECTING};
 use quaestor_prog::Status;
 use std::test::Fail;
 
@@ -190,10 +190,10 @@ fn requests_of_one_connection_have_their_replies(rt: HostRuntime) -> Result<(), 
             b"{\"error\":\"bad_target\"}",
         ),
         (
-            b"GET /v1/q/shop HTTP/1.1\r\nHost: a\r\n\r\n",
-            b"HTTP/1.1 501 Not Implemented",
+            b"GET /v1/q/shop?f=a+%3D HTTP/1.1\r\nHost: a\r\n\r\n",
+            b"HTTP/1.1 400 Bad Request",
             NO_STORE,
-            b"{\"error\":\"not_built\"}",
+            b"{\"error\":\"bad_filter\",\"field\":\"f\",\"place\":3,\"reason\":\"syntax\"}",
         ),
         (
             b"GET /v1/purges HTTP/1.1\r\nHost: a\r\n\r\n",
@@ -224,38 +224,5 @@ fn requests_of_one_connection_have_their_replies(rt: HostRuntime) -> Result<(), 
         let outcome = pipe_over(&rt, &input, calls_of(size), AMPLE, calls_of(WHOLE))?;
         assert_run(&rt, &outcome, Status::Done, &written, size);
     }
-    Ok(())
-}
-
-/// The head of a request of p1 whose client takes whichever document there is.
-const HEAD_OF_ANY: &[u8] = b"HEAD /v1/d/shop/p1 HTTP/1.1\r\nHost: a\r\nIf-None-Match: *\r\n\r\n";
-
-/// The same document under another name, as commit 2, and under its own again, as commit 3.
-const OTHERS: [&[u8]; 2] = [
-    b"PUT /v1/d/shop/p2 HTTP/1.1\r\nHost: a\r\nContent-Length: 7\r\n\r\n{\"a\":1}",
-    PUT,
-];
-
-/// The replies to what follows the first reading.
-const AFTER: &[u8] =
-    b"HTTP/1.1 200 OK\r\nDate: Thu, 01 Jan 1970 00:01:40 GMT\r\nContent-Type: application/json\r\nContent-Length: 12\r\nCache-Control: no-store\r\nQuaestor-Commit: 3\r\n\r\n{\"commit\":3}HTTP/1.1 200 OK\r\nDate: Thu, 01 Jan 1970 00:01:40 GMT\r\nContent-Type: application/json\r\nContent-Length: 7\r\nETag: \"3\"\r\nCache-Control: max-age=3600\r\nQuaestor-Commit: 3\r\nQuaestor-Version: 3\r\nQuaestor-Until: 3700\r\n\r\n{\"a\":1}HTTP/1.1 304 Not Modified\r\nDate: Thu, 01 Jan 1970 00:01:40 GMT\r\nETag: \"3\"\r\nCache-Control: max-age=3600\r\nQuaestor-Commit: 3\r\nQuaestor-Version: 3\r\nQuaestor-Until: 3700\r\n\r\n";
-
-#[test]
-fn a_client_that_has_a_document_is_told_so_until_it_is_put_again(
-    rt: HostRuntime,
-) -> Result<(), Fail> {
-    let [other, again] = OTHERS;
-    let mut input = Vec::new(rt.alloc());
-    for request in [PUT, other, GET_AGAIN, again, GET_AGAIN, HEAD_OF_ANY] {
-        input.extend_from_slice(request)?;
-    }
-    let mut written = Vec::new(rt.alloc());
-    let stored =
-        b"HTTP/1.1 201 Created\r\nDate: Thu, 01 Jan 1970 00:01:40 GMT\r\nContent-Type: application/json\r\nContent-Length: 12\r\nCache-Control: no-store\r\nQuaestor-Commit: 2\r\n\r\n{\"commit\":2}".as_slice();
-    for reply in [STORED, stored, UNCHANGED, AFTER] {
-        written.extend_from_slice(reply)?;
-    }
-    let outcome = pipe_over(rt.alloc(), &input, calls_of(WHOLE), AMPLE, calls_of(WHOLE))?;
-    assert_run(&rt, &outcome, Status::Done, &written, 0);
     Ok(())
 }

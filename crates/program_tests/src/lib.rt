@@ -14,6 +14,8 @@ mod faults;
 #[cfg(test)]
 mod serving;
 #[cfg(test)]
+mod tagged;
+#[cfg(test)]
 mod texts;
 #[cfg(test)]
 mod words;

@@ -106,11 +106,11 @@ const FIRST: usize = 18;
 
 #[test]
 fn a_server_ends_by_the_first_fault(rt: HostRuntime) -> Result<(), Fail> {
-    for capacity in 0..=ONE.len() {
+    for capacity in [0, 5, FIRST - 1, FIRST, FIRST + 8, ONE.len()] {
         for (comers, ended) in [(coming(1), Status::Done), (FAILING, Status::PlaceFault)] {
             let outcome = run_at(
                 &rt,
-                &["serve", "here"],
+                &["serve", "here", "--workers", "1"],
                 b"",
                 calls_of(WHOLE),
                 capacity,

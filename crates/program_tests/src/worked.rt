@@ -19,14 +19,6 @@ pub const FOUND: &[u8] =
 pub const PUT_AGAIN: &[u8] =
     b"PUT /v1/d/shop/p1 HTTP/1.1\r\nHost: a\r\nContent-Length: 7\r\n\r\n{\"a\":2}";
 
-/// The first document is read by a client that has it.
-pub const GET_AGAIN: &[u8] =
-    b"GET /v1/d/shop/p1 HTTP/1.1\r\nHost: a\r\nIf-None-Match: W/\"1\", \"x\"\r\n\r\n";
-
-/// The reply to that at commit 2, which did not change it, at the moment 100.
-pub const UNCHANGED: &[u8] =
-    b"HTTP/1.1 304 Not Modified\r\nDate: Thu, 01 Jan 1970 00:01:40 GMT\r\nETag: \"1\"\r\nCache-Control: max-age=3600\r\nQuaestor-Commit: 2\r\nQuaestor-Version: 1\r\nQuaestor-Until: 3700\r\n\r\n";
-
 /// All commits are matched.
 pub const MATCH: &[u8] = b"POST /v1/match HTTP/1.1\r\nHost: a\r\n\r\n";
 

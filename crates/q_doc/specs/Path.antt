@@ -1,4 +1,4 @@
--- Internal. The value at a path: only objects are walked.
+-- Believed. The value at a path: only objects are walked.
 use Rattle.std.specs.Prelude.{ℕ, List, [], ◌∷◌, Option, Some, None, option_and_then, if◌then◌else◌}
 use Rattle.std.specs.Str.{bytes_eq}
 use Rattle.q_doc.specs.Tree.{Tree, null, boolean, number, text, array, object, Members, no_members, member}

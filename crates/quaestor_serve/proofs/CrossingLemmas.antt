@@ -6,7 +6,7 @@ use denote.Exit.{Kept, no, if_kept, unseen}
 use denote.RattleType.{RattleType}
 use denote.Plain.{UInt}
 use denote.Param.Send.{IsSend, IsSync, Quiet, Quiet-if, sendable}
-use denote.Param.SendFields.{as_row_send, declared_send}
+use denote.Param.SendFields.{as_row_send, declared_send, declared_sync}
 use denote.Struct.Field.{row_field}
 use denote.Struct.Tuple.{TupleAt}
 use Rattle.std.proofs.Crossing.{crosses}
@@ -28,8 +28,27 @@ use Rattle.atomic_table.specs.contracts.shared.Seat as Seat
 use Rattle.q_base.proofs.name.Name.TheSendSync as TheName
 use Rattle.q_base.proofs.shared_text.SharedText.TheSendSync as TheText
 use Rattle.q_doc.proofs.node.Node.TheLaws.TheKnot as TheDocument
+use Rattle.q_doc.proofs.path.Path.TheSendSync as ThePath
 use Rattle.q_doc.specs.contracts.doc.Doc as Doc
+use Rattle.q_doc.specs.contracts.node.Node as Node
 use Rattle.q_outside.proofs.served.Served.TheSendSync as TheServed
+use Rattle.query_core.proofs.filter.Filter.TheLaws.TheKnot as TheFilter
+use Rattle.query_core.proofs.operator.Op.TheSendSync as TheOp
+use Rattle.query_core.specs.contracts.filter.Filter as Filter
+use Rattle.query_core.proofs.query.Order.TheSendSync as TheOrder
+use Rattle.query_core.specs.contracts.query.Query as Query
+use Rattle.query_normal.proofs.text.KeyText.TheSendSync as TheKeyText
+use Rattle.query_normal.specs.contracts.key.Key as Key
+use Rattle.query_normal.specs.contracts.key.KeyShape as KeyShape
+use Rattle.query_normal.specs.contracts.key.Key.TheInside as KeyInside
+use Rattle.query_normal.specs.contracts.key.Shared as KeyContent
+use Rattle.query_normal.specs.contracts.key.Shared.TheInside as KeyContentInside
+use Rattle.query_normal.specs.contracts.normal_query.Normal as Normal
+use Rattle.query_normal.specs.contracts.normal_query.Normal.TheInside as NormalInside
+use Rattle.expiring_filter.specs.contracts.filter.CountingFilter as CountingFilter
+use Rattle.expiring_map.specs.contracts.reserved.ReservedKeys as ReservedKeys
+use Rattle.issued_expiries.proofs.key_copies.KeyCopies.TheSendSync as TheKeyCopies
+use Rattle.issued_expiries.specs.contracts.expiries.Expiries as Expiries
 use Rattle.http_message.proofs.room.RequestRoom.TheSendSync as TheRequests
 use Rattle.http_front.proofs.reply.ReplyRoom.TheSendSync as TheReply
 use Rattle.http_front.proofs.routes.Route.TheSendSync as TheTarget
@@ -38,9 +57,9 @@ use Rattle.http_front.specs.contracts.routes.Routes as Routes
 use Rattle.commit_book.specs.contracts.book.Book as Book
 use Rattle.commit_book.specs.contracts.row.Reserved as Reserved
 use Rattle.commit_book.specs.contracts.row.Row as Row
-use Rattle.hub_core.proofs.copies.Copies.TheSendSync as TheCopies
 use Rattle.hub_core.proofs.page_room.PageRoom.TheSendSync as ThePages
 use Rattle.hub_core.specs.contracts.config.Config as Config
+use Rattle.hub_core.specs.contracts.copies.Copies as Copies
 use Rattle.hub_core.specs.contracts.hub.Hub as Hub
 use Rattle.turnstile.proofs.gate.Turnstile.TheSendSync as TheTurnstile
 use Rattle.turnstile.specs.contracts.gate.Turnstile as Turnstile
@@ -65,8 +84,74 @@ reserved_send = search (row_send, crosses, sendable) depth 60 fits 20000
 pub book_send : IsSend Book.the_row
 book_send = search (row_send, reserved_send, TheName.the_send, TheMap.the_send, crosses, sendable) depth 60 fits 20000
 
+-- a query holds a filter, which holds itself
+pub filter_row_send : IsSend Filter.the_row
+filter_row_send = search (TheFilter.crosses, TheDocument.crosses, ThePath.the_send, TheOp.the_send, crosses, sendable) depth 60 fits 20000
+
+pub node_sync : IsSync Node.the_row
+node_sync = search (TheDocument.crosses, crosses, sendable) depth 60 fits 20000
+
+pub filter_row_sync : IsSync Filter.the_row
+filter_row_sync = search (TheFilter.crosses, node_sync, ThePath.the_sync, TheOp.the_sync, crosses, sendable) depth 60 fits 20000
+
+pub query_send : IsSend Query.the_row
+query_send = search (filter_row_send, TheOrder.the_send, TheName.the_send, crosses, sendable) depth 60 fits 20000
+
+pub query_sync : IsSync Query.the_row
+query_sync = search (filter_row_sync, TheOrder.the_sync, TheName.the_sync, crosses, sendable) depth 60 fits 20000
+
+-- its normal form
+pub normal_inside_send : IsSend NormalInside.the_row
+normal_inside_send = declared_send NormalInside.the_type (query_send, tt)
+
+pub normal_inside_sync : IsSync NormalInside.the_row
+normal_inside_sync = declared_sync NormalInside.the_type (query_sync, tt)
+
+pub normal_send : IsSend Normal.the_row
+normal_send = search (normal_inside_send, crosses, sendable) depth 60 fits 20000
+
+pub normal_sync : IsSync Normal.the_row
+normal_sync = search (normal_inside_sync, crosses, sendable) depth 60 fits 20000
+
+pub shape_send : IsSend KeyShape.the_row
+shape_send = search (normal_send, TheName.the_send, crosses, sendable) depth 60 fits 20000
+
+pub shape_sync : IsSync KeyShape.the_row
+shape_sync = search (normal_sync, TheName.the_sync, crosses, sendable) depth 60 fits 20000
+
+-- what the clones of a key share, and the key
+pub content_inside_send : IsSend KeyContentInside.the_row
+content_inside_send = declared_send KeyContentInside.the_type (shape_send, (TheKeyText.the_send, tt))
+
+pub content_inside_sync : IsSync KeyContentInside.the_row
+content_inside_sync = declared_sync KeyContentInside.the_type (shape_sync, (TheKeyText.the_sync, tt))
+
+pub content_send : IsSend KeyContent.the_row
+content_send = search (content_inside_send, crosses, sendable) depth 60 fits 20000
+
+pub content_sync : IsSync KeyContent.the_row
+content_sync = search (content_inside_sync, crosses, sendable) depth 60 fits 20000
+
+pub key_inside_send : IsSend KeyInside.the_row
+key_inside_send = search (content_send, content_sync, crosses, sendable) depth 60 fits 20000
+
+pub key_send : IsSend Key.the_row
+key_send = search (key_inside_send, crosses, sendable) depth 60 fits 20000
+
+pub keys_send : IsSend ReservedKeys.the_row
+keys_send = search (key_send, TheMap.the_send, crosses, sendable) depth 60 fits 20000
+
+pub filter_send : IsSend CountingFilter.the_row
+filter_send = search (key_send, keys_send, TheMap.the_send, crosses, sendable) depth 60 fits 20000
+
+pub expiries_send : IsSend Expiries.the_row
+expiries_send = search (key_send, keys_send, TheMap.the_send, TheKeyCopies.the_send, crosses, sendable) depth 60 fits 20000
+
+pub copies_send : IsSend Copies.the_row
+copies_send = search (filter_send, expiries_send, crosses, sendable) depth 60 fits 20000
+
 pub hub_send : IsSend Hub.the_row
-hub_send = search (book_send, TheCopies.the_send, crosses, sendable) depth 60 fits 20000
+hub_send = search (book_send, copies_send, crosses, sendable) depth 60 fits 20000
 
 pub value_send : IsSend HubValue.the_row
 value_send = search (hub_send, crosses, sendable) depth 60 fits 20000

@@ -22,13 +22,14 @@ pub struct Finished<S: Source, K: Sink, C: Clock> {
 impl<S: Source, K: Sink, C: Clock> Model for Finished<S, K, C> {
     ghost use Rattle.std.specs.Coded.{codes};
     ghost use Rattle.q_doc.specs.Code.{tree_code};
+    ghost use Rattle.query_core.specs.Code.{filter_code};
     ghost use Rattle.quaestor_serve.specs.declared.begun.Begun.{Begun};
     ghost use Rattle.quaestor_serve.specs.declared.begun.Done.{Done};
     ghost use Rattle.quaestor_serve.specs.Kept.{KeptOf};
 
     ghost Value = { Begun S K C × Done S K };
 
-    ghost coded = { Prim.hlevel (codes, tree_code) };
+    ghost coded = { Prim.hlevel (codes, tree_code, filter_code) };
 
     ghost view = { λ f. (f.begun, f.done) };
 

@@ -137,7 +137,6 @@ same_entry g known (Ok (asks.Read key tags head)) moment e f p q fresh again may
     p.1 ∙ ap (λ (n : ℕ). Read moment key tags n) (first ∙ sym second) ∙ sym q.1
 same_entry g known (Ok asks.MatchAll) moment e f p q fresh again may might = p ∙ sym q
 same_entry g known (Ok (asks.Fetch head)) moment e f p q fresh again may might = p ∙ sym q
-same_entry g known (Ok (asks.Query collection fields tags head)) moment e f p q fresh again may might = p ∙ sym q
 same_entry g known (Ok (asks.Purges fields head)) moment e f p q fresh again may might = p ∙ sym q
 same_entry g known (Ok (asks.Stats head)) moment e f p q fresh again may might = p ∙ sym q
 same_entry g known (Err refused) moment e f p q fresh again may might = p ∙ sym q
@@ -166,7 +165,6 @@ same_told (Ok (asks.Read key tags head)) (read answer) told again page other p q
 same_told (Ok asks.MatchAll) replied told again page other p q =
     record { told_is = p.2 ∙ ap answers.Match (same_front replied p.0 q.0 p.1 q.1) ∙ sym q.2; body_is = same_body told (answers.Match p.0) page other p.2 refl }
 same_told (Ok (asks.Fetch head)) (fetched stored) told again page other p q = record { told_is = p.0 ∙ sym q.0; body_is = same_body told (answers.Page stored.moment) page other p.0 (p.1 ∙ sym q.1) }
-same_told (Ok (asks.Query collection fields tags head)) (counted stats) told again page other p q = record { told_is = p ∙ sym q; body_is = same_body told (answers.Refusal NotBuilt stats.clock) page other p refl }
 same_told (Ok (asks.Purges fields head)) (counted stats) told again page other p q = record { told_is = p ∙ sym q; body_is = same_body told (answers.Refusal NotBuilt stats.clock) page other p refl }
 same_told (Ok (asks.Stats head)) (counted stats) told again page other p q = record { told_is = p ∙ sym q; body_is = same_body told (answers.Count stats) page other p refl }
 same_told (Err refused) (counted stats) told again page other p q = record { told_is = p ∙ sym q; body_is = same_body told (answers.Refusal refused stats.clock) page other p refl }

@@ -4,7 +4,7 @@ use Rattle.flat_snapshot.specs.PageText.{page_text}
 use Rattle.http_front.specs.Asks.{ask_of, shape_of}
 use Rattle.http_front.specs.Routes.{all_routes}
 use Rattle.http_front.specs.declared.ask.Ask.{Ask}
-use Rattle.http_front.specs.declared.ask.Ask.TheVariants.{Write, Read, Query, Purges, MatchAll, Fetch, Stats}
+use Rattle.http_front.specs.declared.ask.Ask.TheVariants.{Write, Read, Purges, MatchAll, Fetch, Stats}
 use Rattle.http_front.specs.declared.refused.Refused.{Refused}
 use Rattle.http_front.specs.declared.refused.Refused.TheVariants.{Framing, NotBuilt}
 use Rattle.http_front.specs.declared.shape.Shape.{Shape}
@@ -31,13 +31,12 @@ shape_by (request m) = shape_of m
 shape_by (unframed refused called head) = record { put = false; head = head }
 
 -- the entry is the one that is asked for, at this moment, after a state; a refusal asks for a tick, and so
--- does a query or a list of purges, which is answered as not built
+-- does a list of purges, which is answered as not built
 abbrev pub IsEntryOf : Result Ask Refused → ℕ → State → Entry → Type 0
 IsEntryOf (Ok (Write change condition)) moment s e = e ≡ entries.Write moment change condition
 IsEntryOf (Ok (Read key tags head)) moment s e = (at : ℕ) × (e ≡ entries.Read moment key tags at)
 IsEntryOf (Ok MatchAll) moment s e = e ≡ matching s moment
 IsEntryOf (Ok (Fetch head)) moment s e = e ≡ entries.Fetch moment
-IsEntryOf (Ok (Query collection fields tags head)) moment s e = e ≡ entries.Tick moment
 IsEntryOf (Ok (Purges fields head)) moment s e = e ≡ entries.Tick moment
 IsEntryOf (Ok (Stats head)) moment s e = e ≡ entries.Tick moment
 IsEntryOf (Err refused) moment s e = e ≡ entries.Tick moment
@@ -48,7 +47,6 @@ IsToldOf (Ok (Write change condition)) (wrote written) told page = told ≡ answ
 IsToldOf (Ok (Read key tags head)) (read answer) told page = told ≡ answers.Read answer
 IsToldOf (Ok MatchAll) replied told page = (match : Matched) × IsFrontOf replied match × (told ≡ answers.Match match)
 IsToldOf (Ok (Fetch head)) (fetched p) told page = (told ≡ answers.Page p.moment) × (page ≡ page_text p)
-IsToldOf (Ok (Query collection fields tags head)) (counted stats) told page = told ≡ answers.Refusal NotBuilt stats.clock
 IsToldOf (Ok (Purges fields head)) (counted stats) told page = told ≡ answers.Refusal NotBuilt stats.clock
 IsToldOf (Ok (Stats head)) (counted stats) told page = told ≡ answers.Count stats
 IsToldOf (Err refused) (counted stats) told page = told ≡ answers.Refusal refused stats.clock
@@ -65,7 +63,6 @@ MayRunOut g known (Ok (Write change condition)) = is_accepted g (state_of g know
 MayRunOut g known (Ok (Read key tags head)) = Unit {0}
 MayRunOut g known (Ok MatchAll) = IsBehind (state_of g known)
 MayRunOut g known (Ok (Fetch head)) = ⊥
-MayRunOut g known (Ok (Query collection fields tags head)) = ⊥
 MayRunOut g known (Ok (Purges fields head)) = ⊥
 MayRunOut g known (Ok (Stats head)) = ⊥
 MayRunOut g known (Err refused) = ⊥

@@ -65,7 +65,6 @@ fn make<D: Desk>(
             desk.fetch(moment, pages);
             Told::Page(pages.moment())
         }
-        Ok(Ask::Query { .. }) => Told::Refusal(Refused::NotBuilt, desk.tick(moment).clock),
         Ok(Ask::Purges { .. }) => Told::Refusal(Refused::NotBuilt, desk.tick(moment).clock),
         Ok(Ask::Stats { .. }) => Told::Count(desk.tick(moment)),
         Err(refused) => Told::Refusal(refused, desk.tick(moment).clock),

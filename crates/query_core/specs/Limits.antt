@@ -1,4 +1,4 @@
--- Internal. Which queries the language has: what their values are, and their limits.
+-- Believed. Which queries the language has: what their values are, and their limits.
 use Rattle.std.specs.Prelude.{◌≡◌, ℕ, ◌+◌, ◌≤◌, List, length, Bool, true, false, ⊤, All}
 use Rattle.std.specs.Str.{IsUtf8}
 use Rattle.q_doc.specs.Tree.{Tree, null, boolean, number, text, array, object}

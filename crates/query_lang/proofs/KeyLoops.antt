@@ -1,6 +1,8 @@
 -- Loops over the bytes of texts of keys, and which bytes are a text.
-use Rattle.std.proofs.Common.{◌≡◌, ℕ, ◌+◌, ◌<◌, ◌≤◌, true, false, List, ◌∷◌, length, get_or, drop, refl, ap, ◌∙◌, arith, Some, None, IsUtf8, ¬◌, inl, inr}
-use Rattle.std.proofs.lemmas.List.{drop_more, drop_all}
+use Rattle.std.proofs.Common.{◌≡◌, ℕ, ◌+◌, min, ◌<◌, ◌≤◌, true, false, nat_eq, List, ◌∷◌, length, get_or, drop, refl, ap, arith, Some, None, IsUtf8, inl, inr}
+use Rattle.std.proofs.lemmas.List.{drop_more, drop_all, length-drop}
+use Rattle.std.proofs.lemmas.List.Sums.{common_prefix_len-le}
+use Rattle.std.specs.List.{common_prefix_len}
 use Rattle.std.proofs.lemmas.Str.{IsUtf8-from_is_utf8, is_utf8-from_IsUtf8}
 use Rattle.std.specs.Str.{is_utf8}
 use Rattle.query_lang.proofs.Utf8Lemmas.{tested}
@@ -8,13 +10,13 @@ use Rattle.query_lang.specs.KeyTexts.{after_byte, is_end, part_len, utf8_text}
 use Rattle.query_lang.specs.declared.key_parts.Quoting.{Quoting}
 
 pub utf8_is : (bytes : List ℕ) → IsUtf8 bytes → utf8_text bytes ≡ Some bytes
-utf8_is bytes is = let yes = is_utf8-from_IsUtf8 bytes is in rw yes refl
+utf8_is bytes is = let whole = is_utf8-from_IsUtf8 bytes is in rw whole refl
 
 pub utf8_none : (bytes : List ℕ) → ¬ (IsUtf8 bytes) → utf8_text bytes ≡ None
 utf8_none bytes none =
     elim (tested (is_utf8 bytes)) [
-      | inl yes ↦ absurd (none (IsUtf8-from_is_utf8 bytes yes))
-      | inr no ↦ rw no refl
+      | inl whole ↦ absurd (none (IsUtf8-from_is_utf8 bytes whole))
+      | inr broken ↦ rw broken refl
     ]
 
 module _ (whole : ℕ) (q : Quoting) (xs : List ℕ) (i : ℕ) (held : whole ≡ i + part_len q (drop i xs)) where
@@ -35,3 +37,9 @@ module _ (whole : ℕ) (q : Quoting) (xs : List ℕ) (i : ℕ) (held : whole ≡
   -- no byte is left
   pub part_all : length xs ≤ i → i ≡ whole
   part_all past = let none : part_len q (drop i xs) ≡ 0 = ap (part_len q) (drop_all i xs past) in omega (arith, held, none)
+
+-- one of two texts has no byte left
+pub common_all : (a b : List ℕ) (i : ℕ) → common_prefix_len nat_eq a b ≡ i + common_prefix_len nat_eq (drop i a) (drop i b) → min (length a) (length b) ≤ i → i ≡ common_prefix_len nat_eq a b
+common_all a b i held past =
+    let few = common_prefix_len-le nat_eq (drop i a) (drop i b) in
+    omega (arith, held, past, few.0, few.1, length-drop i a, length-drop i b)

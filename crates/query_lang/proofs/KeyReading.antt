@@ -1,5 +1,5 @@
 -- A key is read from its text, and what is read has this text.
-use Rattle.std.proofs.Common.{◌≡◌, ◌⊎◌, inl, inr, ℕ, ◌+◌, ◌^◌, ◌<◌, ◌≤◌, true, false, ◌==◌, nat_eq, nat_lt, List, [], ◌∷◌, ◌++◌, length, take, drop, Option, Some, None, Result, Ok, Err, IfOk, IsUtf8, refl, sym, ap, ap₂, ◌∙◌, arith, codes, append_assoc, length-append, take_at, drop_at}
+use Rattle.std.proofs.Common.{◌≡◌, ◌⊎◌, inl, inr, ℕ, ◌+◌, true, false, ◌==◌, nat_eq, nat_lt, List, [], ◌∷◌, ◌++◌, length, drop, Option, Some, None, Result, Ok, Err, IfOk, IsUtf8, refl, sym, ap, ap₂, ◌∙◌, arith, codes, append_assoc, length-append, take_at, drop_at}
 use Rattle.std.proofs.lemmas.Bool.{ne_eqb, lt-ltb, le-ltb}
 use Rattle.std.proofs.lemmas.List.Elements.{recursion_from_All}
 use Rattle.std.proofs.lemmas.Slice.Eq.{bytes_eq-Decides}
@@ -65,7 +65,7 @@ field_found sign text begins after utf8 =
 
 -- continues with what was found
 found_then : {A B : Type 0} (o : Option A) (a : A) (f : A → Option B) → o ≡ Some a → (o >>= f) ≡ f a
-found_then o a f e = ap (λ (x : Option A). x >>= f) e
+found_then {A = A} o a f e = ap (λ (x : Option A). x >>= f) e
 
 -- ---- keys of queries
 

@@ -23,6 +23,7 @@ pub mod OneNormalForm
 pub mod KeyPieces
 pub mod KeyReading
 pub mod KeyLoops
+pub mod KeyParts
 pub mod Runs
 pub mod Capped
 pub mod Steps

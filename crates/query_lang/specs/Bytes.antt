@@ -1,4 +1,4 @@
--- Internal. The bytes of the language.
+-- Believed. The bytes of the language.
 use Rattle.std.specs.Prelude.{ℕ, Bool, ◌||◌, ◌&&◌, ◌==◌, nat_le, List, drop}
 use Rattle.std.specs.List.{prefix_len}
 use Rattle.query_lang.specs.declared.bytes.Class.{Class}

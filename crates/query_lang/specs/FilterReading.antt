@@ -1,4 +1,4 @@
--- Internal. Filters, read token by token from the left: what is allowed next, and what is pending.
+-- Believed. Filters, read token by token from the left: what is allowed next, and what is pending.
 use Rattle.std.specs.Prelude.{ℕ, zero, suc, ◌+◌, ◌-◌, ◌^◌, min, max, Bool, true, false, not, ◌&&◌, ◌==◌, nat_lt, if◌then◌else◌, List, [], ◌∷◌, ◌++◌, length, take, drop, reverse, Option, Some, None, Result, Ok, Err}
 use Rattle.q_doc.specs.Tree.{Tree, null, boolean, number as whole, text}
 use Rattle.query_core.specs.Filters.{Filter, constant, compared, listed, having, present, negated, every, some, Operands, no_operands, operands_of}

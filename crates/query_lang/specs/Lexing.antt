@@ -1,4 +1,4 @@
--- Internal. What comes next in a text.
+-- Believed. What comes next in a text.
 use Rattle.std.specs.Prelude.{ℕ, ◌+◌, ◌^◌, Bool, ◌&&◌, ◌||◌, ◌==◌, nat_lt, if◌then◌else◌, List, length, take, drop, slice_index, codes, Option, Some, None, ℤ, pos, negsuc}
 use Rattle.std.specs.List.{prefix_len}
 use Rattle.std.specs.Str.{bytes_eq}

@@ -1,4 +1,4 @@
--- Internal. The limits of texts, beside those of queries.
+-- Believed. The limits of texts, beside those of queries.
 use Rattle.std.specs.Prelude.{ℕ}
 
 -- the most open parentheses

@@ -1,4 +1,4 @@
--- Internal. The fields of one number.
+-- Believed. The fields of one number.
 use Rattle.std.specs.Prelude.{ℕ, ◌-◌, ◌&&◌, ◌||◌, ◌==◌, nat_le, if◌then◌else◌, List, length, slice_index, ℤ, pos, negsuc, Result, Ok, Err}
 use Rattle.query_lang.specs.Bytes.{is_digit}
 use Rattle.query_lang.specs.declared.refusal.QueryRefusal.{QueryRefusal}

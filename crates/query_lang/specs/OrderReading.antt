@@ -1,4 +1,4 @@
--- Internal. Orders, read token by token from the left.
+-- Believed. Orders, read token by token from the left.
 use Rattle.std.specs.Prelude.{ℕ, Bool, true, false, ◌&&◌, nat_lt, if◌then◌else◌, List, [], ◌∷◌, ◌++◌, length, Option, Some, None, Result, Ok, Err}
 use Rattle.query_core.specs.Window.{Order}
 use Rattle.query_lang.specs.declared.order_reader.OrderPending.{OrderPending}

@@ -1,4 +1,4 @@
--- Internal. Texts in quotes, read from the left.
+-- Believed. Texts in quotes, read from the left.
 use Rattle.std.specs.Prelude.{ℕ, zero, suc, ◌+◌, ◌-◌, ◌||◌, ◌&&◌, ◌==◌, nat_le, nat_lt, if◌then◌else◌, List, [], ◌∷◌}
 use Rattle.query_lang.specs.Bytes.{is_digit}
 use Rattle.query_lang.specs.declared.quoted.Escape.{Escape as code_escape}

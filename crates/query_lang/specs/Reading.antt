@@ -1,4 +1,4 @@
--- Internal. Texts, read token by token from the left.
+-- Believed. Texts, read token by token from the left.
 use Rattle.std.specs.Prelude.{ℕ, zero, suc, ◌-◌, Bool, if◌then◌else◌, is_ok, List, [], length, pos, Result, Ok, Err}
 use Rattle.query_core.specs.declared.operator.Op.TheVariants.{Unequal}
 use Rattle.query_lang.specs.declared.refusal.Cause.{Cause}

@@ -1,4 +1,4 @@
--- Internal. Refusals, and when a result of the code is the one that is wanted.
+-- Believed. Refusals, and when a result of the code is the one that is wanted.
 use Rattle.std.specs.Prelude.{◌≡◌, ℕ, List, codes, Result, Ok, Err}
 use Rattle.query_lang.specs.declared.refusal.QueryRefusal.{QueryRefusal}
 use Rattle.query_lang.specs.declared.refusal.QueryRefusal.TheVariants.{Syntax, BadNumber, TooManyPaths, TooMany, TooNested, TooDeep, Memory}

@@ -1,4 +1,4 @@
--- Internal. The tokens of filters and orders.
+-- Believed. The tokens of filters and orders.
 use Rattle.std.specs.Prelude.{ℕ, ℤ, List}
 use Rattle.query_lang.specs.declared.token.Reserved.{Reserved}
 use Rattle.query_lang.specs.declared.token.Sign.{Sign}

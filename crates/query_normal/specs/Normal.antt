@@ -1,4 +1,4 @@
--- Internal. The normal form of a query, by which queries that mean the same by these rules have one key: negations at the atoms, no
+-- Believed. The normal form of a query, by which queries that mean the same by these rules have one key: negations at the atoms, no
 -- `and` inside an `and`, operands and values in order and each once, no neutral constants, and each path of the order once.
 use Rattle.std.specs.Prelude.{◌≡◌, ℕ, Bool, true, false, not, if◌then◌else◌, List, [], ◌∷◌, ◌++◌, filter}
 use Rattle.std.specs.List.{list_any}

@@ -1,4 +1,4 @@
--- Internal. The result of a query, and its text: JSON (RFC 8259) without blanks.
+-- Believed. The result of a query, and its text: JSON (RFC 8259) without blanks.
 use Rattle.std.specs.Prelude.{ℕ, List, ◌++◌, codes, decimal, map}
 use Rattle.std.specs.List.{join_by}
 use Rattle.q_doc.specs.Printed.{printed}

@@ -1,15 +1,13 @@
 -- the loop goes commit by commit
-use Rattle.std.proofs.Common.{◌≡◌, ℕ, List, ap, sym, subst, rules, arith}
-use Rattle.issued_expiries.specs.Copies.{Copy}
+use Rattle.std.proofs.Common.{◌≡◌, ℕ, List, sym, subst, rules, arith}
 use Rattle.hub_core.specs.declared.invalidations.Invalidation.{Invalidation}
-use Rattle.hub_core.specs.CopiesView.{CopiesView}
 use Rattle.hub_core.specs.Invalidations.{AreInvalidationsOf}
 use Rattle.hub_core.proofs.MatchLemmas.{invalidations-none, invalidations-next}
 use Rattle.hub_core.proofs.invalidations.reserve_invalidations.Goals as goal
 
 pub loop-commit-init : goal.loop-commit-init
 loop-commit-init c = record {
-  invalidations = subst (λ (ms : List Invalidation). AreInvalidationsOf c.args.book.now.journal c.args.copies.now.copies c.args.front c.args.front ms) (sym c.new-invalidations.ensures.items) (invalidations-none c.args.book.now.journal c.args.copies.now.copies c.args.front);
+  invalidations = subst (λ (ms : List Invalidation). AreInvalidationsOf c.args.book.now.journal c.args.front c.args.front ms) (sym c.new-invalidations.ensures.items) (invalidations-none c.args.book.now.journal c.args.front);
   reserved = search rules;
   rest = search rules;
 }
@@ -17,7 +15,7 @@ loop-commit-init c = record {
 pub loop-commit-preserved : goal.loop-commit-preserved
 loop-commit-preserved c =
     record {
-      invalidations = invalidations-next c.args.book.now.journal c.args.copies.now.copies c.args.front c.loop-commit.commit _ _ c.loop-commit.invariant.invalidations c.in_ok-push_invalidation.ensures.invalidations c.loop-commit.auto.commit (omega arith);
+      invalidations = invalidations-next c.args.book.now.journal c.args.front c.loop-commit.commit _ _ c.loop-commit.invariant.invalidations c.in_ok-push_invalidation.ensures.invalidations c.loop-commit.auto.commit (omega arith);
       reserved = c.in_ok-push_invalidation.ensures.reserved c.loop-commit.invariant.reserved;
       rest = search rules;
     }
@@ -25,6 +23,4 @@ loop-commit-preserved c =
 pub returns-clause-invalidations : goal.returns-clause-invalidations
 returns-clause-invalidations c =
     let last : c.loop-commit.commit ≡ c.args.to = (let up = c.loop-commit.auto.commit-end c.requires.forward in omega (arith, c.loop-commit-test.false, up)) in
-    let copies : c.loop-commit.copies.copies ≡ c.args.copies.now.copies = ap (λ (h : CopiesView). h.copies) c.loop-commit.invariant.rest in
-    subst (λ (xs : List Copy). AreInvalidationsOf c.args.book.now.journal xs c.args.front c.args.to c.loop-commit.invalidations.items) (sym copies)
-    (subst (λ (n : ℕ). AreInvalidationsOf c.args.book.now.journal c.args.copies.now.copies c.args.front n c.loop-commit.invalidations.items) last c.loop-commit.invariant.invalidations)
+    subst (λ (n : ℕ). AreInvalidationsOf c.args.book.now.journal c.args.front n c.loop-commit.invalidations.items) last c.loop-commit.invariant.invalidations

@@ -6,7 +6,7 @@ use Rattle.hub_core.proofs.invalidations.reserve_invalidations.Given as goal
 
 abbrev pub invariant-loop-commit : goal.invariant-loop-commit
 invariant-loop-commit l = record {
-  invalidations : AreInvalidationsOf l.book.journal l.initial.copies.copies l.initial.front l.commit l.invalidations.items;
+  invalidations : AreInvalidationsOf l.book.journal l.initial.front l.commit l.invalidations.items;
   reserved : All (λ m. IsInvalidationReserved l.copies m.key) l.invalidations.items;
   rest : l.copies ≡ record l.initial.copies { invalidatable = l.copies.invalidatable };
 }

@@ -2,10 +2,10 @@
 use Rattle.program_tests.proofs.calls.run_at.Given as goal
 
 abbrev pub ghosts-run_counted-L-Ledger : goal.ghosts-run_counted-L-Ledger
-ghosts-run_counted-L-Ledger a = record { name = a.sink.name; parts = a.sink.parts }
+ghosts-run_counted-L-Ledger g a = record { name = a.sink.name; parts = a.sink.parts }
 
 abbrev pub ghosts-run_counted-M-Ledger : goal.ghosts-run_counted-M-Ledger
-ghosts-run_counted-M-Ledger a = record { name = a.doors.name; parts = a.doors.parts }
+ghosts-run_counted-M-Ledger g a = record { name = a.doors.name; parts = a.doors.parts }
 
 abbrev pub ghosts-run_counted-F-Ledger : goal.ghosts-run_counted-F-Ledger
-ghosts-run_counted-F-Ledger a = record { name = a.places.name; parts = a.places.parts }
+ghosts-run_counted-F-Ledger g a = record { name = a.places.name; parts = a.places.parts }

@@ -2,7 +2,7 @@
 use Rattle.std.proofs.Common.{ℕ, ap, ◌∙◌, subst}
 use Rattle.expiring_filter.specs.Filter.{Filter}
 use Rattle.expiring_filter.specs.Held.{Expires}
-use Rattle.hub_core.specs.CopiesView.{CopiesView, while_later, until_in}
+use Rattle.hub_core.specs.CopiesView.{CopiesView, IsSound, while_later, until_in}
 use Rattle.hub_core.proofs.SoundLemmas.{sound-later}
 use Rattle.hub_core.proofs.InvalidationLemmas.{until-expired}
 use Rattle.hub_core.proofs.copies.Copies.advance.Goals as goal
@@ -11,10 +11,17 @@ use Rattle.hub_core.proofs.copies.Copies.advance.Goals as goal
 expired : (c : goal.After-advance-2) → Expires c.advance.new.self.clock c.self.inside.outdated.held c.advance-2.new.self.held
 expired c = subst (λ (n : ℕ). Expires n c.self.inside.outdated.held c.advance-2.new.self.held) c.clock-clock.ensures c.advance-2.ensures.expired
 
-pub invariant_of-self : goal.invariant_of-self
-invariant_of-self c =
+-- they are sound
+sound : (c : goal.After-advance-2) → IsSound c.self.inside.config c.advance.new.self c.advance-2.new.self
+sound c =
     sound-later _ c.self.inside.issued c.self.inside.outdated c.self.invariant c.advance.new.self c.advance-2.new.self
     (ap (λ (f : Filter). f.log2_bits) c.advance-2.ensures.rest) (ap (λ (f : Filter). f.hashes) c.advance-2.ensures.rest) c.advance.ensures.held (expired c)
+
+pub invariant_of-self : goal.invariant_of-self
+invariant_of-self c = sound c
+
+pub returns-clause-records : goal.returns-clause-records
+returns-clause-records c = (sound c).records
 
 pub returns-clause-outdated : goal.returns-clause-outdated
 returns-clause-outdated c = λ key.

@@ -2,6 +2,7 @@
 use Rattle.std.proofs.Common.{◌<◌, ◌+◌, nat_lt, ◌&&◌, ap, sym, ◌∙◌, subst, arith}
 use Rattle.query_normal.specs.Keys.{same_key}
 use Rattle.issued_expiries.specs.Copies.{is_active, active_keys}
+use Rattle.hub_model.specs.Lifetime.{is_query}
 use Rattle.hub_core.specs.CopiesView.{CopiesView, may_issue, IsReadyFor}
 use Rattle.hub_core.proofs.IssueLemmas.{used-up, none-idle}
 use Rattle.hub_core.proofs.SoundLemmas.{sound-more, may-issue}
@@ -10,10 +11,10 @@ use Rattle.hub_core.proofs.copies.Copies.issue.Goals as goal
 pub invariant_of-self-2 : goal.invariant_of-self-2
 invariant_of-self-2 c =
     let some : 0 < c.args.ttl = omega (arith, c.if-ttl-eq0.false) in
-    let room = may-issue (is_active c.self.inside.issued.held c.args.key.now) (active_keys c.self.inside.issued.held) c.self.inside.config.active
+    let may = may-issue (is_query c.args.key.now) (is_active c.self.inside.issued.held c.args.key.now) (active_keys c.self.inside.issued.held) c.self.inside.config.active
     (ap (λ (h : CopiesView). may_issue h c.args.key.now) c.self.view_is ∙ c.requires.allowed some) in
     let late : c.self.inside.issued.clock < c.seconds.result + c.args.ttl = omega (arith, some, c.seconds.ensures.same, c.clock.ensures) in
-    sound-more _ c.self.inside.issued c.self.inside.outdated c.self.invariant c.issue.new.self (c.args.key.now, c.args.commit, c.seconds.result + c.args.ttl) late c.issue.ensures.clock c.issue.ensures.held room
+    sound-more _ c.self.inside.issued c.self.inside.outdated c.self.invariant c.issue.new.self (c.args.key.now, c.args.commit, c.seconds.result + c.args.ttl) late c.issue.ensures.clock c.issue.ensures.held may.0 may.1
 
 pub returns-clause-ready : goal.returns-clause-ready
 returns-clause-ready c =

@@ -21,7 +21,7 @@ returns-in-Ok-clause-after c = λ s at.
     (at-invalidatable book front c.self.inside.copies s (subst (λ (h : HubView). IsAt h s) (sym c.self.view_is) at) c.reserve_invalidations.new.copies c.reserve_invalidations.new.copies.invalidatable c.in-Ok.ensures.rest) c.pass.new.copies c.args.moment c.pass.ensures in
     let forward : front ≤ c.args.to = (let up = c.requires.above in let same = ap (λ (h : HubView). h.front) c.self.view_is in omega (arith, up, same)) in
     let matched =
-    hub-matched book front c.pass.new.copies (at_moment s c.args.moment) moved c.args.to c.args.moment c.reserve_invalidations.new.copies c.invalidate_all.new.copies c.in-Ok.invalidations.items forward c.pass.ensures c.in-Ok.ensures.invalidations
+    hub-matched book front c.pass.new.copies (at_moment s c.args.moment) moved c.args.to c.invalidate_all.new.copies c.in-Ok.invalidations.items forward c.pass.ensures.records c.in-Ok.ensures.invalidations
     (λ key. c.invalidate_all.ensures.outdated key ∙ ap (λ (ms : List Invalidation). max (until_in c.pass.new.copies.outdated key) (invalidated_until c.pass.new.copies.copies ms key)) c.deref.ensures.value)
     (ap (λ (h : CopiesView). h.clock) c.invalidate_all.ensures.rest) (ap (λ (h : CopiesView). h.copies) c.invalidate_all.ensures.rest) in
     at-invalidatable book c.args.to c.invalidate_all.new.copies (record (at_moment s c.args.moment) { front = c.args.to }) matched c.forget_invalidations.new.self [] c.forget_invalidations.ensures

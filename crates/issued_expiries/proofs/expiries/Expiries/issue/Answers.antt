@@ -1,13 +1,13 @@
 use Rattle.std.proofs.Common.{◌≡◌, ◌⊎◌, ◌<◌, length, is_some, ◌&&◌, not, ltb, true, sym, ap, subst, arith}
 use Rattle.std.specs.List.{list_any}
-use Rattle.std.proofs.lemmas.Bool.{lt-ltb}
+use Rattle.std.proofs.lemmas.Bool.{lt-ltb, le-ltb}
 use Rattle.query_normal.specs.Keys.{same_key}
 use Rattle.query_normal.specs.declared.key.KeyShape.{KeyShape}
 use Rattle.issued_expiries.specs.Copies.{SameCopies, is_active, active_keys, with_copy}
 use Rattle.issued_expiries.specs.Entries.{copies_in, held_of, kept_of}
 use Rattle.issued_expiries.specs.Expiries.{Issued, is_reserved, is_idle}
 use Rattle.issued_expiries.proofs.HeldLemmas.{HeldKeys}
-use Rattle.issued_expiries.proofs.IssueLemmas.{put_held, sound_put, sound_released, len_after, idle_left}
+use Rattle.issued_expiries.proofs.IssueLemmas.{put_held, sound_put, sound_released, len_after, idle_left, idle_kept}
 use Rattle.issued_expiries.proofs.expiries.Expiries.issue.Goals as goal
 
 pub put-requires-clause-reserved : goal.put-requires-clause-reserved
@@ -50,3 +50,8 @@ returns-clause-idle c =
     subst (λ (i : Issued). (other : KeyShape) → list_any (same_key other) c.leave_out.new.keys.keys ≡ (not (same_key c.args.key.now other && ltb i.clock c.args.until) && is_idle i other)) c.self.view_is
     (λ other. idle_left (same_key c.args.key.now other) (ltb c.self.inside.clock c.args.until) (list_any (same_key other) c.self.inside.idle.keys) (list_any (same_key other) c.leave_out.new.keys.keys)
     (c.leave_out.ensures.left other) (lt-ltb c.self.inside.clock c.args.until c.if-until-self.false))
+
+pub returns-then-until-self-clause-idle : goal.returns-then-until-self-clause-idle
+returns-then-until-self-clause-idle c =
+    subst (λ (i : Issued). (other : KeyShape) → list_any (same_key other) c.self.inside.idle.keys ≡ (not (same_key c.args.key.now other && ltb i.clock c.args.until) && is_idle i other)) c.self.view_is
+    (λ other. idle_kept (same_key c.args.key.now other) (ltb c.self.inside.clock c.args.until) (list_any (same_key other) c.self.inside.idle.keys) (le-ltb c.self.inside.clock c.args.until c.if-until-self.true))

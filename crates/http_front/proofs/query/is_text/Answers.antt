@@ -1,9 +1,0 @@
-use Rattle.std.proofs.Common.{sym}
-use Rattle.http_front.proofs.QueryLemmas.{utf8_no, utf8_yes}
-use Rattle.http_front.proofs.query.is_text.Goals as goal
-
-pub returns-in-Ok : goal.returns-in-Ok
-returns-in-Ok c = sym (utf8_yes c.args.bytes.now c.in-Ok.ensures.cases.1)
-
-pub returns-in-Err : goal.returns-in-Err
-returns-in-Err c = sym (utf8_no c.args.bytes.now c.in-Err.ensures.cases.0)

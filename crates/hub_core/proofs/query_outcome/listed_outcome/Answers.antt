@@ -1,0 +1,15 @@
+-- the commit itself is the greatest with its result
+use Rattle.std.proofs.Common.{sym, ap, ◌∙◌}
+use Rattle.query_normal.specs.declared.key.KeyShape.TheVariants.{Query}
+use Rattle.hub_model.specs.Journal.{result_at}
+use Rattle.hub_model.specs.Reply.{outcome_of}
+use Rattle.hub_core.proofs.QueryLemmas.{itself-greatest}
+use Rattle.hub_core.proofs.query_outcome.listed_outcome.Goals as goal
+
+pub returns-then-is_listed : goal.returns-then-is_listed
+returns-then-is_listed c =
+    let key = Query c.args.kind c.args.query.now in
+    let journal = c.args.book.now.journal in
+    ap (outcome_of (result_at key journal c.args.commit))
+    (sym ((c.the_greatest_same_result_is_told.ensures.told key journal c.args.commit c.args.tags.now c.args.commit).1
+    (itself-greatest key journal c.args.commit c.args.tags.now (sym c.is_listed.ensures ∙ c.if-is_listed.true))))
