@@ -10,3 +10,4 @@ pub mod Settled
 pub mod SizeForms
 pub mod SortLemmas
 pub mod StandardFacts
+pub mod TextOrders

@@ -1,12 +1,11 @@
 -- Lists in order without repeats.
-use Rattle.std.proofs.Common.{◌≡◌, Bool, true, false, List, [], ◌∷◌, ◌<◌, ◌-◌, ◌++◌, suc, length, get_or, append_assoc, append-nil, Ordering, inl, inr, refl, sym, ap, ◌∙◌, arith}
+use Rattle.std.proofs.Common.{◌≡◌, Bool, true, false, List, [], ◌∷◌, Ordering, inl, inr, refl, sym, ap, ◌∙◌}
 use Rattle.std.specs.Cmp.{IsTotalOrder}
-use Rattle.std.specs.List.{AllByRecursion}
+use Rattle.std.specs.List.{AllByRecursion, dedup, dedup_from}
 use Rattle.std.proofs.lemmas.Bool.{cases_Bool}
 use Rattle.query_core.specs.Window.{in_order}
 use Rattle.query_core.proofs.Rising.{Under, Rises, in_order_rises, rises_in_order, in_order_all}
 use Rattle.query_normal.specs.Normal.{distinct_after, distinct}
-use Rattle.query_normal.specs.Repeats.{repeats, with_new}
 
 module _ {X : Type 0} (cmp : X → X → Ordering) (total : IsTotalOrder cmp) (same : X → X → Bool) where
   under_after : (z x : X) (ys : List X) → Under cmp total z ys → Under cmp total z (distinct_after same x ys)
@@ -53,63 +52,18 @@ module _ {X : Type 0} (P : X → Type 0) (same : X → X → Bool) where
   pub once_all : (cmp : X → X → Ordering) (xs : List X) → AllByRecursion P xs → AllByRecursion P (distinct same (in_order cmp xs))
   once_all cmp xs a = distinct_all (in_order cmp xs) (in_order_all P cmp xs a)
 
--- ---- one item after another
+-- ---- `dedup`
 
-module _ {X : Type 0} (same : X → X → Bool) where
-  -- what is kept of further items, after these were kept
-  abbrev pub after_kept : List X → List X → List X
-  after_kept [] xs = distinct same xs
-  after_kept (k ∷ []) xs = distinct_after same k xs
-  after_kept (k ∷ l ∷ ks) xs = after_kept (l ∷ ks) xs
-
-  pub after_kept-nil : (kept : List X) → after_kept kept [] ≡ []
-  after_kept-nil [] = refl
-  after_kept-nil (k ∷ []) = refl
-  after_kept-nil (k ∷ l ∷ ks) = after_kept-nil (l ∷ ks)
-
-  after_push : (kept : List X) (y : X) (ys : List X) → after_kept (kept ++ y ∷ []) ys ≡ distinct_after same y ys
-  after_push [] y ys = refl
-  after_push (k ∷ []) y ys = refl
-  after_push (k ∷ l ∷ ks) y ys = after_push (l ∷ ks) y ys
-
-  new_item : (kept : List X) (y : X) (ys : List X) → repeats same kept y ≡ false → after_kept kept (y ∷ ys) ≡ y ∷ distinct_after same y ys
-  new_item [] y ys e = refl
-  new_item (k ∷ []) y ys e = rw e refl
-  new_item (k ∷ l ∷ ks) y ys e = new_item (l ∷ ks) y ys e
-
-  -- an item that is kept
-  pub item_kept : (kept : List X) (y : X) (ys : List X) → repeats same kept y ≡ false → kept ++ after_kept kept (y ∷ ys) ≡ (kept ++ y ∷ []) ++ after_kept (kept ++ y ∷ []) ys
-  item_kept kept y ys e =
-      ap (λ l. kept ++ l) (new_item kept y ys e ∙ ap (λ l. y ∷ l) (sym (after_push kept y ys)))
-      ∙ sym (append_assoc kept (y ∷ []) (after_kept (kept ++ y ∷ []) ys))
-
-  -- an item that repeats the last one
-  pub item_left_out : (kept : List X) (y : X) (ys : List X) → repeats same kept y ≡ true → after_kept kept (y ∷ ys) ≡ after_kept kept ys
-  item_left_out [] y ys e = absurd (cc)
-  item_left_out (k ∷ []) y ys e = rw e refl
-  item_left_out (k ∷ l ∷ ks) y ys e = item_left_out (l ∷ ks) y ys e
-
-  -- the last item by its index
-  pub repeats_at : (kept : List X) (y d : X) → 0 < length kept → repeats same kept y ≡ same (get_or kept (length kept - 1) d) y
-  repeats_at [] y d h = absurd (omega arith)
-  repeats_at (k ∷ []) y d h = refl
-  repeats_at (k ∷ l ∷ ks) y d h =
-      let next : suc (length (l ∷ ks) - 1) ≡ length (k ∷ l ∷ ks) - 1 = omega arith in
-      repeats_at (l ∷ ks) y d (omega arith) ∙ ap (λ i. same (get_or (k ∷ l ∷ ks) i d) y) next
-
-  -- one more item
-  pub one_more : (kept : List X) (y : X) (ys : List X) → with_new same kept y ++ after_kept (with_new same kept y) ys ≡ kept ++ after_kept kept (y ∷ ys)
-  one_more kept y ys =
-      elim (cases_Bool (repeats same kept y)) [
-        | inl e ↦ rw e (ap (λ l. kept ++ l) (sym (item_left_out kept y ys e)))
-        | inr e ↦ rw e (sym (item_kept kept y ys e))
+module _ {X : Type 0} (same : X → X → Bool) (symm : (x y : X) → same x y ≡ same y x) where
+  dedup_after : (x : X) (ys : List X) → dedup_from same x ys ≡ x ∷ distinct_after same x ys
+  dedup_after x [] = refl
+  dedup_after x (y ∷ ys) =
+      elim (cases_Bool (same x y)) [
+        | inl e ↦ let f : same y x ≡ true = sym (symm x y) ∙ e in rw (e, f) (dedup_after x ys)
+        | inr e ↦ let f : same y x ≡ false = sym (symm x y) ∙ e in rw (e, f) (ap (λ l. x ∷ l) (dedup_after y ys))
       ]
 
-  -- no item is left
-  pub all_done : (kept : List X) → kept ++ after_kept kept [] ≡ kept
-  all_done kept = ap (λ l. kept ++ l) (after_kept-nil kept) ∙ append-nil kept
-
-  -- no item is the last of none
-  pub repeats_empty : (kept : List X) (y : X) → length kept ≡ 0 → repeats same kept y ≡ false
-  repeats_empty [] y e = refl
-  repeats_empty (k ∷ ks) y e = absurd (omega (arith, e))
+  -- std's `dedup` leaves each item once
+  pub dedup_distinct : (xs : List X) → dedup same xs ≡ distinct same xs
+  dedup_distinct [] = refl
+  dedup_distinct (x ∷ xs) = dedup_after x xs

@@ -7,5 +7,6 @@ pub mod Printed
 pub mod Repeats
 pub mod SameKey
 pub mod Storage
+pub mod TextOrder
 pub use Rattle.q_base.specs.Name
 pub use Rattle.q_base.specs.Positions

@@ -1,5 +1,5 @@
 //! Filters in normal form.
-ghost use Rattle.std.specs.Prelude.{◌≡◌, ◌++◌, ◌∷◌, [], not, filter, IfOk, OnOk};
+ghost use Rattle.std.specs.Prelude.{◌≡◌, ◌++◌, not, filter, IfOk, OnOk};
 ghost use Rattle.std.specs.List.{list_any};
 ghost use Rattle.query_core.specs.Filters.{constant, operands_of};
 ghost use Rattle.query_normal.specs.Normal.{normal_filter, normal_parts, parts_of, is_constant, connected, joined, signed, one_of, values_once, filters_once};
@@ -10,17 +10,13 @@ use q_doc::{Node, Path};
 use query_core::{Filter, Form, Op};
 use std::alloc::{AllocError, Global};
 
-/// The normal form of a filter, or of its negation.
+/// The normal form of a filter, or of its negation. It is made of the filter's own parts.
 #[cycle(normal_filter)]
-pub(crate) fn normal_filter(
-    alloc: Global,
-    negative: bool,
-    filter: &Filter,
-) -> Result<Filter, Memory>
-    ensures { IfOk result (λ f. f ≡ normal_filter negative filter.now) }
+pub(crate) fn normal_filter(alloc: Global, negative: bool, filter: Filter) -> Result<Filter, Memory>
+    ensures { IfOk result (λ f. f ≡ normal_filter negative filter) }
 {
-    match &filter.form {
-        Form::Not(operand) => normal_filter(alloc, !negative, operand),
+    match filter.form {
+        Form::Not(operand) => normal_filter(alloc, !negative, Box::into_inner(operand)),
         Form::And(operands) => {
             let parts = normal_parts(alloc, negative, !negative, operands)?;
             Ok(connected(alloc, !negative, parts)?)
@@ -30,31 +26,10 @@ pub(crate) fn normal_filter(
             Ok(connected(alloc, negative, parts)?)
         }
         Form::In { path, values } => {
-            let atom = one_of(alloc, path.clone()?, values)?;
+            let atom = one_of(path, values)?;
             Ok(signed(alloc, negative, atom)?)
         }
-        Form::Constant(value) => Ok(signed(alloc, negative, constant(*value))?),
-        Form::Compare { path, op, value } => {
-            let form = Form::Compare {
-                path: path.clone()?,
-                op: *op,
-                value: value.clone()?,
-            };
-            Ok(signed(alloc, negative, Filter { form })?)
-        }
-        Form::Has { path, value } => {
-            let form = Form::Has {
-                path: path.clone()?,
-                value: value.clone()?,
-            };
-            Ok(signed(alloc, negative, Filter { form })?)
-        }
-        Form::Exists { path } => {
-            let form = Form::Exists {
-                path: path.clone()?,
-            };
-            Ok(signed(alloc, negative, Filter { form })?)
-        }
+        form => Ok(signed(alloc, negative, Filter { form })?),
     }
 }
 
@@ -64,9 +39,9 @@ fn normal_parts(
     alloc: Global,
     negative: bool,
     is_and: bool,
-    operands: &[Filter],
+    operands: Vec<Filter>,
 ) -> Result<Vec<Filter>, Memory>
-    ensures { IfOk result (λ parts. parts.items ≡ normal_parts negative is_and (operands_of operands.now)) }
+    ensures { IfOk result (λ parts. parts.items ≡ normal_parts negative is_and (operands_of operands.items)) }
 {
     let mut parts = Vec::with_capacity(alloc, operands.len())?;
     for operand in operands {
@@ -120,7 +95,7 @@ fn connected(alloc: Global, is_and: bool, parts: Vec<Filter>) -> Result<Filter, 
     if has_constant(&parts, !is_and) {
         return Ok(constant(!is_and));
     }
-    let parts = without_constant(alloc, is_and, parts)?;
+    let parts = without_constant(is_and, parts);
     let parts = filters_once(alloc, parts)?;
     Ok(joined(is_and, parts))
 }
@@ -149,23 +124,12 @@ fn constant(value: bool) -> Filter
 }
 
 /// The filters that are not this constant.
-fn without_constant(alloc: Global, value: bool, parts: Vec<Filter>) -> Result<Vec<Filter>, Memory>
-    ensures { IfOk result (λ kept. kept.items ≡ filter (λ f. not (is_constant value f)) parts.items) }
+fn without_constant(value: bool, parts: Vec<Filter>) -> Vec<Filter>
+    ensures { result.items ≡ filter (λ f. not (is_constant value f)) parts.items }
 {
-    let mut kept = Vec::with_capacity(alloc, parts.len())?;
-    for part in parts {
-        keep_unless(&mut kept, value, part)?;
-    }
-    Ok(kept)
-}
-
-fn keep_unless(kept: &mut Vec<Filter>, value: bool, part: Filter) -> Result<(), AllocError>
-    ensures { OnOk result (kept.new.items ≡ kept.old.items ++ filter (λ f. not (is_constant value f)) (part ∷ [])) }
-{
-    if !is_constant(value, &part) {
-        kept.push(part)?;
-    }
-    Ok(())
+    let mut parts = parts;
+    parts.retain(|part| !is_constant(value, part));
+    parts
 }
 
 /// Filters joined by `and` or by `or`. One is itself.
@@ -204,10 +168,10 @@ fn signed(alloc: Global, negative: bool, atom: Filter) -> Result<Filter, Memory>
 }
 
 /// One of these values, in order and each once.
-fn one_of(alloc: Global, path: Path, values: &[Node]) -> Result<Filter, Memory>
-    ensures { IfOk result (λ f. f ≡ one_of path (values_once values.now)) }
+fn one_of(path: Path, values: Vec<Node>) -> Result<Filter, AllocError>
+    ensures { IfOk result (λ f. f ≡ one_of path (values_once values.items)) }
 {
-    let mut values = values_once(alloc, values)?;
+    let mut values = values_once(values)?;
     if values.len() > 1 {
         return Ok(Filter {
             form: Form::In { path, values },

@@ -17,7 +17,7 @@ pub fn normal(alloc: Global, query: Query) -> Result<Normal, Memory>
     requires { IsQuery query }
     ensures { IfOk result (λ normal. normal ≡ normal_query query) }
 {
-    let filter = normal_filter(alloc, false, &query.filter)?;
+    let filter = normal_filter(alloc, false, query.filter)?;
     let order = normal_order(alloc, query.order)?;
     Ok(Normal {
         query: Query {

@@ -11,6 +11,7 @@ mod normal_query;
 mod orders;
 mod sorting;
 mod text;
+mod text_order;
 
 pub use forms::normal;
 pub use key::{Key, KeyShape};

@@ -1,15 +1,18 @@
 //! Filters and values put in order, each once.
-ghost use Rattle.std.specs.Prelude.{◌≡◌, map, IfOk, OnOk};
-ghost use Rattle.query_core.specs.Meaning.{same_value};
-ghost use Rattle.query_core.specs.Same.{same_filter};
-ghost use Rattle.query_normal.specs.Normal.{distinct, filters_once, values_once};
-ghost use Rattle.query_normal.specs.Repeats.{repeats, with_new};
+ghost use Rattle.std.specs.Prelude.{◌≡◌, ◌≤◌, ◌++◌, ◌∷◌, length, map, take, drop, IfOk, OnOk};
+ghost use Rattle.query_core.specs.Window.{placed, in_order};
+ghost use Rattle.query_normal.specs.Normal.{filters_once, values_once, text_cmp};
 ghost use Rattle.query_normal.specs.Printed.{ArePrinted, filter_of_printed};
+ghost use Rattle.query_normal.specs.TextOrder.{begin_alike};
 
+use crate::text_order::{are_alike, compare_texts};
 use q_base::{Memory, Text};
 use q_doc::{Node, compare};
 use query_core::{Filter, print_filter};
 use std::alloc::{AllocError, Global};
+
+/// The most filters that are put in order by comparing each with those before it.
+const MAX_FEW: usize = 8;
 
 /// A filter with its printed text.
 #[derive(Drop)]
@@ -22,9 +25,72 @@ struct Printed {
 pub(crate) fn filters_once(alloc: Global, filters: Vec<Filter>) -> Result<Vec<Filter>, Memory>
     ensures { IfOk result (λ kept. kept.items ≡ filters_once filters.items) }
 {
+    let mut sorted = in_order(alloc, filters)?;
+    sorted.dedup();
+    Ok(sorted)
+}
+
+/// Filters in the order of their printed texts. Many are printed, and few where they must be.
+fn in_order(alloc: Global, filters: Vec<Filter>) -> Result<Vec<Filter>, Memory>
+    ensures { IfOk result (λ sorted. sorted.items ≡ in_order text_cmp filters.items) }
+{
+    if filters.len() > MAX_FEW || begin_alike(&filters) {
+        return many_in_order(alloc, filters);
+    }
+    few_in_order(alloc, filters)
+}
+
+/// Whether the first two filters are comparisons at one path by one operator, which their values alone
+/// tell apart. Such a list is put in order faster by printing each filter once.
+fn begin_alike(filters: &[Filter]) -> bool
+    ensures { result ≡ begin_alike filters.now }
+{
+    match filters {
+        [first, second, ..] => are_alike(first, second),
+        _ => false,
+    }
+}
+
+/// Few filters in the order of their printed texts.
+fn few_in_order(alloc: Global, filters: Vec<Filter>) -> Result<Vec<Filter>, Memory>
+    ensures { IfOk result (λ sorted. sorted.items ≡ in_order text_cmp filters.items) }
+{
+    let mut sorted = Vec::with_capacity(alloc, filters.len())?;
+    for filter in filters {
+        put_in_order(alloc, &mut sorted, filter)?;
+    }
+    Ok(sorted)
+}
+
+/// Puts a filter after those before which it does not come.
+fn put_in_order(alloc: Global, sorted: &mut Vec<Filter>, filter: Filter) -> Result<(), Memory>
+    ensures { OnOk result (sorted.new.items ≡ placed text_cmp sorted.old.items filter) }
+{
+    let index = place_of(alloc, sorted, &filter)?;
+    sorted.insert(index, filter)?;
+    Ok(())
+}
+
+/// The index of the first filter before which this one comes, or else the number of filters.
+fn place_of(alloc: Global, sorted: &[Filter], filter: &Filter) -> Result<usize, Memory>
+    ensures within { IfOk result (λ index. index ≤ length sorted.now) }
+    ensures place { IfOk result (λ index. placed text_cmp sorted.now filter.now ≡ take index sorted.now ++ filter.now ∷ drop index sorted.now) }
+{
+    for index in 0..sorted.len() {
+        if compare_texts(alloc, filter, &sorted[index])?.is_lt() {
+            return Ok(index);
+        }
+    }
+    Ok(sorted.len())
+}
+
+/// Many filters in the order of their printed texts.
+fn many_in_order(alloc: Global, filters: Vec<Filter>) -> Result<Vec<Filter>, Memory>
+    ensures { IfOk result (λ sorted. sorted.items ≡ in_order text_cmp filters.items) }
+{
     let mut printed = with_texts(alloc, filters)?;
     printed.sort_by(|a, b| a.text.as_slice().cmp(b.text.as_slice()))?;
-    Ok(distinct_filters(alloc, printed)?)
+    Ok(without_texts(alloc, printed)?)
 }
 
 /// Each filter with its text.
@@ -40,83 +106,23 @@ fn with_texts(alloc: Global, filters: Vec<Filter>) -> Result<Vec<Printed>, Memor
     Ok(all)
 }
 
-/// The filters, without each that is the same as the one before it.
-fn distinct_filters(alloc: Global, printed: Vec<Printed>) -> Result<Vec<Filter>, Memory>
-    ensures { IfOk result (λ kept. kept.items ≡ distinct same_filter (map filter_of_printed printed.items)) }
+/// The filters without their texts.
+fn without_texts(alloc: Global, printed: Vec<Printed>) -> Result<Vec<Filter>, AllocError>
+    ensures { IfOk result (λ all. all.items ≡ map filter_of_printed printed.items) }
 {
-    let mut kept = Vec::with_capacity(alloc, printed.len())?;
+    let mut all = Vec::with_capacity(alloc, printed.len())?;
     for item in printed {
-        add_filter(&mut kept, item.filter)?;
-    }
-    Ok(kept)
-}
-
-/// Values in order, each once.
-pub(crate) fn values_once(alloc: Global, values: &[Node]) -> Result<Vec<Node>, AllocError>
-    ensures { IfOk result (λ kept. kept.items ≡ values_once values.now) }
-{
-    let mut sorted = cloned_values(alloc, values)?;
-    sorted.sort_by(|a, b| compare(Some(a), Some(b)))?;
-    Ok(distinct_values(alloc, sorted)?)
-}
-
-fn cloned_values(alloc: Global, values: &[Node]) -> Result<Vec<Node>, AllocError>
-    ensures { IfOk result (λ all. all.items ≡ values.now) }
-{
-    let mut all = Vec::with_capacity(alloc, values.len())?;
-    for value in values {
-        all.push(value.clone()?)?;
+        all.push(item.filter)?;
     }
     Ok(all)
 }
 
-/// The values, without each that is the same as the one before it.
-fn distinct_values(alloc: Global, values: Vec<Node>) -> Result<Vec<Node>, AllocError>
-    ensures { IfOk result (λ kept. kept.items ≡ distinct same_value values.items) }
+/// Values in order, each once.
+pub(crate) fn values_once(values: Vec<Node>) -> Result<Vec<Node>, AllocError>
+    ensures { IfOk result (λ kept. kept.items ≡ values_once values.items) }
 {
-    let mut kept = Vec::with_capacity(alloc, values.len())?;
-    for value in values {
-        add_value(&mut kept, value)?;
-    }
-    Ok(kept)
-}
-
-fn add_filter(kept: &mut Vec<Filter>, filter: Filter) -> Result<(), AllocError>
-    ensures { OnOk result (kept.new.items ≡ with_new same_filter kept.old.items filter) }
-{
-    if !repeats_filter(kept, &filter) {
-        kept.push(filter)?;
-    }
-    Ok(())
-}
-
-fn add_value(kept: &mut Vec<Node>, value: Node) -> Result<(), AllocError>
-    ensures { OnOk result (kept.new.items ≡ with_new same_value kept.old.items value) }
-{
-    if !repeats_value(kept, &value) {
-        kept.push(value)?;
-    }
-    Ok(())
-}
-
-/// Whether the last filter is the same as this.
-#[tactic(auto, using(crate::proofs::OnceLemmas::repeats_at, crate::proofs::OnceLemmas::repeats_empty))]
-fn repeats_filter(kept: &[Filter], filter: &Filter) -> bool
-    ensures { result ≡ repeats same_filter kept.now filter.now }
-{
-    if kept.is_empty() {
-        return false;
-    }
-    kept[kept.len() - 1] == *filter
-}
-
-/// Whether the last value is the same as this.
-#[tactic(auto, using(crate::proofs::OnceLemmas::repeats_at, crate::proofs::OnceLemmas::repeats_empty))]
-fn repeats_value(kept: &[Node], value: &Node) -> bool
-    ensures { result ≡ repeats same_value kept.now value.now }
-{
-    if kept.is_empty() {
-        return false;
-    }
-    kept[kept.len() - 1] == *value
+    let mut values = values;
+    values.sort_by(|a, b| compare(Some(a), Some(b)))?;
+    values.dedup();
+    Ok(values)
 }

@@ -1,16 +1,14 @@
-use Rattle.std.proofs.Common.{map, ap, ◌∙◌, rules}
+use Rattle.std.proofs.Common.{ap, ◌∙◌}
+use Rattle.std.proofs.lemmas.List.Filters.{dedup_is}
 use Rattle.query_core.specs.Same.{same_filter}
-use Rattle.query_core.proofs.Rising.{sort_by_is_in_order}
+use Rattle.query_core.specs.SameLaws.{same_filter_equiv}
 use Rattle.query_normal.specs.Normal.{distinct}
-use Rattle.query_normal.specs.Printed.{filter_of_printed}
-use Rattle.query_normal.proofs.SortLemmas.{printed_cmp, printed_cmp_total, printed_in_order}
+use Rattle.query_normal.proofs.OnceLemmas.{dedup_distinct}
 use Rattle.query_normal.proofs.sorting.filters_once.Goals as goal
 
--- a stable sort by the texts puts the filters in the order of their texts
+-- `dedup` leaves each of the sorted filters once
 pub returns : goal.returns
 returns c =
-    let all = c.in_ok-printed.printed.items in
-    let sorted = c.sort_by.new.self.items in
-    let is = sort_by_is_in_order printed_cmp printed_cmp_total all sorted c.in_ok-sort_by.ensures.sorted c.in_ok-sort_by.ensures.stable (λ a r q k. search rules) in
-    c.in_ok-distinct_filters.ensures
-    ∙ ap (distinct same_filter) (ap (map filter_of_printed) is ∙ printed_in_order all c.args.filters.items c.in_ok-printed.ensures.texts c.in_ok-printed.ensures.filters)
+    dedup_is same_filter _ _ c.dedup.ensures.filtered
+    ∙ dedup_distinct same_filter same_filter_equiv.symm _
+    ∙ ap (distinct same_filter) c.in_ok-sorted.ensures
