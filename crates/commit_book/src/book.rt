@@ -1,5 +1,5 @@
 //! The book: its rows, and what finds them.
-ghost use Rattle.std.specs.Prelude.{◌≡◌, ◌⊎◌, ◌+◌, ◌≤◌, ◌^◌, Some, Err, IsOk, IsErr, IsSome, IfOk, OnOk, OnErr, length, slice_get, option_map, is_some, ◌<◌, ℕ};
+ghost use Rattle.std.specs.Prelude.{◌≡◌, ◌⊎◌, ◌+◌, ◌≤◌, ◌^◌, Some, None, Err, IsOk, IsErr, IsSome, IfOk, OnOk, OnErr, length, slice_get, option_map, is_some, ◌<◌, ℕ};
 ghost use Rattle.commit_book.specs.declared.change.Change.{Change as AChange};
 ghost use Rattle.commit_book.specs.declared.refusal.BookRefusal.TheVariants.{Memory as NoMemory};
 ghost use Rattle.commit_book.specs.Contents.{empty_book, judged, added, refusal_of, is_reserved, with_commit};
@@ -134,6 +134,13 @@ impl Book {
             }
             None => unreachable!(),
         }
+    }
+
+    /// Gives back what was reserved for a change.
+    pub fn forget_reserved(&mut self)
+        ensures { self.new ≡ record self.old { reserved = None } }
+    {
+        self.reserved = None;
     }
 
     /// Adds a change as the next commit. It takes no memory where the change was reserved.

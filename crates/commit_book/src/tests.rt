@@ -1,82 +1,148 @@
 //! What no clause says: the worked case of the capacity, that calls succeed where there is memory,
-//! and that look-ups take none.
+//! and that look-ups take none. A function here takes one step, since the time of its proof grows
+//! faster than its length.
 
 use crate::{Book, BookRefusal, Change};
-use q_base::Name;
+use q_base::{Name, SharedText};
 use q_doc::Doc;
 use std::alloc::Global;
 use std::test::Fail;
 
+/// A name.
+fn name(alloc: Global, text: &[u8]) -> Result<Name, Fail> {
+    Ok(Name::read(alloc, text)?)
+}
+
+/// The document of a text; an empty text is a deletion.
+fn document(alloc: Global, text: &[u8]) -> Result<Option<Doc>, Fail> {
+    if text.is_empty() {
+        Ok(None)
+    } else {
+        Ok(Some(Doc::read(alloc, text)?))
+    }
+}
+
 /// A change of a record of `shop`; an empty text is a deletion.
 fn change(alloc: Global, id: &[u8], text: &[u8]) -> Result<Change, Fail> {
-    let document = if text.is_empty() {
-        None
-    } else {
-        Some(Doc::read(alloc, text)?)
-    };
     Ok(Change {
-        collection: Name::read(alloc, b"shop")?,
-        id: Name::read(alloc, id)?,
-        document,
+        collection: name(alloc, b"shop")?,
+        id: name(alloc, id)?,
+        document: document(alloc, text)?,
     })
 }
 
-/// Adds a change of a record of `shop`, and answers its commit.
-fn add(alloc: Global, book: &mut Book, id: &[u8], text: &[u8]) -> Result<u64, Fail> {
+/// Adds a change of a record of `shop`.
+fn add(alloc: Global, book: &mut Book, id: &[u8], text: &[u8]) -> Result<(), Fail> {
     let change = change(alloc, id, text)?;
-    Ok(book.add(&change)?)
+    book.add(&change)?;
+    Ok(())
 }
 
-/// Whether a change is refused with this sum, by both calls.
-fn is_full(book: &mut Book, change: &Change, sum: u64) -> bool {
-    match (book.reserve(change), book.add(change)) {
-        (Err(BookRefusal::Full { bytes }), Err(BookRefusal::Full { bytes: again })) => {
-            bytes == sum && again == sum
-        }
-        _ => false,
+/// Adds the short document of p2.
+fn add_short(alloc: Global, book: &mut Book) -> Result<(), Fail> {
+    add(alloc, book, b"p2", b"{\"a\":1}")
+}
+
+/// A book without a commit. It is boxed, since each end of a function lets go of a book part by part,
+/// which is long to prove, and of a box by one call.
+fn new_book(alloc: Global) -> Result<Box<Book>, Fail> {
+    Ok(Box::new(alloc, Book::new(alloc, 65_792)?)?)
+}
+
+/// Adds letters to a text.
+fn push_letters(text: &mut Vec<u8>, count: u32) -> Result<(), Fail> {
+    for _ in 0..count {
+        text.push(b'x')?;
     }
+    Ok(())
 }
 
 /// A document whose one text has 65,528 letters.
 fn long_text(alloc: Global) -> Result<Vec<u8>, Fail> {
     let mut text = Vec::new(alloc);
     text.extend_from_slice(b"{\"a\":\"")?;
-    for _ in 0..65_528 {
-        text.push(b'x')?;
-    }
+    push_letters(&mut text, 65_528)?;
     text.extend_from_slice(b"\"}")?;
     Ok(text)
 }
 
+/// Adds a long document.
+fn add_long(alloc: Global, book: &mut Book) -> Result<(), Fail> {
+    let text = long_text(alloc)?;
+    add(alloc, book, b"p1", &text)
+}
+
+/// Adds a long document, and a short one twice.
+fn fill(alloc: Global, book: &mut Book) -> Result<(), Fail> {
+    add_long(alloc, book)?;
+    add_short(alloc, book)?;
+    add_short(alloc, book)
+}
+
+/// A book of three commits that has room for less than a short document.
+fn almost_full(alloc: Global) -> Result<Box<Book>, Fail> {
+    let mut book = new_book(alloc)?;
+    fill(alloc, &mut book)?;
+    Ok(book)
+}
+
+/// Whether it is the refusal of a change that would lead to this sum.
+fn is_full_with(refusal: Option<BookRefusal>, sum: u64) -> bool {
+    match refusal {
+        Some(BookRefusal::Full { bytes }) => bytes == sum,
+        _ => false,
+    }
+}
+
+/// Whether a change is refused with this sum, by both calls.
+fn is_full(book: &mut Book, change: &Change, sum: u64) -> bool {
+    is_full_with(book.reserve(change).err(), sum) && is_full_with(book.add(change).err(), sum)
+}
+
+/// Whether the short document, which takes 77 bytes, is refused.
+fn is_full_for_short(alloc: Global, book: &mut Book) -> Result<bool, Fail> {
+    let short = change(alloc, b"p2", b"{\"a\":1}")?;
+    Ok(short.cost() == 77 && is_full(book, &short, 65_837))
+}
+
 #[test]
 fn a_change_above_the_capacity_is_refused(rt: HostRuntime) -> Result<(), Fail> {
-    let alloc = rt.alloc();
-    let text = long_text(alloc)?;
-    let mut book = Book::new(alloc, 65_792)?;
-    assert_eq!(rt; add(alloc, &mut book, b"p1", &text)?, 1);
-    assert_eq!(rt; add(alloc, &mut book, b"p2", b"{\"a\":1}")?, 2);
-    assert_eq!(rt; add(alloc, &mut book, b"p2", b"{\"a\":1}")?, 3);
-    let short = change(alloc, b"p2", b"{\"a\":1}")?;
-    assert!(rt; is_full(&mut book, &short, 65_837));
-    assert_eq!(rt; short.cost(), 77);
-    assert_eq!(rt; book.count(), 3);
+    let mut book = almost_full(rt.alloc())?;
+    assert!(rt; is_full_for_short(rt.alloc(), &mut book)?);
+    assert!(rt; book.count() == 3);
     Ok(())
 }
 
-/// Whether a record of `shop` has this text at a commit; an empty text is none.
-fn has_text(book: &Book, commit: u64, shop: &Name, id: &Name, expected: &[u8]) -> bool {
-    if commit > book.count() {
-        return false;
-    }
-    match book.text_at(commit, shop, id) {
+/// Whether a look-up found this text; an empty text is none.
+fn is_text(found: Option<(u64, &SharedText)>, expected: &[u8]) -> bool {
+    match found {
         Some((_, text)) => text.as_slice() == expected,
         None => expected.is_empty(),
     }
 }
 
+/// Whether a record of `shop` has this text at a commit; an empty text is none.
+fn has_text(book: &Book, commit: u64, shop: &Name, id: &Name, expected: &[u8]) -> bool {
+    commit <= book.count() && is_text(book.text_at(commit, shop, id), expected)
+}
+
+/// Whether a record has the texts of p2 in the book of four commits.
+fn has_texts(book: &Book, shop: &Name, id: &Name) -> bool {
+    has_text(book, 2, shop, id, b"{\"a\":1}")
+        && has_text(book, 3, shop, id, b"")
+        && has_text(book, 4, shop, id, b"{\"a\":4}")
+}
+
+/// Whether p2 has its texts.
+fn has_texts_of_p2(alloc: Global, book: &Book) -> Result<bool, Fail> {
+    let shop = name(alloc, b"shop")?;
+    let id = name(alloc, b"p2")?;
+    Ok(has_texts(book, &shop, &id))
+}
+
 /// A book of four commits: p2 is put, deleted and put again, and p10 is put.
-fn four_commits(alloc: Global) -> Result<Book, Fail> {
-    let mut book = Book::new(alloc, 65_792)?;
+fn four_commits(alloc: Global) -> Result<Box<Book>, Fail> {
+    let mut book = new_book(alloc)?;
     put_two(alloc, &mut book)?;
     put_again(alloc, &mut book)?;
     Ok(book)
@@ -84,65 +150,80 @@ fn four_commits(alloc: Global) -> Result<Book, Fail> {
 
 /// Puts two records.
 fn put_two(alloc: Global, book: &mut Book) -> Result<(), Fail> {
-    add(alloc, book, b"p2", b"{\"a\":1}")?;
-    add(alloc, book, b"p10", b"{\"b\":2}")?;
-    Ok(())
+    add_short(alloc, book)?;
+    add(alloc, book, b"p10", b"{\"b\":2}")
 }
 
 /// Deletes the first of them and puts it again.
 fn put_again(alloc: Global, book: &mut Book) -> Result<(), Fail> {
     add(alloc, book, b"p2", b"")?;
-    add(alloc, book, b"p2", b"{\"a\":4}")?;
-    Ok(())
+    add(alloc, book, b"p2", b"{\"a\":4}")
 }
 
 #[test]
 fn documents_are_at_their_commits(rt: HostRuntime) -> Result<(), Fail> {
-    let alloc = rt.alloc();
-    let shop = Name::read(alloc, b"shop")?;
-    let id = Name::read(alloc, b"p2")?;
-    let book = four_commits(alloc)?;
-    assert!(rt; has_text(&book, 2, &shop, &id, b"{\"a\":1}"));
-    assert!(rt; has_text(&book, 3, &shop, &id, b""));
-    assert!(rt; has_text(&book, 4, &shop, &id, b"{\"a\":4}"));
+    let book = four_commits(rt.alloc())?;
+    assert!(rt; has_texts_of_p2(rt.alloc(), &book)?);
     Ok(())
+}
+
+/// The number of the documents of a collection at the last commit.
+fn document_count(book: &Book, shop: &Name) -> Result<usize, Fail> {
+    let documents = book.docs_at(book.count(), shop)?;
+    Ok(documents.len())
+}
+
+/// Whether `shop` has two documents at the last commit.
+fn has_two_documents(alloc: Global, book: &Book) -> Result<bool, Fail> {
+    let shop = name(alloc, b"shop")?;
+    Ok(document_count(book, &shop)? == 2)
+}
+
+/// Whether the list of all commits has as many.
+fn lists_all_commits(book: &Book) -> Result<bool, Fail> {
+    let last = book.count();
+    let commits = book.commits(0, last)?;
+    Ok(commits.len() as u64 == last)
 }
 
 #[test]
 fn lists_are_made_where_there_is_memory(rt: HostRuntime) -> Result<(), Fail> {
-    let alloc = rt.alloc();
-    let shop = Name::read(alloc, b"shop")?;
-    let book = four_commits(alloc)?;
-    let last = book.count();
-    let documents = book.docs_at(last, &shop)?;
-    assert_eq!(rt; documents.len(), 2);
-    let commits = book.commits(0, last)?;
-    assert_eq!(rt; commits.len() as u64, last);
+    let book = four_commits(rt.alloc())?;
+    assert!(rt; has_two_documents(rt.alloc(), &book)?);
+    assert!(rt; lists_all_commits(&book)?);
     Ok(())
 }
 
 /// A book of one commit, which puts p2.
-fn one_commit(alloc: Global) -> Result<Book, Fail> {
-    let mut book = Book::new(alloc, 65_792)?;
-    add(alloc, &mut book, b"p2", b"{\"a\":1}")?;
+fn one_commit(alloc: Global) -> Result<Box<Book>, Fail> {
+    let mut book = new_book(alloc)?;
+    add_short(alloc, &mut book)?;
     Ok(book)
 }
 
-/// Whether the look-ups of the last commit find a document of this collection.
+/// Whether the look-ups of the last commit find a document.
 fn is_found(book: &Book, shop: &Name, id: &Name) -> bool {
     let last = book.count();
     book.document_at(last, shop, id).is_some() && book.text_at(last, shop, id).is_some()
 }
 
+/// Whether they find p2. So short a name takes no memory.
+fn is_p2_found(alloc: Global, book: &Book) -> Result<bool, Fail> {
+    let shop = name(alloc, b"shop")?;
+    let id = name(alloc, b"p2")?;
+    Ok(is_found(book, &shop, &id))
+}
+
+/// Whether an allocation succeeds.
+fn has_memory(alloc: Global) -> bool {
+    Vec::<u8>::with_capacity(alloc, 1).is_ok()
+}
+
 /// The allocation at the end is the first one after the set-up.
 #[test]
 fn look_ups_take_no_memory(rt: HostRuntime) -> Result<(), Fail> {
-    let alloc = rt.alloc();
-    let shop = Name::read(alloc, b"shop")?;
-    let id = Name::read(alloc, b"p2")?;
-    let book = one_commit(alloc)?;
-    assert!(rt; is_found(&book, &shop, &id));
-    let next = Vec::<u8>::with_capacity(alloc, 1);
-    assert!(rt; next.is_ok(), "the next allocation was refused");
+    let book = one_commit(rt.alloc())?;
+    assert!(rt; is_p2_found(rt.alloc(), &book)?);
+    assert!(rt; has_memory(rt.alloc()), "the next allocation was refused");
     Ok(())
 }

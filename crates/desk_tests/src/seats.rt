@@ -8,7 +8,8 @@ ghost use Rattle.hub_desk.specs.HubValue.{hub_setting};
 
 use commit_book::Change;
 use hub_desk::{
-    Answer, Condition, Config, Desk, HubValue, Outcome, Seat, Seated, Tags, Turnstile, Written,
+    Answer, Condition, Config, Desk, HubValue, Outcome, Owned, Seat, Seated, Tags, Turnstile,
+    Written,
 };
 use q_base::{Memory, Moment, Name};
 use q_doc::Doc;
@@ -133,5 +134,40 @@ fn no_hub_is_left_where_a_turn_was_forgotten(rt: HostRuntime) -> Result<(), Fail
     let mut seat = desk.into_seat();
     forget_turn(&rt, &turnstile, &mut seat);
     assert!(rt; turnstile.close(seat).is_none());
+    Ok(())
+}
+
+/// Writes as often as this at any desk; whether memory sufficed each time.
+fn write_often<D: Desk>(desk: &mut D, alloc: Global, times: usize) -> Result<bool, Fail>
+    ensures { D.anchor desk.new ≡ D.anchor desk.old }
+{
+    let mut suffices = true;
+    for _turn in 0..times {
+        suffices = write(desk, put(alloc, b"p1")?) && suffices;
+    }
+    Ok(suffices)
+}
+
+#[test]
+fn a_helped_write_makes_two_entries(rt: HostRuntime) -> Result<(), Fail> {
+    let alloc = rt.alloc();
+    let (turnstile, first) = open(alloc)?;
+    let mut desk = Seated::new(&rt, &turnstile, first);
+    assert!(rt; write_often(&mut desk, alloc, 1025)?);
+    let seat = desk.into_seat();
+    let value = turnstile.close(seat).ok_or("the turn is free")?;
+    assert_eq!(rt;
+        (value.entries(), value.hub().front(), value.hub().commits()),
+        (1026, 1024, 1025)
+    );
+    Ok(())
+}
+
+#[test]
+fn a_desk_notes_what_helped_its_write(rt: HostRuntime) -> Result<(), Fail> {
+    let alloc = rt.alloc();
+    let mut desk = Owned::new(alloc, Config::default())?;
+    assert!(rt; write_often(&mut desk, alloc, 1025)?);
+    assert_eq!(rt; (desk.hub().front(), desk.hub().commits()), (1024, 1025));
     Ok(())
 }

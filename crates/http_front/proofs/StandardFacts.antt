@@ -51,9 +51,9 @@ same-document : (text_at_100 get (Read (record { commit = 7; clock = 100; ttl = 
 unfolding head_text head_fields status_line digits get put head
 same-document = (refl, refl)
 
--- a read of a query, and of one whose result the caller knows: they must not be kept, and have no version
-result-of-query : (text_at_100 get (Read (record { commit = 1; clock = 100; ttl = 0; result = Whole (codes "[\"p1\"]") None })) false ≡ codes "HTTP/1.1 200 OK\r\nDate: Thu, 01 Jan 1970 00:01:40 GMT\r\nContent-Type: application/json\r\nContent-Length: 6\r\nETag: \"1\"\r\nCache-Control: no-store\r\nQuaestor-Commit: 1\r\nQuaestor-Until: 100\r\n\r\n[\"p1\"]")
-    × (text_at_100 get (Read (record { commit = 2; clock = 100; ttl = 0; result = Same 1 None })) false ≡ codes "HTTP/1.1 304 Not Modified\r\nDate: Thu, 01 Jan 1970 00:01:40 GMT\r\nETag: \"1\"\r\nCache-Control: no-store\r\nQuaestor-Commit: 2\r\nQuaestor-Until: 100\r\n\r\n")
+-- a read of a query, and of one whose result the caller knows: they may be kept, and have no version
+result-of-query : (text_at_100 get (Read (record { commit = 1; clock = 100; ttl = 60; result = Whole (codes "[\"p1\"]") None })) false ≡ codes "HTTP/1.1 200 OK\r\nDate: Thu, 01 Jan 1970 00:01:40 GMT\r\nContent-Type: application/json\r\nContent-Length: 6\r\nETag: \"1\"\r\nCache-Control: max-age=60\r\nQuaestor-Commit: 1\r\nQuaestor-Until: 160\r\n\r\n[\"p1\"]")
+    × (text_at_100 get (Read (record { commit = 2; clock = 100; ttl = 60; result = Same 1 None })) false ≡ codes "HTTP/1.1 304 Not Modified\r\nDate: Thu, 01 Jan 1970 00:01:40 GMT\r\nETag: \"1\"\r\nCache-Control: max-age=60\r\nQuaestor-Commit: 2\r\nQuaestor-Until: 160\r\n\r\n")
 unfolding head_text head_fields status_line digits get put head
 result-of-query = (refl, refl)
 

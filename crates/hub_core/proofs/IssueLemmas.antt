@@ -3,16 +3,14 @@ use Rattle.std.proofs.Common.{◌≡◌, ℕ, suc, ◌<◌, ◌≤◌, Bool, tru
 use Rattle.std.specs.List.{list_any, AllByRecursion, IsDistinct}
 use Rattle.std.specs.Set.{unique_keys}
 use Rattle.std.proofs.lemmas.Bool.{cases_Bool, cases_lt, lt-ltb, le-ltb, or_parts, or_cases, or_right}
-use Rattle.std.proofs.Math.Bool.{and-false}
 use Rattle.std.proofs.lemmas.List.{length-map}
 use Rattle.std.proofs.lemmas.Map.Made.{length-le_from_is_member}
 use Rattle.query_normal.specs.Keys.{same_key}
 use Rattle.query_normal.specs.SameKey.{same_key-Decides, same_key_equiv}
 use Rattle.query_normal.specs.declared.key.KeyShape.{KeyShape}
 use Rattle.issued_expiries.specs.Copies.{Copy, unexpired, later_of, latest_where, latest_of, is_between, is_active, active_keys, SameCopies, with_copy}
-use Rattle.hub_model.specs.Lifetime.{is_query}
 use Rattle.hub_model.proofs.KeySets.{among-unique, distinct-unique}
-use Rattle.hub_core.specs.CopiesView.{AreOfRecords, while_later, last_until, until_in}
+use Rattle.hub_core.specs.CopiesView.{while_later, last_until, until_in}
 use Rattle.issued_expiries.proofs.LawLemmas.{active_alike}
 use Rattle.issued_expiries.proofs.ViewLemmas.{only_above, latest_unexpired, active_is}
 use Rattle.hub_core.proofs.CopyLemmas.{latest, latest-cons}
@@ -154,13 +152,6 @@ module _ (copy : Copy) (old new : List Copy) (same : SameCopies new (copy ∷ ol
   active-more : (key : KeyShape) → is_active new key ≡ (same_key key copy.0 || is_active old key)
   active-more key = active_alike new (copy ∷ old) key same
 
-  pub active-record : is_query copy.0 ≡ false → AreOfRecords old → AreOfRecords new
-  active-record record_key records key active =
-      elim (or_cases (same_key key copy.0) (is_active old key) (sym (active-more key) ∙ active)) [
-        | inl own ↦ ap is_query ((same_key-Decides key copy.0).0 own) ∙ record_key
-        | inr was ↦ records key was
-      ]
-
   pub count-with : (limit : ℕ) → active_keys old ≤ limit → (is_active old copy.0 ≡ true) ⊎ (active_keys old < limit) → active_keys new ≤ limit
   count-with limit few room =
       elim room [
@@ -243,8 +234,3 @@ used-up before after key alone used =
       | inl own ↦ ap (λ (b : Bool). not b && list_any (same_key other) before) own
       | inr apart ↦ ap (λ (b : Bool). not b && list_any (same_key other) before) apart ∙ alone other apart
     ])
-
--- where no key was idle none is
-pub none-idle : (before after : List KeyShape) (gone : KeyShape → Bool) → ((other : KeyShape) → list_any (same_key other) after ≡ (not (gone other) && list_any (same_key other) before)) → before ≡ [] → after ≡ []
-none-idle before after gone left none =
-    none-among after (λ other. left other ∙ ap (λ (ks : List KeyShape). not (gone other) && list_any (same_key other) ks) none ∙ and-false (not (gone other)))

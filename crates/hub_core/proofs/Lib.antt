@@ -5,6 +5,8 @@ pub mod InvalidationLemmas
 pub mod IssueLemmas
 pub mod SoundLemmas
 pub mod StateLemmas
+pub mod KeepLemmas
+pub mod ReadLemmas
 pub mod MatchLemmas
 pub mod HubLemmas
 pub mod WriteLemmas

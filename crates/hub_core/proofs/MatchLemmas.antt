@@ -1,6 +1,7 @@
 -- What the invalidations of a match raise.
-use Rattle.std.proofs.Common.{◌≡◌, ℕ, zero, suc, ◌+◌, ◌<◌, ◌≤◌, ◌==◌, Bool, true, false, ◌&&◌, ◌||◌, ◌⊎◌, max, nat_lt, nat_le, List, [], ◌∷◌, ◌++◌, length, map, is_some, Option, Some, None, unwrap_or, slice_get, slice_index_or, get_or, take, option_map, option_and_then, bytes_eq, if◌then◌else◌, refl, sym, ap, ap₂, ◌∙◌, arith, inl, inr}
+use Rattle.std.proofs.Common.{◌≡◌, ℕ, zero, suc, ◌+◌, ◌<◌, ◌≤◌, ◌==◌, Bool, true, false, not, ◌&&◌, ◌||◌, ◌⊎◌, max, nat_lt, nat_le, List, [], ◌∷◌, ◌++◌, length, map, is_some, Option, Some, None, unwrap_or, slice_get, slice_index, slice_index_or, get_or, take, option_map, option_and_then, bytes_eq, if◌then◌else◌, refl, sym, ap, ap₂, ◌∙◌, arith, inl, inr}
 use Rattle.std.specs.List.{list_any}
+use Rattle.std.specs.Map.{lookup}
 use Rattle.std.proofs.lemmas.Bool.{cases_Bool, cases_lt, lt-ltb, le-ltb, le-leb, lt-leb, ltb-true, leb-true, eq-eqb, eqb-true, or_left, or_right}
 use Rattle.std.proofs.Math.Bool.{and-true, and-false, and_comm, or-false}
 use Rattle.std.proofs.Math.Seq.{take-suc}
@@ -8,23 +9,26 @@ use Rattle.query_normal.specs.Keys.{same_key}
 use Rattle.query_normal.specs.SameKey.{same_key-Decides, same_key_equiv}
 use Rattle.query_normal.specs.declared.key.KeyShape.{KeyShape}
 use Rattle.query_normal.specs.declared.key.KeyShape.TheVariants.{Record, Query}
-use Rattle.issued_expiries.specs.Copies.{Copy, latest_where, is_between, is_active}
+use Rattle.issued_expiries.specs.Copies.{Copy, SameCopies, unexpired, latest_where, is_between, is_active}
+use Rattle.issued_expiries.proofs.ViewLemmas.{only_above, latest_unexpired}
 use Rattle.commit_book.specs.declared.change.Change.{Change}
-use Rattle.commit_book.specs.Journal.{is_of, document_at}
+use Rattle.commit_book.specs.Journal.{is_of, document_at, alteration}
+use Rattle.active_queries.specs.Following.{Following}
+use Rattle.active_queries.specs.Queries.{HaveSeen}
 use Rattle.hub_model.specs.Copies.{live}
-use Rattle.hub_model.specs.Lifetime.{is_query}
 use Rattle.hub_model.specs.Outdated.{is_changed}
 use Rattle.hub_model.specs.State.{IssuedCopy, State, until_of}
 use Rattle.hub_model.specs.Until.{until_among, latest_until, until_of_outdated}
 use Rattle.hub_model.proofs.Changes.{record-changed}
 use Rattle.hub_model.proofs.Covered.{outdated_until-commit}
 use Rattle.hub_core.specs.declared.invalidations.Invalidation.{Invalidation}
-use Rattle.hub_core.specs.Invalidations.{key_of, altered_key, is_key, is_invalidation, is_after, AreInvalidationsOf, invalidated_until}
+use Rattle.hub_core.specs.ActiveQueries.{is_query, KeepsQueries}
+use Rattle.hub_core.specs.Invalidations.{key_of, altered_key, is_key, is_invalidation, is_after, invalidates, AreInvalidationsOf, AreRecordInvalidationsOf, invalidated_until}
 use Rattle.hub_core.specs.HubState.{HasCopies, copy_of}
 use Rattle.hub_core.specs.CopiesView.{until_below}
 use Rattle.hub_core.proofs.CopyLemmas.{latest, latest-cons}
 use Rattle.hub_core.proofs.GreatestLemmas.{best, best-cons, best-append, best-le}
-use Rattle.hub_core.proofs.IssueLemmas.{inactive-none}
+use Rattle.hub_core.proofs.KeepLemmas.{invalidations-are}
 
 -- ---- the last copy of a key
 
@@ -54,9 +58,13 @@ pub is_of-key : (change : Change) (collection id : List ℕ) → is_of collectio
 is_of-key change collection id = and_comm (bytes_eq change.id id) (bytes_eq change.collection collection)
 
 -- the key that a commit altered is the only record's whose result it changed
-altered-decides : (journal : List Change) (n : ℕ) (key : KeyShape) → is_query key ≡ false → n < length journal → is_changed key journal (suc n) ≡ is_key key (altered_key journal (suc n))
-altered-decides journal n (Query kind query) record_key low = absurd (let e = record_key in cc)
-altered-decides journal n (Record collection id) record_key low = of (there journal n low)
+altered-decides : (journal : List Change) (n : ℕ) (key : KeyShape) → n < length journal → (not (is_query key) && is_changed key journal (suc n)) ≡ is_key key (altered_key journal (suc n))
+altered-decides journal n (Query kind query) low = by (alteration journal (suc n))
+  where
+    by : (found : Option Change) → false ≡ is_key (Query kind query) (option_map key_of found)
+    by None = refl
+    by (Some x) = refl
+altered-decides journal n (Record collection id) low = of (there journal n low)
   where
     there : (xs : List Change) (i : ℕ) → i < length xs → (x : Change) × (slice_get xs i ≡ Some x)
     there [] i low = absurd (omega (arith, low))
@@ -88,50 +96,149 @@ altered-decides journal n (Record collection id) record_key low = of (there jour
 -- ---- the invalidations by commits
 
 -- no commit is after itself
-pub invalidations-none : (journal : List Change) (front : ℕ) → AreInvalidationsOf journal front front []
-invalidations-none journal front key commit record_key =
+pub invalidations-none : (journal : List Change) (front : ℕ) → AreRecordInvalidationsOf journal front front []
+invalidations-none journal front key commit =
     elim (cases_lt front commit) [
-      | inl above ↦ rw (lt-ltb front commit above, lt-leb commit front above) refl
-      | inr below ↦ rw (le-ltb front commit below) refl
+      | inl above ↦ rw (lt-ltb front commit above, lt-leb commit front above) (sym (and-false (not (is_query key))))
+      | inr below ↦ rw (le-ltb front commit below) (sym (and-false (not (is_query key))))
     ]
 
 -- one commit more
-pub invalidations-next : (journal : List Change) (front n : ℕ) (old new : List Invalidation) → AreInvalidationsOf journal front n old →
+pub invalidations-next : (journal : List Change) (front n : ℕ) (old new : List Invalidation) → AreRecordInvalidationsOf journal front n old →
     ((key : KeyShape) (commit : ℕ) → list_any (is_invalidation key commit) new ≡ (list_any (is_invalidation key commit) old || (is_key key (altered_key journal (n + 1)) && (n + 1 == commit)))) →
-    front ≤ n → n < length journal → AreInvalidationsOf journal front (n + 1) new
-invalidations-next journal front n old new were more forward within key commit record_key =
+    front ≤ n → n < length journal → AreRecordInvalidationsOf journal front (n + 1) new
+invalidations-next journal front n old new were more forward within key commit =
     more key commit
-    ∙ ap (λ (b : Bool). b || (is_key key (altered_key journal (n + 1)) && (n + 1 == commit))) (were key commit record_key)
+    ∙ ap (λ (b : Bool). b || (is_key key (altered_key journal (n + 1)) && (n + 1 == commit))) (were key commit ∙ outer (is_query key) (is_after front n commit) (is_changed key journal commit))
     ∙ by (cases_Bool (n + 1 == commit))
+    ∙ sym (outer (is_query key) (is_after front (n + 1) commit) (is_changed key journal commit))
   where
-    by : ((n + 1 == commit) ≡ true) ⊎ ((n + 1 == commit) ≡ false) → ((is_after front n commit && is_changed key journal commit) || (is_key key (altered_key journal (n + 1)) && (n + 1 == commit))) ≡ (is_after front (n + 1) commit && is_changed key journal commit)
+    -- the commit changes the result of the key, which is a record's
+    alters : Bool
+    alters = not (is_query key) && is_changed key journal commit
+
+    outer : (query a changed : Bool) → (not query && (a && changed)) ≡ (a && (not query && changed))
+    outer true a changed = sym (and-false a)
+    outer false a changed = refl
+
+    beyond-next : ((n + 1 == commit) ≡ false) → n < commit → n + 1 < commit
+    beyond-next miss beyond =
+        elim (cases_lt (n + 1) commit) [
+          | inl h ↦ h
+          | inr h ↦ (let e : n + 1 ≡ commit = omega (arith, h, beyond) in absurd (let t : (n + 1 == commit) ≡ true = eq-eqb (n + 1) commit e in cc))
+        ]
+
+    by : ((n + 1 == commit) ≡ true) ⊎ ((n + 1 == commit) ≡ false) → ((is_after front n commit && alters) || (is_key key (altered_key journal (n + 1)) && (n + 1 == commit))) ≡ (is_after front (n + 1) commit && alters)
     by (inl hit) =
         let same : n + 1 ≡ commit = eqb-true (n + 1) commit hit in
         let next : suc n ≡ n + 1 = omega arith in
-        let told : is_key key (altered_key journal (n + 1)) ≡ is_changed key journal commit =
-        ap (λ (m : ℕ). is_key key (altered_key journal m)) (sym next) ∙ sym (altered-decides journal n key record_key within) ∙ ap (is_changed key journal) (next ∙ same) in
+        let told : is_key key (altered_key journal (n + 1)) ≡ alters =
+        ap (λ (m : ℕ). is_key key (altered_key journal m)) (sym next) ∙ sym (altered-decides journal n key within) ∙ ap (λ (m : ℕ). not (is_query key) && is_changed key journal m) (next ∙ same) in
         let above : front < commit = omega (arith, same, forward) in
         let beyond : n < commit = omega (arith, same) in
         let up : commit ≤ n + 1 = omega (arith, same) in
-        ap₂ (λ (b c : Bool). (b && is_changed key journal commit) || c)
+        ap₂ (λ (b c : Bool). (b && alters) || c)
         (ap₂ (λ (b c : Bool). b && c) (lt-ltb front commit above) (lt-leb commit n beyond))
-        (ap₂ (λ (b c : Bool). b && c) told hit ∙ and-true (is_changed key journal commit))
-        ∙ sym (ap₂ (λ (b c : Bool). (b && c) && is_changed key journal commit) (lt-ltb front commit above) (le-leb commit (n + 1) up))
+        (ap₂ (λ (b c : Bool). b && c) told hit ∙ and-true alters)
+        ∙ sym (ap₂ (λ (b c : Bool). (b && c) && alters) (lt-ltb front commit above) (le-leb commit (n + 1) up))
     by (inr miss) =
-        ap (λ (b : Bool). (is_after front n commit && is_changed key journal commit) || b) (ap (λ (b : Bool). is_key key (altered_key journal (n + 1)) && b) miss ∙ and-false (is_key key (altered_key journal (n + 1))))
-        ∙ or-false (is_after front n commit && is_changed key journal commit)
-        ∙ ap (λ (b : Bool). (nat_lt front commit && b) && is_changed key journal commit)
+        ap (λ (b : Bool). (is_after front n commit && alters) || b) (ap (λ (b : Bool). is_key key (altered_key journal (n + 1)) && b) miss ∙ and-false (is_key key (altered_key journal (n + 1))))
+        ∙ or-false (is_after front n commit && alters)
+        ∙ ap (λ (b : Bool). (nat_lt front commit && b) && alters)
         (elim (cases_lt n commit) [
-          | inl beyond ↦ (let apart : n + 1 < commit = beyond-next beyond in lt-leb commit n beyond ∙ sym (lt-leb commit (n + 1) apart))
+          | inl beyond ↦ (let apart : n + 1 < commit = beyond-next miss beyond in lt-leb commit n beyond ∙ sym (lt-leb commit (n + 1) apart))
           | inr within' ↦ le-leb commit n within' ∙ sym (le-leb commit (n + 1) (omega (arith, within')))
         ])
-      where
-        beyond-next : n < commit → n + 1 < commit
-        beyond-next beyond =
-            elim (cases_lt (n + 1) commit) [
-              | inl h ↦ h
-              | inr h ↦ (let e : n + 1 ≡ commit = omega (arith, h, beyond) in absurd (let t : (n + 1 == commit) ≡ true = eq-eqb (n + 1) commit e in cc))
-            ]
+
+-- ---- the invalidations by the changes of queries
+
+-- a key without a query is invalidated by none
+none-invalidates : (front to : ℕ) (key : KeyShape) (n : ℕ) (entries : List (KeyShape × Following)) → is_some (lookup (same_key key) entries) ≡ false → list_any (invalidates front to key n) entries ≡ false
+none-invalidates front to key n [] none = refl
+none-invalidates front to key n (e ∷ entries) none = by (same_key key e.0) refl (none-invalidates front to key n entries)
+  where
+    by : (b : Bool) → same_key key e.0 ≡ b → (is_some (lookup (same_key key) entries) ≡ false → list_any (invalidates front to key n) entries ≡ false) → list_any (invalidates front to key n) (e ∷ entries) ≡ false
+    by true own rest = absurd (let there : is_some (if true then Some e.1 else lookup (same_key key) entries) ≡ false = sym (ap (λ (b : Bool). is_some (if b then Some e.1 else lookup (same_key key) entries)) own) ∙ none in cc)
+    by false apart rest =
+        ap (λ (b : Bool). (b && list_any (λ m. is_after front to m && (m == n)) e.1.changed) || list_any (invalidates front to key n) entries) apart
+        ∙ rest (sym (ap (λ (b : Bool). is_some (if b then Some e.1 else lookup (same_key key) entries)) apart) ∙ none)
+
+-- the invalidations of records and those by the queries are all
+pub invalidations-all : (journal : List Change) (front to : ℕ) (copies : List Copy) (idle : List KeyShape) (entries : List (KeyShape × Following)) (records all : List Invalidation) → KeepsQueries journal front copies idle entries → HaveSeen to entries →
+    AreRecordInvalidationsOf journal front to records → ((key : KeyShape) (n : ℕ) → list_any (is_invalidation key n) all ≡ (list_any (is_invalidation key n) records || list_any (invalidates front to key n) entries)) →
+    AreInvalidationsOf journal front to copies all
+invalidations-all journal front to copies idle entries records all keeps seen of is key commit some = is key commit ∙ by (cases_Bool (is_query key))
+  where
+    matters : Bool
+    matters = is_after front to commit && is_changed key journal commit
+
+    by : (is_query key ≡ true) ⊎ (is_query key ≡ false) → (list_any (is_invalidation key commit) records || list_any (invalidates front to key commit) entries) ≡ matters
+    by (inl query) =
+        ap₂ (λ (a b : Bool). a || b) (of key commit ∙ ap (λ (b : Bool). not b && matters) query) (invalidations-are journal front copies idle entries keeps to seen key commit query some)
+    by (inr none) =
+        ap₂ (λ (a b : Bool). a || b) (of key commit ∙ ap (λ (b : Bool). not b && matters) none)
+        (none-invalidates front to key commit entries (keeps.tied key ∙ ap (λ (b : Bool). b && (is_active copies key || list_any (same_key key) idle)) none))
+        ∙ or-false matters
+
+-- three tests, grouped
+or-group : (x y z : Bool) → (x || (y || z)) ≡ ((x || y) || z)
+or-group true y z = refl
+or-group false y z = refl
+
+-- a test of one item more
+any-next : {X : Type 0} (p : X → Bool) (xs : List X) (i : ℕ) (x : X) → slice_get xs i ≡ Some x → list_any p (take (i + 1) xs) ≡ (list_any p (take i xs) || p x)
+any-next {X} p xs i x there = ap (λ n. list_any p (take n xs)) (let h : i + 1 ≡ suc i = omega arith in h) ∙ by xs i there
+  where
+    by : (ys : List X) (j : ℕ) → slice_get ys j ≡ Some x → list_any p (take (suc j) ys) ≡ (list_any p (take j ys) || p x)
+    by [] j found = absurd (let e : ◌≡◌ {A = Option X} None (Some x) = found in cc)
+    by (y ∷ ys) zero found = (let e : y ≡ x = (let f : ◌≡◌ {A = Option X} (Some y) (Some x) = found in cc) in or-false (p y) ∙ ap p e)
+    by (y ∷ ys) (suc j) found = ap (λ (b : Bool). p y || b) (by ys j found) ∙ or-group (p y) (list_any p (take j ys)) (p x)
+
+-- an index within a list has an item
+item-there : {X : Type 0} (xs : List X) (i : ℕ) → i < length xs → (x : X) × (slice_get xs i ≡ Some x)
+item-there [] i low = absurd (omega (arith, low))
+item-there (x ∷ xs) zero low = (x, refl)
+item-there (x ∷ xs) (suc i) low = item-there xs i (omega (arith, low))
+
+-- the invalidations by one query more
+pub queries-next : {X : Type 0} (p : X → Bool) (xs : List X) (i : ℕ) (first old new : Bool) → i < length xs → old ≡ (first || list_any p (take i xs)) → ((x : X) → slice_get xs i ≡ Some x → new ≡ (old || p x)) → new ≡ (first || list_any p (take (i + 1) xs))
+queries-next p xs i first old new low was is =
+    let there = item-there xs i low in
+    is there.0 there.1
+    ∙ ap (λ (b : Bool). b || p there.0) was
+    ∙ sym (or-group first (list_any p (take i xs)) (p there.0))
+    ∙ ap (λ (b : Bool). first || b) (sym (any-next p xs i there.0 there.1))
+
+-- and by one of a query's changes more
+pub changes-next : (p : ℕ → Bool) (own : Bool) (xs : List ℕ) (i m : ℕ) (first old new : Bool) → i < length xs → m ≡ slice_index xs i → old ≡ (first || (own && list_any p (take i xs))) → new ≡ (old || (own && p m)) → new ≡ (first || (own && list_any p (take (i + 1) xs)))
+changes-next p own xs i m first old new low item was is =
+    let there = item-there xs i low in
+    let m_is : m ≡ there.0 = item ∙ value xs i there.0 there.1 in
+    is
+    ∙ ap₂ (λ (b : Bool) (n : ℕ). b || (own && p n)) was m_is
+    ∙ sym (or-group first (own && list_any p (take i xs)) (own && p there.0))
+    ∙ ap (λ (b : Bool). first || b) (both own (list_any p (take i xs)) (p there.0) ∙ ap (λ (b : Bool). own && b) (sym (any-next p xs i there.0 there.1)))
+  where
+    both : (a b c : Bool) → ((a && b) || (a && c)) ≡ (a && (b || c))
+    both true b c = refl
+    both false b c = refl
+
+    value : (ys : List ℕ) (j x : ℕ) → slice_get ys j ≡ Some x → slice_index ys j ≡ x
+    value [] j x found = absurd (let e : ◌≡◌ {A = Option ℕ} None (Some x) = found in cc)
+    value (y ∷ ys) zero x found = (let f : ◌≡◌ {A = Option ℕ} (Some y) (Some x) = found in cc)
+    value (y ∷ ys) (suc j) x found = value ys j x found
+
+-- they stay those of the copies when some expire
+pub invalidations-later : (journal : List Change) (front to clock : ℕ) (old new : List Copy) (invalidations : List Invalidation) → SameCopies new (unexpired clock old) → AreInvalidationsOf journal front to old invalidations → AreInvalidationsOf journal front to new invalidations
+invalidations-later journal front to clock old new invalidations same are key commit some =
+    are key commit
+    (let is : until_below new key commit ≡ unwrap_or (only_above clock (latest_where key (is_between 0 commit) old)) 0 = ap (λ (o : Option ℕ). unwrap_or o 0) (same key (is_between 0 commit) ∙ latest_unexpired clock key (is_between 0 commit) old) in
+    let less = by (latest_where key (is_between 0 commit) old) in
+    omega (arith, some, is, less))
+  where
+    by : (o : Option ℕ) → unwrap_or (only_above clock o) 0 ≤ unwrap_or o 0
+    by None = omega arith
+    by (Some n) = elim (cases_Bool (nat_lt clock n)) [ inl later ↦ rw later (omega arith) | inr past ↦ rw past (omega arith) ]
 
 -- ---- how far the commits of a match raise a key
 
@@ -209,12 +316,12 @@ both-parts true true false h = absurd (let e = h in cc)
 both-parts true false c h = absurd (let e = h in cc)
 both-parts false b c h = absurd (let e = h in cc)
 
--- the invalidations by the commits up to one raise a key that is active only if it is a record's as far as these outdate its copies
-pub invalidations-raise : (copies : List Copy) (s : State) (front to : ℕ) (invalidations : List Invalidation) (key : KeyShape) → HasCopies copies s → front ≤ to → AreInvalidationsOf s.journal front to invalidations → (is_active copies key ≡ true → is_query key ≡ false) →
+-- the invalidations by the commits up to one raise a key as far as these outdate its copies
+pub invalidations-raise : (copies : List Copy) (s : State) (front to : ℕ) (invalidations : List Invalidation) (key : KeyShape) → HasCopies copies s → front ≤ to → AreInvalidationsOf s.journal front to copies invalidations →
     until_of_outdated (record s { front = to }) key ≡ max (until_of_outdated (record s { front = front }) key) (invalidated_until copies invalidations key)
-invalidations-raise copies s front to invalidations key same forward are records =
-    let upper = raised-most raised own changed step front (invalidated_until copies invalidations key) to forward (λ n above within hit. reached (cases_Bool (is_active copies key)) n above within hit) in
-    let lower = best-le (λ (m : Invalidation). until_below copies m.key m.commit) (λ (m : Invalidation). same_key key m.key) (raised to) invalidations (λ k d low hit. covered (cases_Bool (is_active copies key)) k d low hit) in
+invalidations-raise copies s front to invalidations key same forward are =
+    let upper = raised-most raised own changed step front (invalidated_until copies invalidations key) to forward (λ n above within hit. reached n (cases_lt 0 (until_below copies key n)) above within hit) in
+    let lower = best-le (λ (m : Invalidation). until_below copies m.key m.commit) (λ (m : Invalidation). same_key key m.key) (raised to) invalidations (λ k d low hit. covered k d (cases_lt 0 (until_below copies key (slice_index_or invalidations k d).commit)) low hit) in
     let stays = raised-stays raised own changed step front to forward in
     omega (arith, upper, lower, stays)
   where
@@ -230,37 +337,33 @@ invalidations-raise copies s front to invalidations key same forward are records
     step : (n : ℕ) → raised (suc n) ≡ max (raised n) (if changed (suc n) then own (suc n) else 0)
     step n = outdated_until-commit s key n
 
-    gone : is_active copies key ≡ false → (n : ℕ) → until_below copies key n ≡ 0
-    gone idle n = ap (λ (o : Option ℕ). unwrap_or o 0) (inactive-none copies key (is_between 0 n) idle)
-
-    reached : (is_active copies key ≡ true) ⊎ (is_active copies key ≡ false) → (n : ℕ) → front < n → n ≤ to → changed n ≡ true → own n ≤ invalidated_until copies invalidations key
-    reached (inl active) n above within hit =
+    -- a commit below which the key has no unexpired copy raises nothing
+    reached : (n : ℕ) → (0 < until_below copies key n) ⊎ (until_below copies key n ≤ 0) → front < n → n ≤ to → changed n ≡ true → own n ≤ invalidated_until copies invalidations key
+    reached n (inl some) above within hit =
         let there : list_any (is_invalidation key n) invalidations ≡ true =
-        are key n (records active) ∙ ap₂ (λ (b c : Bool). (b && c) && is_changed key s.journal n) (lt-ltb front n above) (le-leb n to within) ∙ hit in
+        are key n some ∙ ap₂ (λ (b c : Bool). (b && c) && is_changed key s.journal n) (lt-ltb front n above) (le-leb n to within) ∙ hit in
         let most = any-most copies key n invalidations there in
         let is = below-until copies s key n same in
         omega (arith, most, is)
-    reached (inr idle) n above within hit =
-        let none = gone idle n in
+    reached n (inr none) above within hit =
         let is = below-until copies s key n same in
         omega (arith, none, is)
 
-    covered : (is_active copies key ≡ true) ⊎ (is_active copies key ≡ false) → (k : ℕ) (d : Invalidation) → k < length invalidations → same_key key (slice_index_or invalidations k d).key ≡ true → until_below copies (slice_index_or invalidations k d).key (slice_index_or invalidations k d).commit ≤ raised to
-    covered (inl active) k d low hit =
+    covered : (k : ℕ) (d : Invalidation) → (0 < until_below copies key (slice_index_or invalidations k d).commit) ⊎ (until_below copies key (slice_index_or invalidations k d).commit ≤ 0) → k < length invalidations → same_key key (slice_index_or invalidations k d).key ≡ true → until_below copies (slice_index_or invalidations k d).key (slice_index_or invalidations k d).commit ≤ raised to
+    covered k d (inl some) low hit =
         let m = slice_index_or invalidations k d in
         let k_is : key ≡ m.key = (same_key-Decides key m.key).0 hit in
         let invalidation : is_invalidation key m.commit m ≡ true = ap₂ (λ (a b : Bool). a && b) hit (eq-eqb m.commit m.commit refl) in
         let there : list_any (is_invalidation key m.commit) invalidations ≡ true = any-own (is_invalidation key m.commit) invalidations k d low invalidation in
-        let parts = both-parts (nat_lt front m.commit) (nat_le m.commit to) (is_changed key s.journal m.commit) (sym (are key m.commit (records active)) ∙ there) in
+        let parts = both-parts (nat_lt front m.commit) (nat_le m.commit to) (is_changed key s.journal m.commit) (sym (are key m.commit some) ∙ there) in
         let above = ltb-true front m.commit parts.0 in
         let least = raised-least raised own changed step to m.commit (omega (arith, above)) (leb-true m.commit to parts.1) parts.2 in
         let is = below-until copies s key m.commit same in
         let value : until_below copies m.key m.commit ≡ until_below copies key m.commit = ap (λ (x : KeyShape). until_below copies x m.commit) (sym k_is) in
         omega (arith, least, is, value)
-    covered (inr idle) k d low hit =
+    covered k d (inr none) low hit =
         let m = slice_index_or invalidations k d in
         let k_is : key ≡ m.key = (same_key-Decides key m.key).0 hit in
-        let none = gone idle m.commit in
         let value : until_below copies m.key m.commit ≡ until_below copies key m.commit = ap (λ (x : KeyShape). until_below copies x m.commit) (sym k_is) in
         omega (arith, none, value)
 

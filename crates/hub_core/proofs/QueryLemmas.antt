@@ -1,8 +1,8 @@
 -- The rows of a query at a commit, and the commit by which its result is known.
-use Rattle.std.proofs.Common.{◌≡◌, ℕ, zero, suc, ◌<◌, ◌==◌, Bool, true, List, [], ◌∷◌, get_or, filter, Option, Some, None, refl, sym, ap, ◌∙◌, subst, inl, inr, arith}
+use Rattle.std.proofs.Common.{◌≡◌, ℕ, zero, suc, ◌-◌, ◌<◌, ◌≤◌, ◌==◌, Bool, true, false, not, List, [], ◌∷◌, get_or, filter, Option, Some, None, refl, sym, ap, ◌∙◌, subst, inl, inr, arith}
 use Rattle.std.specs.List.{All, Contains, list_any}
 use Rattle.std.specs.Str.{bytes_eq}
-use Rattle.std.proofs.lemmas.Bool.{cases_Bool, eqb-true}
+use Rattle.std.proofs.lemmas.Bool.{cases_Bool, cases_lt, eqb-true, lt-ltb, le-leb, and_from, or_parts, not-false}
 use Rattle.std.proofs.lemmas.List.Elements.{Contains-append_cases, Contains-append_right, All-weaker, All-contains_itself, All-from_recursion, recursion_from_All}
 use Rattle.std.proofs.lemmas.Slice.Eq.{bytes_eq-Decides}
 use Rattle.q_doc.specs.Tree.{Tree}
@@ -14,8 +14,14 @@ use Rattle.query_normal.specs.declared.key.KeyShape.{KeyShape}
 use Rattle.commit_book.specs.declared.change.Change.{Change}
 use Rattle.commit_book.specs.Documents.{Row, list_of, row_of, is_row_of, HasDocuments}
 use Rattle.commit_book.specs.Journal.{document_at, printed_of}
+use Rattle.commit_book.specs.Documents.{docs}
+use Rattle.hub_model.specs.Journal.{result_at, same_finding}
+use Rattle.hub_model.specs.Known.{has_result_of}
 use Rattle.hub_model.specs.KnownSince.{IsGreatestSame}
-use Rattle.hub_core.specs.QueryRows.{IsKept, AreKept}
+use Rattle.hub_model.specs.Outdated.{is_changed}
+use Rattle.hub_model.proofs.Results.{same_finding-Decides}
+use Rattle.hub_core.specs.Invalidations.{is_after}
+use Rattle.hub_core.specs.QueryRows.{IsKept, AreKept, AreChangesOf}
 
 -- ---- the documents of a collection
 
@@ -94,3 +100,44 @@ itself-greatest key journal at tags there = record {
   same = refl;
   greatest = λ t among low same. low;
 }
+
+-- ---- commits that changed nothing
+
+-- where no commit after one, up to another, changed the result, it is the same
+pub unchanged-same : (key : KeyShape) (journal : List Change) (from to : ℕ) → from ≤ to → ((n : ℕ) → from < n → n ≤ to → is_changed key journal n ≡ false) → result_at key journal from ≡ result_at key journal to
+unchanged-same key journal from zero within none = ap (result_at key journal) (let e : from ≡ zero = omega (arith, within) in e)
+unchanged-same key journal from (suc to) within none =
+    elim (cases_lt from (suc to)) [
+      | inl below ↦ (
+          let last : not (same_finding (result_at key journal (suc to)) (result_at key journal (suc to - 1))) ≡ false = none (suc to) below (omega arith) in
+          let same : result_at key journal (suc to) ≡ result_at key journal (suc to - 1) = (same_finding-Decides (result_at key journal (suc to)) (result_at key journal (suc to - 1))).0 (not-false _ last) in
+          unchanged-same key journal from to (omega (arith, below)) (λ n above low. none n above (omega (arith, low)))
+          ∙ ap (result_at key journal) (let e : to ≡ suc to - 1 = omega arith in e)
+          ∙ sym same)
+      | inr past ↦ ap (result_at key journal) (let e : from ≡ suc to = omega (arith, past, within) in e)
+    ]
+
+-- a commit after one, up to another, is not listed where none is
+not-listed : (from to n : ℕ) → from < n → n ≤ to → (commits : List ℕ) → list_any (is_after from to) commits ≡ false → list_any (λ m. m == n) commits ≡ false
+not-listed from to n above within [] none = refl
+not-listed from to n above within (m ∷ commits) none =
+    let parts = or_parts (is_after from to m) (list_any (is_after from to) commits) none in
+    elim (cases_Bool (m == n)) [
+      | inl own ↦ absurd (
+          let here : is_after from to n ≡ true = and_from _ _ (lt-ltb from n above) (le-leb n to within) in
+          let there : is_after from to n ≡ false = ap (is_after from to) (sym (eqb-true m n own)) ∙ parts.0 in
+          let e : true ≡ false = sym here ∙ there in
+          cc)
+      | inr other ↦ rw other (not-listed from to n above within commits parts.1)
+    ]
+
+-- a tag has the result where no listed commit comes after it
+pub known-unchanged : (key : KeyShape) (journal : List Change) (from at : ℕ) (changed : List ℕ) (tag : ℕ) → AreChangesOf key journal from at changed → from ≤ tag → tag ≤ at → list_any (is_after tag at) changed ≡ false → has_result_of key journal at tag ≡ true
+known-unchanged key journal from at changed tag are since within none =
+    and_from _ _ (le-leb tag at within)
+    ((same_finding-Decides (result_at key journal tag) (result_at key journal at)).1
+    (unchanged-same key journal tag at within (λ n above low. sym (are n (omega (arith, above, since)) low) ∙ not-listed tag at n above low changed none)))
+
+-- the book keeps the texts of the rows of a query's window
+pub rows-kept : (journal : List Change) (n : ℕ) (query : AQuery) (rows : List Row) → HasDocuments (document_at journal n query.collection) (docs journal n query.collection) → rows ≡ window query (docs journal n query.collection) → AreKept journal n query.collection rows
+rows-kept journal n query rows have is = subst (AreKept journal n query.collection) (sym is) (window-kept journal n query.collection query (docs journal n query.collection) have)

@@ -9,11 +9,10 @@ use Rattle.issued_expiries.specs.Copies.{Copy, unexpired, latest_of, is_active, 
 use Rattle.issued_expiries.specs.Expiries.{Issued}
 use Rattle.expiring_filter.specs.Filter.{Filter}
 use Rattle.expiring_filter.specs.Held.{Expires, put_until, is_among}
-use Rattle.hub_model.specs.Lifetime.{is_query}
 use Rattle.hub_model.specs.Setting.{Setting}
 use Rattle.hub_core.specs.CopiesView.{IsSound, AreInvalidated, last_until, until_in}
 use Rattle.hub_core.proofs.InvalidationLemmas.{until-expired, once-expired, until-put, once-put, held-later, any-map}
-use Rattle.hub_core.proofs.IssueLemmas.{count-less, count-invalidated, count-with, active-record, backed-later, backed-more, late-later, late-more, active-later, same-with, below-last, active-last}
+use Rattle.hub_core.proofs.IssueLemmas.{count-less, count-invalidated, count-with, backed-later, backed-more, late-later, late-more, active-later, same-with, below-last, active-last}
 
 -- all are later with a first one that is
 first-later : (clock : ℕ) (x : KeyShape × ℕ) (xs : List (KeyShape × ℕ)) → clock < x.1 → All (λ e. clock < e.1) xs → All (λ e. clock < e.1) (x ∷ xs)
@@ -64,11 +63,10 @@ still-reserved filter new_filter key until other held reserved was =
         either true b c h k = refl
         either false b c h k = k h
 
--- a copy may be issued where its key is a record's, and active or one more may be
-pub may-issue : (query a : Bool) (count limit : ℕ) → (not query && (a || nat_lt count limit)) ≡ true → (query ≡ false) × ((a ≡ true) ⊎ (count < limit))
-may-issue true a count limit some = absurd (let e = some in cc)
-may-issue false true count limit some = (refl, inl refl)
-may-issue false false count limit some = (refl, inr (ltb-true count limit some))
+-- a copy may be issued where its key is active or one more may be
+pub may-issue : (a : Bool) (count limit : ℕ) → (a || nat_lt count limit) ≡ true → (a ≡ true) ⊎ (count < limit)
+may-issue true count limit some = inl refl
+may-issue false count limit some = inr (ltb-true count limit some)
 
 -- of copies and invalidated keys of one clock
 module _ (g : Setting) (issued : Issued) (filter : Filter) (sound : IsSound g issued filter) where
@@ -84,7 +82,6 @@ module _ (g : Setting) (issued : Issued) (filter : Filter) (sound : IsSound g is
         hashes = hashes ∙ sound.hashes;
         few = (let few = sound.few in omega (arith, less, few));
         late = late-later moment issued.held new_issued.held same;
-        records = λ key active. sound.records key (active-later moment issued.held new_issued.held same key active);
         once = once-expired moment filter.held new_filter.held expires sound.once;
         later = expires.later;
         backed = λ key. backed-later moment issued.held new_issued.held same filter.held new_filter.held key (until-expired moment filter.held new_filter.held expires key) (sound.backed key);
@@ -92,8 +89,8 @@ module _ (g : Setting) (issued : Issued) (filter : Filter) (sound : IsSound g is
 
   -- with one copy more
   pub sound-more : (new_issued : Issued) (copy : Copy) → issued.clock < copy.2 → new_issued.clock ≡ issued.clock →
-      SameCopies new_issued.held (with_copy issued.clock copy issued.held) → is_query copy.0 ≡ false → (is_active issued.held copy.0 ≡ true) ⊎ (active_keys issued.held < g.active) → IsSound g new_issued filter
-  sound-more new_issued copy late clocks with record_key room =
+      SameCopies new_issued.held (with_copy issued.clock copy issued.held) → (is_active issued.held copy.0 ≡ true) ⊎ (active_keys issued.held < g.active) → IsSound g new_issued filter
+  sound-more new_issued copy late clocks with room =
       let same : SameCopies new_issued.held (copy ∷ issued.held) = same-with issued.clock copy issued.held new_issued.held late with in
       record {
         limits = sound.limits;
@@ -101,7 +98,6 @@ module _ (g : Setting) (issued : Issued) (filter : Filter) (sound : IsSound g is
         hashes = sound.hashes;
         few = count-with copy issued.held new_issued.held same g.active sound.few room;
         late = λ key test until is. (let h = late-more copy issued.held new_issued.held same issued.clock late sound.late key test until is in omega (arith, h, clocks));
-        records = λ key active. active-record copy issued.held new_issued.held same record_key sound.records key active;
         once = sound.once;
         later = subst (λ (n : ℕ). All (λ e. n < e.1) filter.held) (sym clocks) sound.later;
         backed = λ key. (let before = sound.backed key in let after = backed-more copy issued.held new_issued.held same key in omega (arith, before, after));
@@ -135,7 +131,6 @@ module _ (g : Setting) (issued : Issued) (filter : Filter) (sound : IsSound g is
     hashes = hashes ∙ sound.hashes;
     few = sound.few;
     late = sound.late;
-    records = sound.records;
     once = subst (λ (xs : List (KeyShape × ℕ)). IsDistinct same_key (map (λ e. e.0) xs)) (sym held) (once-put filter.held key until sound.once);
     later = subst (λ (xs : List (KeyShape × ℕ)). All (λ e. issued.clock < e.1) xs) (sym held) (later-put issued.clock filter.held key until late sound.later);
     backed = λ other. (

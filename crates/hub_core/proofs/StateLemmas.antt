@@ -8,7 +8,7 @@ use Rattle.query_normal.specs.SameKey.{same_key_equiv}
 use Rattle.query_normal.specs.declared.key.KeyShape.{KeyShape}
 use Rattle.issued_expiries.specs.Copies.{Copy, unexpired, latest_where, is_active, active_keys, SameCopies}
 use Rattle.hub_model.specs.Copies.{issues, is_live, live, active_keys as active_of, is_active as is_active_in}
-use Rattle.hub_model.specs.Lifetime.{is_query, ttl_of}
+use Rattle.hub_model.specs.Lifetime.{ttl_of}
 use Rattle.hub_model.specs.Record.{is_outdated_in}
 use Rattle.hub_model.specs.Setting.{Setting}
 use Rattle.hub_model.specs.State.{IssuedCopy, State, at_moment, until_of}
@@ -119,11 +119,10 @@ lifetime-at h s key g at is setting =
     ∙ any-map (λ (r : IssuedCopy). r.key) (same_key k) (live s)
     ∙ sym (active-copies h.copies s is k)
     ∙ sym (any-map (λ (c : Copy). c.0) (same_key k) h.copies)) in
-    turned (is_query key) (is_active h.copies key) (active_keys h.copies) h.setting.active h.setting.ttl_high
-    ∙ ap₂ (λ (b : Bool) (n : ℕ). if is_query key then 0 else (if not b && nat_le h.setting.active n then 0 else h.setting.ttl_high)) (active-copies h.copies s is key) (sym number)
+    turned (is_active h.copies key) (active_keys h.copies) h.setting.active h.setting.ttl_high
+    ∙ ap₂ (λ (b : Bool) (n : ℕ). if not b && nat_le h.setting.active n then 0 else h.setting.ttl_high) (active-copies h.copies s is key) (sym number)
     ∙ ap (λ (x : Setting). ttl_of x s key at) setting
   where
-    turned : (query a : Bool) (n limit high : ℕ) → (if not query && (a || nat_lt n limit) then high else 0) ≡ (if query then 0 else (if not a && nat_le limit n then 0 else high))
-    turned true a n limit high = refl
-    turned false true n limit high = refl
-    turned false false n limit high = elim (cases_lt n limit) [ inl low ↦ rw (lt-ltb n limit low, lt-leb limit n low) refl | inr full ↦ rw (le-ltb n limit full, le-leb limit n full) refl ]
+    turned : (a : Bool) (n limit high : ℕ) → (if a || nat_lt n limit then high else 0) ≡ (if not a && nat_le limit n then 0 else high)
+    turned true n limit high = refl
+    turned false n limit high = elim (cases_lt n limit) [ inl low ↦ rw (lt-ltb n limit low, lt-leb limit n low) refl | inr full ↦ rw (le-ltb n limit full, le-leb limit n full) refl ]

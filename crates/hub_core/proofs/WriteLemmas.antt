@@ -3,52 +3,60 @@ use Rattle.std.proofs.Common.{◌≡◌, ◌⊎◌, ℕ, ◌+◌, Bool, true, fa
 use Rattle.commit_book.specs.declared.change.Change.{Change}
 use Rattle.commit_book.specs.declared.refusal.BookRefusal.{BookRefusal}
 use Rattle.commit_book.specs.declared.refusal.BookRefusal.TheVariants.{Full, Memory}
-use Rattle.commit_book.specs.Contents.{Contents, added}
+use Rattle.commit_book.specs.Contents.{Contents, judged}
 use Rattle.commit_book.specs.Journal.{document_at, kept_with}
 use Rattle.hub_model.specs.declared.entry.Condition.{Condition}
 use Rattle.hub_model.specs.declared.entry.Found.{Found}
 use Rattle.hub_model.specs.Setting.{Setting}
-use Rattle.hub_model.specs.State.{State}
-use Rattle.hub_model.specs.Step.{found_of, found_now, is_accepted, is_met, wrote}
+use Rattle.hub_model.specs.declared.entry.Entry.{Entry}
+use Rattle.hub_model.specs.declared.entry.Entry.TheVariants.{Write, Match}
+use Rattle.hub_model.specs.declared.entry.Written.TheVariants.{Done, Precondition, Full as WrittenFull}
+use Rattle.hub_model.specs.Helps.{helps_of}
+use Rattle.hub_model.specs.Legal.{most_unmatched}
+use Rattle.hub_model.specs.Reply.{wrote as wrote_reply, written, reply_in}
+use Rattle.hub_model.specs.State.{State, at_moment}
+use Rattle.hub_model.specs.Step.{found_of, found_now, is_accepted, is_met, wrote, after_all}
+use Rattle.hub_core.specs.HubState.{help_of}
 
 -- ---- what the book answers
 
 -- an answer other than Memory is the defined one
-answered : (book : Contents) (change : Change) (result : Result ℕ BookRefusal) → (result ≡ Err Memory) ⊎ (result ≡ added book change) → (result ≡ Err Memory → ⊥) → result ≡ added book change
+answered : (book : Contents) (change : Change) (result : Result (Unit {0}) BookRefusal) → (result ≡ Err Memory) ⊎ (result ≡ judged book change) → (result ≡ Err Memory → ⊥) → result ≡ judged book change
 answered book change result (inl wrong) other = absurd (other wrong)
 answered book change result (inr is) other = is
 
--- it is a commit where it fits the capacity
-pub added-ok : (book : Contents) (change : Change) (commit : ℕ) → (Ok commit ≡ Err Memory) ⊎ (Ok commit ≡ added book change) → (nat_le (kept_with book.journal change) book.capacity ≡ true) × (commit ≡ length book.journal + 1)
-added-ok book change commit told = by (nat_le (kept_with book.journal change) book.capacity) refl
+-- memory is reserved where the change fits the capacity
+pub judged-ok : (book : Contents) (change : Change) (done : Unit {0}) (result : Result (Unit {0}) BookRefusal) → result ≡ Ok done → (result ≡ Err Memory) ⊎ (result ≡ judged book change) → nat_le (kept_with book.journal change) book.capacity ≡ true
+judged-ok book change done result ok told = by (nat_le (kept_with book.journal change) book.capacity) refl
   where
-    is : Ok commit ≡ added book change
-    is = answered book change (Ok commit) told (λ e. cc)
-
-    by : (b : Bool) → nat_le (kept_with book.journal change) book.capacity ≡ b → (nat_le (kept_with book.journal change) book.capacity ≡ true) × (commit ≡ length book.journal + 1)
-    by true h =
-        let e : Ok commit ≡ Ok (length book.journal + 1) = is ∙ ap (λ (b : Bool). if b then Ok (length book.journal + 1) else Err (Full (kept_with book.journal change))) h in
-        (h, cc)
-    by false h =
-        let e : Ok commit ≡ Err (Full (kept_with book.journal change)) = is ∙ ap (λ (b : Bool). if b then Ok (length book.journal + 1) else Err (Full (kept_with book.journal change))) h in
-        cc
-
--- and the sum where there is none
-pub added-full : (book : Contents) (change : Change) (bytes : ℕ) (result : Result ℕ BookRefusal) → result ≡ Err (Full bytes) → (result ≡ Err Memory) ⊎ (result ≡ added book change) → nat_le (kept_with book.journal change) book.capacity ≡ false
-added-full book change bytes result full told = by (nat_le (kept_with book.journal change) book.capacity) refl
-  where
-    is : result ≡ added book change
+    is : result ≡ judged book change
     is = answered book change result told (λ e. cc)
 
-    by : (b : Bool) → nat_le (kept_with book.journal change) book.capacity ≡ b → nat_le (kept_with book.journal change) book.capacity ≡ false
-    by true h =
-        let e : result ≡ Ok (length book.journal + 1) = is ∙ ap (λ (b : Bool). if b then Ok (length book.journal + 1) else Err (Full (kept_with book.journal change))) h in
+    by : (b : Bool) → nat_le (kept_with book.journal change) book.capacity ≡ b → nat_le (kept_with book.journal change) book.capacity ≡ true
+    by true h = h
+    by false h =
+        let e : result ≡ Err (Full (kept_with book.journal change)) = is ∙ ap (λ (b : Bool). if b then Ok tt else Err (Full (kept_with book.journal change))) h in
         cc
-    by false h = h
+
+-- and the sum is told where it does not
+pub judged-full : (book : Contents) (change : Change) (bytes : ℕ) (result : Result (Unit {0}) BookRefusal) → result ≡ Err (Full bytes) → (result ≡ Err Memory) ⊎ (result ≡ judged book change) →
+    (nat_le (kept_with book.journal change) book.capacity ≡ false) × (bytes ≡ kept_with book.journal change)
+judged-full book change bytes result full told = by (nat_le (kept_with book.journal change) book.capacity) refl
+  where
+    is : result ≡ judged book change
+    is = answered book change result told (λ e. cc)
+
+    by : (b : Bool) → nat_le (kept_with book.journal change) book.capacity ≡ b → (nat_le (kept_with book.journal change) book.capacity ≡ false) × (bytes ≡ kept_with book.journal change)
+    by true h =
+        let e : result ≡ Ok tt = is ∙ ap (λ (b : Bool). if b then Ok tt else Err (Full (kept_with book.journal change))) h in
+        cc
+    by false h =
+        let e : result ≡ Err (Full (kept_with book.journal change)) = is ∙ ap (λ (b : Bool). if b then Ok tt else Err (Full (kept_with book.journal change))) h in
+        (h, cc)
 
 -- the change fitted where the answer was Memory
-pub added-memory : (book : Contents) (change : Change) (result : Result ℕ BookRefusal) → result ≡ Err Memory → (IsErr (added book change) → result ≡ added book change) → nat_le (kept_with book.journal change) book.capacity ≡ true
-added-memory book change result none full = by (nat_le (kept_with book.journal change) book.capacity) refl
+pub judged-memory : (book : Contents) (change : Change) (result : Result (Unit {0}) BookRefusal) → result ≡ Err Memory → (IsErr (judged book change) → result ≡ judged book change) → nat_le (kept_with book.journal change) book.capacity ≡ true
+judged-memory book change result none full = by (nat_le (kept_with book.journal change) book.capacity) refl
   where
     refused : Full (kept_with book.journal change) ≡ Memory → ⊥
     refused e = cc
@@ -56,10 +64,41 @@ added-memory book change result none full = by (nat_le (kept_with book.journal c
     by : (b : Bool) → nat_le (kept_with book.journal change) book.capacity ≡ b → nat_le (kept_with book.journal change) book.capacity ≡ true
     by true h = h
     by false h =
-        let is : added book change ≡ Err (Full (kept_with book.journal change)) = ap (λ (b : Bool). if b then Ok (length book.journal + 1) else Err (Full (kept_with book.journal change))) h in
-        let answer : result ≡ added book change = full (subst IsErr (sym is) refl) in
+        let is : judged book change ≡ Err (Full (kept_with book.journal change)) = ap (λ (b : Bool). if b then Ok tt else Err (Full (kept_with book.journal change))) h in
+        let answer : result ≡ judged book change = full (subst IsErr (sym is) refl) in
         let wrong : Full (kept_with book.journal change) ≡ Memory = cc in
         absurd (refused wrong)
+
+-- ---- what helps a write
+
+-- of a write after a state
+module _ (g : Setting) (s : State) (moment : ℕ) (change : Change) (condition : Condition) where
+  -- the entries that help it, by whether it is accepted
+  helped : (b : Bool) → is_accepted g s change condition ≡ b → helps_of g s (Write moment change condition) ≡ (if b then help_of s moment else [])
+  helped true accepted = ap (λ (b : Bool). if b && nat_le (s.front + most_unmatched) (length s.journal) then Match moment (length s.journal) ∷ [] else []) accepted
+  helped false refused = ap (λ (b : Bool). if b && nat_le (s.front + most_unmatched) (length s.journal) then Match moment (length s.journal) ∷ [] else []) refused
+
+  -- an accepted write comes after what helps it
+  pub helped-after : is_accepted g s change condition ≡ true →
+      wrote g change condition (at_moment (after_all g s (help_of s moment)) moment) ≡ after_all g s (helps_of g s (Write moment change condition) ++ Write moment change condition ∷ [])
+  helped-after accepted =
+      by (nat_le (s.front + most_unmatched) (length s.journal))
+      ∙ sym (ap (λ (es : List Entry). after_all g s (es ++ Write moment change condition ∷ [])) (helped true accepted))
+    where
+      by : (b : Bool) → wrote g change condition (at_moment (after_all g s (if b then Match moment (length s.journal) ∷ [] else [])) moment) ≡ after_all g s ((if b then Match moment (length s.journal) ∷ [] else []) ++ Write moment change condition ∷ [])
+      by true = refl
+      by false = refl
+
+  pub helped-reply : is_accepted g s change condition ≡ true →
+      wrote_reply (written g change condition (at_moment (after_all g s (help_of s moment)) moment)) ≡ reply_in g (after_all g s (helps_of g s (Write moment change condition))) (Write moment change condition)
+  helped-reply accepted = sym (ap (λ (es : List Entry). reply_in g (after_all g s es) (Write moment change condition)) (helped true accepted))
+
+  -- a refused one is not helped
+  pub refused-after : is_accepted g s change condition ≡ false → wrote g change condition (at_moment s moment) ≡ after_all g s (helps_of g s (Write moment change condition) ++ Write moment change condition ∷ [])
+  refused-after refused = sym (ap (λ (es : List Entry). after_all g s (es ++ Write moment change condition ∷ [])) (helped false refused))
+
+  pub refused-reply : is_accepted g s change condition ≡ false → wrote_reply (written g change condition (at_moment s moment)) ≡ reply_in g (after_all g s (helps_of g s (Write moment change condition))) (Write moment change condition)
+  refused-reply refused = sym (ap (λ (es : List Entry). reply_in g (after_all g s es) (Write moment change condition)) (helped false refused))
 
 -- ---- what a write leaves
 
@@ -70,10 +109,19 @@ left change s b = if b then record s { journal = s.journal ++ change ∷ [] } el
 -- of a book whose journal is the state's
 module _ (g : Setting) (book : Contents) (s : State) (change : Change) (condition : Condition) (found : Found) (commits : ℕ) (same : book.journal ≡ s.journal)
     (is : found ≡ found_of (document_at book.journal (length book.journal) change.collection change.id)) (count : commits ≡ length book.journal) where
+  found-now : found ≡ found_now s change
+  found-now = is ∙ ap (λ (xs : List Change). found_of (document_at xs (length xs) change.collection change.id)) same
+
   met-now : (b : Bool) → is_met condition found commits ≡ b → is_met condition (found_now s change) (length s.journal) ≡ b
-  met-now b met =
-      let found_is : found ≡ found_now s change = is ∙ ap (λ (xs : List Change). found_of (document_at xs (length xs) change.collection change.id)) same in
-      ap₂ (is_met condition) (sym found_is) (sym (count ∙ ap length same)) ∙ met
+  met-now b met = ap₂ (is_met condition) (sym found-now) (sym (count ∙ ap length same)) ∙ met
+
+  pub refused-unmet : is_met condition found commits ≡ false → is_accepted g s change condition ≡ false
+  refused-unmet unmet = ap (λ (b : Bool). b && nat_le (kept_with s.journal change) g.capacity) (met-now false unmet)
+
+  pub written-unmet : (clock : ℕ) → clock ≡ s.clock → is_met condition found commits ≡ false → Precondition found clock ≡ written g change condition s
+  written-unmet clock now unmet =
+      (λ i. Precondition (found-now i) (now i))
+      ∙ sym (ap (λ (b : Bool). if b then (if nat_le (kept_with s.journal change) g.capacity then Done (length s.journal + 1) (found_now s change) s.clock else WrittenFull (kept_with s.journal change) s.clock) else Precondition (found_now s change) s.clock) (met-now false unmet))
 
   pub leaves-unmet : is_met condition found commits ≡ false → s ≡ wrote g change condition s
   unfolding left
@@ -84,6 +132,18 @@ module _ (g : Setting) (book : Contents) (s : State) (change : Change) (conditio
     pub accepted-now : (b : Bool) → nat_le (kept_with book.journal change) book.capacity ≡ b → is_accepted g s change condition ≡ b
     accepted-now b fits =
         ap₂ (λ (a c : Bool). a && c) (met-now true met) (ap₂ (λ (xs : List Change) (n : ℕ). nat_le (kept_with xs change) n) (sym same) (sym limit) ∙ fits)
+
+    -- the reply, by whether it fits
+    written-met : (b : Bool) → nat_le (kept_with book.journal change) book.capacity ≡ b → (if b then Done (length s.journal + 1) (found_now s change) s.clock else WrittenFull (kept_with s.journal change) s.clock) ≡ written g change condition s
+    written-met b fits =
+        sym (ap (λ (c : Bool). if c then Done (length s.journal + 1) (found_now s change) s.clock else WrittenFull (kept_with s.journal change) s.clock) (ap₂ (λ (xs : List Change) (n : ℕ). nat_le (kept_with xs change) n) (sym same) (sym limit) ∙ fits))
+        ∙ sym (ap (λ (c : Bool). if c then (if nat_le (kept_with s.journal change) g.capacity then Done (length s.journal + 1) (found_now s change) s.clock else WrittenFull (kept_with s.journal change) s.clock) else Precondition (found_now s change) s.clock) (met-now true met))
+
+    pub written-full : (bytes clock : ℕ) → bytes ≡ kept_with book.journal change → clock ≡ s.clock → nat_le (kept_with book.journal change) book.capacity ≡ false → WrittenFull bytes clock ≡ written g change condition s
+    written-full bytes clock sum now full = (let all : bytes ≡ kept_with s.journal change = sum ∙ ap (λ (xs : List Change). kept_with xs change) same in (λ i. WrittenFull (all i) (now i))) ∙ written-met false full
+
+    pub written-done : (commit clock : ℕ) → commit ≡ length book.journal + 1 → clock ≡ s.clock → nat_le (kept_with book.journal change) book.capacity ≡ true → Done commit found clock ≡ written g change condition s
+    written-done commit clock next now fits = (let last : commit ≡ length s.journal + 1 = next ∙ ap (λ (xs : List Change). length xs + 1) same in (λ i. Done (last i) (found-now i) (now i))) ∙ written-met true fits
 
     pub leaves-full : nat_le (kept_with book.journal change) book.capacity ≡ false → s ≡ wrote g change condition s
     unfolding left

@@ -1,12 +1,11 @@
 -- Internal. The issued copies, and the keys of those that are outdated.
-use Rattle.std.specs.Prelude.{◌≡◌, ◌⊎◌, ℕ, ◌<◌, ◌≤◌, Bool, true, false, not, ◌&&◌, ◌||◌, max, nat_lt, if◌then◌else◌, List, [], map, filter, All, IsTrue, Some, unwrap_or}
+use Rattle.std.specs.Prelude.{◌≡◌, ◌⊎◌, ℕ, ◌<◌, ◌≤◌, Bool, true, false, ◌||◌, max, nat_lt, if◌then◌else◌, List, [], map, filter, All, IsTrue, Some, unwrap_or}
 use Rattle.std.specs.List.{list_any, IsDistinct}
 use Rattle.issued_expiries.specs.Copies.{Copy, SameCopies, unexpired, latest_where, latest_of, is_active, active_keys}
 use Rattle.issued_expiries.specs.Expiries.{Issued}
 use Rattle.expiring_filter.specs.Filter.{Filter}
 use Rattle.query_normal.specs.Keys.{same_key}
 use Rattle.query_normal.specs.declared.key.KeyShape.{KeyShape}
-use Rattle.hub_model.specs.Lifetime.{is_query}
 use Rattle.hub_model.specs.Setting.{Setting, IsWithinLimits}
 use Rattle.hub_model.specs.Until.{greatest}
 
@@ -46,24 +45,18 @@ while_later clock until = if nat_lt clock until then until else 0
 abbrev pub until_in : List (KeyShape × ℕ) → KeyShape → ℕ
 until_in outdated key = greatest (map (λ e. e.1) (filter (λ e. same_key key e.0) outdated))
 
--- the copies that are there are of records, not of queries
-abbrev pub AreOfRecords : List Copy → Type 0
-AreOfRecords copies = (key : KeyShape) → is_active copies key ≡ true → is_query key ≡ false
-
--- The clock moves to a moment, and what expires then is gone; no key is left of which the last copy expired.
+-- The clock moves to a moment, and what expires then is gone.
 pub record Passes (moment : ℕ) (old new : CopiesView) : Type 0 where
   pub clock : new.clock ≡ max old.clock moment
   pub copies : SameCopies new.copies (unexpired new.clock old.copies)
   pub outdated : (key : KeyShape) → until_in new.outdated key ≡ while_later new.clock (until_in old.outdated key)
-  pub records : AreOfRecords new.copies
-  pub idle : new.idle ≡ []
   pub rest : new ≡ record old { clock = new.clock; copies = new.copies; outdated = new.outdated; idle = new.idle }
 
--- a copy of a key may be issued: the key is that of a record, and it is active, or one key more may be
+-- a copy of a key may be issued: it is active, or one key more may be
 abbrev pub may_issue : CopiesView → KeyShape → Bool
-may_issue h key = not (is_query key) && (is_active h.copies key || nat_lt (active_keys h.copies) h.setting.active)
+may_issue h key = is_active h.copies key || nat_lt (active_keys h.copies) h.setting.active
 
--- for how long a copy is issued: not at all of a query, nor where a further key would be active beyond the limit
+-- for how long a copy is issued: not at all where a further key would be active beyond the limit
 abbrev pub lifetime : CopiesView → KeyShape → ℕ
 lifetime h key = if may_issue h key then h.setting.ttl_high else 0
 
@@ -105,14 +98,13 @@ IsInvalidationReserved h key = IsTrue (is_active h.copies key) → IsTrue (list_
 abbrev pub CanInvalidate : CopiesView → KeyShape → Type 0
 CanInvalidate h key = IsTrue (is_active h.copies key) → IsTrue (list_any (same_key key) h.invalidatable) ⊎ IsTrue (list_any (λ e. same_key key e.0) h.outdated)
 
--- the copies and the invalidated keys are later than the clock, no copy is of a query, and no key is invalidated longer than its last copy may be kept
+-- the copies and the invalidated keys are later than the clock, and no key is invalidated longer than its last copy may be kept
 pub record IsSound (g : Setting) (issued : Issued) (filter : Filter) : Type 0 where
   pub limits : IsWithinLimits g
   pub log2_bits : filter.log2_bits ≡ g.log2_bits
   pub hashes : filter.hashes ≡ g.hashes
   pub few : active_keys issued.held ≤ g.active
   pub late : (key : KeyShape) (test : ℕ → Bool) (until : ℕ) → latest_where key test issued.held ≡ Some until → issued.clock < until
-  pub records : AreOfRecords issued.held
   pub once : IsDistinct same_key (map (λ e. e.0) filter.held)
   pub later : All (λ e. issued.clock < e.1) filter.held
   pub backed : (key : KeyShape) → until_in filter.held key ≤ last_until issued.held key

@@ -1,9 +1,9 @@
 -- Internal. What contracts see of a hub, and the history that it represents.
-use Rattle.std.specs.Prelude.{◌≡◌, ℕ, List, [], Option, None, length, map}
+use Rattle.std.specs.Prelude.{◌≡◌, ℕ, ◌+◌, ◌≤◌, nat_le, if◌then◌else◌, List, [], ◌∷◌, Option, None, length, map}
 use Rattle.issued_expiries.specs.Copies.{Copy, SameCopies}
 use Rattle.query_normal.specs.declared.key.KeyShape.{KeyShape}
 use Rattle.hub_model.specs.Copies.{live}
-use Rattle.hub_model.specs.Legal.{IsLegal}
+use Rattle.hub_model.specs.Legal.{IsLegal, most_unmatched}
 use Rattle.hub_model.specs.Setting.{Setting}
 use Rattle.hub_model.specs.State.{IssuedCopy, State, until_of}
 use Rattle.hub_model.specs.Step.{state_of}
@@ -12,7 +12,10 @@ use Rattle.commit_book.specs.declared.change.Change.{Change}
 use Rattle.commit_book.specs.Contents.{Contents}
 use Rattle.commit_book.specs.Names.{Names, AreNamesOf}
 use Rattle.hub_model.specs.declared.entry.Entry.{Entry}
+use Rattle.hub_model.specs.declared.entry.Entry.TheVariants.{Match}
+use Rattle.active_queries.specs.Following.{Following}
 use Rattle.hub_core.specs.CopiesView.{CopiesView, until_in}
+use Rattle.hub_core.specs.ActiveQueries.{KeepsQueries}
 
 -- what a hub keeps
 pub record HubView : Type 0 where
@@ -62,6 +65,23 @@ pub record IsLean (h : HubView) : Type 0 where
   pub idle : h.idle ≡ []
   pub ready : h.ready ≡ []
   pub invalidatable : h.invalidatable ≡ []
+
+-- the same of the copies alone
+pub record IsLeanCopies (h : CopiesView) : Type 0 where
+  pub idle : h.idle ≡ []
+  pub ready : h.ready ≡ []
+  pub invalidatable : h.invalidatable ≡ []
+
+-- the entries that help an accepted write at a moment: where as many commits come after the front as may, a match of all
+abbrev pub help_of : State → ℕ → List Entry
+help_of s moment = if nat_le (s.front + most_unmatched) (length s.journal) then Match moment (length s.journal) ∷ [] else []
+
+-- The parts of a hub belong together: the front is a commit, the book has the configured capacity, nothing is kept but what the history needs, and each active query key has its query.
+pub record IsSoundHub (book : Contents) (front : ℕ) (h : CopiesView) (entries : List (KeyShape × Following)) : Type 0 where
+  pub within : front ≤ length book.journal
+  pub capacity : book.capacity ≡ h.setting.capacity
+  pub lean : IsLean (hub_of book front h)
+  pub queries : KeepsQueries book.journal front h.copies h.idle entries
 
 -- an issued copy, with its until
 abbrev pub copy_of : IssuedCopy → Copy

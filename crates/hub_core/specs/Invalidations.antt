@@ -1,16 +1,17 @@
 -- Internal. The keys that the commits of a match invalidate.
-use Rattle.std.specs.Prelude.{◌≡◌, ℕ, ◌==◌, Bool, false, ◌&&◌, List, map, filter, Option, Some, None, nat_le, nat_lt, option_map}
+use Rattle.std.specs.Prelude.{◌≡◌, ℕ, ◌<◌, ◌==◌, Bool, false, not, ◌&&◌, List, map, filter, Option, Some, None, nat_le, nat_lt, option_map}
 use Rattle.std.specs.List.{list_any}
 use Rattle.query_normal.specs.Keys.{same_key}
 use Rattle.query_normal.specs.declared.key.KeyShape.{KeyShape}
 use Rattle.query_normal.specs.declared.key.KeyShape.TheVariants.{Record}
 use Rattle.issued_expiries.specs.Copies.{Copy}
-use Rattle.hub_model.specs.Lifetime.{is_query}
 use Rattle.hub_model.specs.Outdated.{is_changed}
 use Rattle.hub_model.specs.Until.{greatest}
 use Rattle.commit_book.specs.declared.change.Change.{Change}
 use Rattle.commit_book.specs.Journal.{alteration}
+use Rattle.active_queries.specs.Following.{Following}
 use Rattle.hub_core.specs.declared.invalidations.Invalidation.{Invalidation}
+use Rattle.hub_core.specs.ActiveQueries.{is_query}
 use Rattle.hub_core.specs.CopiesView.{until_below}
 
 -- it is the invalidation of this key by this commit
@@ -21,9 +22,17 @@ is_invalidation key commit m = same_key key m.key && (m.commit == commit)
 abbrev pub is_after : ℕ → ℕ → ℕ → Bool
 is_after front to commit = nat_lt front commit && nat_le commit to
 
--- A commit invalidates the key of a record exactly where it comes after one commit, up to another, and changes the result of the key.
-abbrev pub AreInvalidationsOf : List Change → ℕ → ℕ → List Invalidation → Type 0
-AreInvalidationsOf journal front to invalidations = (key : KeyShape) (commit : ℕ) → is_query key ≡ false → list_any (is_invalidation key commit) invalidations ≡ (is_after front to commit && is_changed key journal commit)
+-- A commit below which a key has an unexpired copy invalidates the key exactly where it comes after one commit, up to another, and changes the result of the key.
+abbrev pub AreInvalidationsOf : List Change → ℕ → ℕ → List Copy → List Invalidation → Type 0
+AreInvalidationsOf journal front to copies invalidations = (key : KeyShape) (commit : ℕ) → 0 < until_below copies key commit → list_any (is_invalidation key commit) invalidations ≡ (is_after front to commit && is_changed key journal commit)
+
+-- the same of the keys of records, with copies or without, and of no other key
+abbrev pub AreRecordInvalidationsOf : List Change → ℕ → ℕ → List Invalidation → Type 0
+AreRecordInvalidationsOf journal front to invalidations = (key : KeyShape) (commit : ℕ) → list_any (is_invalidation key commit) invalidations ≡ (not (is_query key) && (is_after front to commit && is_changed key journal commit))
+
+-- the query is of this key, and lists the commit among those that come after one, up to another
+abbrev pub invalidates : ℕ → ℕ → KeyShape → ℕ → KeyShape × Following → Bool
+invalidates front to key commit e = same_key key e.0 && list_any (λ m. is_after front to m && (m == commit)) e.1.changed
 
 -- the key of the record that a change is of
 abbrev pub key_of : Change → KeyShape

@@ -1,3 +1,4 @@
+pub mod ActiveQueries
 pub mod Config
 pub mod ConfigRefusal
 pub mod CopiesView

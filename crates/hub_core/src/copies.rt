@@ -1,18 +1,17 @@
 //! The issued copies, and the keys of those that are outdated.
-ghost use Rattle.std.specs.Prelude.{◌≡◌, ◌+◌, ◌*◌, ◌^◌, ◌<◌, max, ◌∷◌, [], not, ◌&&◌, if◌then◌else◌, nat_lt, length, IsTrue, false, IfSome, IfNone, IfOk, OnOk, OnErr};
-ghost use Rattle.issued_expiries.specs.Copies.{SameCopies, is_active, unexpired};
+ghost use Rattle.std.specs.Prelude.{◌≡◌, ◌+◌, ◌*◌, ◌^◌, ◌<◌, max, ◌∷◌, [], not, ◌&&◌, ◌||◌, if◌then◌else◌, nat_lt, length, IsTrue, false, IfSome, IfNone, IfOk, OnOk, OnErr};
+ghost use Rattle.issued_expiries.specs.Copies.{SameCopies, is_active};
 ghost use Rattle.query_normal.specs.Bits.{flat_bits};
 ghost use Rattle.query_normal.specs.Keys.{same_key};
 ghost use Rattle.query_normal.specs.declared.key.KeyShape.{KeyShape as AKey};
-ghost use Rattle.hub_model.specs.Lifetime.{is_query};
 ghost use Rattle.hub_model.specs.Record.{bits_of};
-ghost use Rattle.hub_core.specs.CopiesView.{no_copies, may_issue, while_later, until_in, until_below, is_idle, is_invalidated, invalidated_keys, AreInvalidated, AreOfRecords, IsReadyFor, IsInvalidationReserved, CanInvalidate};
+ghost use Rattle.hub_core.specs.CopiesView.{no_copies, may_issue, until_in, until_below, is_idle, is_invalidated, invalidated_keys, AreInvalidated, IsReadyFor, Passes, IsInvalidationReserved, CanInvalidate};
 
 use crate::config::Config;
 use expiring_filter::CountingFilter;
 use issued_expiries::Expiries;
 use q_base::{Commit, Memory, Moment};
-use query_normal::{Key, KeyShape};
+use query_normal::Key;
 use std::alloc::Global;
 use std::marker::Model;
 
@@ -78,11 +77,8 @@ impl Copies {
     /// Moves the clock forward to a moment, and drops what expires. The keys of which no copy is left
     /// become idle.
     pub fn advance(&mut self, moment: Moment)
-        ensures clock { self.new.clock ≡ max self.old.clock moment }
-        ensures copies { SameCopies self.new.copies (unexpired self.new.clock self.old.copies) }
-        ensures outdated { (key : AKey) → until_in self.new.outdated key ≡ while_later self.new.clock (until_in self.old.outdated key) }
-        ensures records { AreOfRecords self.new.copies }
-        ensures rest { self.new ≡ record self.old { clock = self.new.clock; copies = self.new.copies; outdated = self.new.outdated; idle = self.new.idle } }
+        ensures passes { Passes moment self.old self.new }
+        ensures idle { (key : AKey) → is_idle self.new key ≡ (is_idle self.old key || is_active self.old.copies key && not (is_active self.new.copies key)) }
     {
         self.issued.advance(moment);
         let clock = self.issued.clock();
@@ -112,13 +108,11 @@ impl Copies {
         self.issued.reserve(key)
     }
 
-    /// Whether a copy of a key may be issued: the key is that of a record, and it is active, or one key
-    /// more may be.
+    /// Whether a copy of a key may be issued: it is active, or one key more may be.
     pub fn may_issue(&self, key: &Key) -> bool
         ensures { result ≡ may_issue self.now key.now }
     {
-        is_record(key)
-            && (self.issued.active_count() < self.config.active() || self.issued.active(key))
+        self.issued.active_count() < self.config.active() || self.issued.active(key)
     }
 
     /// Issues a copy of a key for a lifetime, and none where that is 0. The key is not ready any
@@ -128,7 +122,7 @@ impl Copies {
         requires allowed { 0 < ttl → IsTrue (may_issue self.old key.now) }
         ensures copies { SameCopies self.new.copies (if nat_lt 0 ttl then (key.now, commit, self.old.clock + ttl) ∷ self.old.copies else self.old.copies) }
         ensures ready { self.new.ready ≡ [] }
-        ensures idle { self.old.idle ≡ [] → self.new.idle ≡ [] }
+        ensures idle { (other : AKey) → is_idle self.new other ≡ (not (same_key key.now other && nat_lt 0 ttl) && is_idle self.old other) }
         ensures rest { self.new ≡ record self.old { copies = self.new.copies; idle = self.new.idle; ready = self.new.ready } }
     {
         if ttl == 0 {
@@ -192,15 +186,5 @@ impl Copies {
         ensures len { 8 * length result.now ≡ 2 ^ self.now.setting.log2_bits }
     {
         self.outdated.bits()
-    }
-}
-
-/// Whether the key is that of a record.
-fn is_record(key: &Key) -> bool
-    ensures { result ≡ not (is_query key.now) }
-{
-    match key.shape() {
-        KeyShape::Record { .. } => true,
-        KeyShape::Query { .. } => false,
     }
 }

@@ -1,28 +1,27 @@
 //! The hub.
 ghost use Rattle.std.specs.Prelude.{◌≡◌, ◌<◌, ◌≤◌, ◌++◌, ◌∷◌, [], length, option_map, Some, true, IfOk, OnOk, OnErr};
 ghost use Rattle.hub_model.specs.declared.entry.Entry.TheVariants.{Write, Read, Match, Fetch, Tick};
-ghost use Rattle.query_normal.specs.declared.key.KeyShape.TheVariants.{Record};
 ghost use Rattle.commit_book.specs.Journal.{document_at};
-ghost use Rattle.hub_model.specs.Journal.{result_at};
-ghost use Rattle.hub_model.specs.Known.{known_at};
 ghost use Rattle.hub_model.specs.Record.{is_recorded, page_of, record_of};
-ghost use Rattle.hub_model.specs.Reply.{outcome_of, wrote, read, matched, fetched, counted, reply_in};
+ghost use Rattle.hub_model.specs.Reply.{wrote, read, matched, fetched, counted, reply_in};
 ghost use Rattle.hub_model.specs.State.{State, start};
 ghost use Rattle.hub_model.specs.Step.{found_of, is_accepted, after, after_all};
 ghost use Rattle.hub_model.specs.Helps.{helps_of};
 ghost use Rattle.hub_core.specs.PageRoom.{IsRoomFor};
-ghost use Rattle.hub_core.specs.CopiesView.{lifetime, Passes};
 ghost use Rattle.hub_core.specs.HubState.{IsAt, IsLean};
 
 use crate::config::Config;
 use crate::copies::Copies;
-use crate::invalidations::{invalidate_all, reserve_invalidations};
+use crate::matching::{match_commits, match_if_full};
 use crate::page_room::{Numbers, PageRoom};
-use crate::query_outcome::query_outcome;
+use crate::passing::pass;
+use crate::reading::{follow_or_start, issue_copy, outcome_at};
+use active_queries::ActiveQueries;
+use active_queries::laws::queries_follow_longer_journals;
 use commit_book::{Book, BookRefusal};
-use hub_model::{Answer, Change, Condition, Found, Matched, Outcome, Stats, Tags, Written};
-use q_base::{Commit, Memory, Moment, Name};
-use query_normal::{Key, KeyShape};
+use hub_model::{Answer, Change, Condition, Found, Matched, Stats, Tags, Written};
+use q_base::{Commit, Memory, Moment};
+use query_normal::Key;
 use std::alloc::Global;
 use std::marker::Model;
 
@@ -34,14 +33,15 @@ pub struct Hub {
     book: Book,
     front: Commit,
     copies: Copies,
+    /// The queries of the active keys that are queries'.
+    queries: ActiveQueries,
 }
 
 impl Model for Hub {
-    ghost use Rattle.std.specs.Prelude.{◌≡◌, ◌≤◌, length};
     ghost use Rattle.std.specs.Coded.{codes};
     ghost use Rattle.q_doc.specs.Code.{tree_code};
     ghost use Rattle.query_core.specs.Code.{filter_code};
-    ghost use Rattle.hub_core.specs.HubState.{HubView, IsLean, hub_of};
+    ghost use Rattle.hub_core.specs.HubState.{HubView, IsSoundHub, hub_of};
 
     ghost Value = { HubView };
 
@@ -49,11 +49,7 @@ impl Model for Hub {
 
     ghost view = { λ h. hub_of h.book h.front h.copies };
 
-    ghost invariant = { λ h. record {
-      within : h.front ≤ length h.book.journal;
-      capacity : h.book.capacity ≡ h.copies.setting.capacity;
-      lean : IsLean (hub_of h.book h.front h.copies);
-    } };
+    ghost invariant = { λ h. IsSoundHub h.book h.front h.copies h.queries.entries };
 }
 
 impl Hub {
@@ -68,11 +64,13 @@ impl Hub {
             book: Book::new(alloc, config.capacity())?,
             front: 0,
             copies: Copies::new(alloc, config)?,
+            queries: ActiveQueries::new(alloc),
         })
     }
 
     /// Writes, as one entry: the condition is tested first, and then the capacity; an accepted change is
-    /// the next commit.
+    /// the next commit. Where as many commits come after the front as may, all are matched first, as an
+    /// entry of the same moment.
     pub fn write(
         &mut self,
         moment: Moment,
@@ -89,25 +87,39 @@ impl Hub {
         ensures memory { OnErr result (self.new ≡ self.old) }
         ensures lean { IsLean self.new }
     {
+        queries_follow_longer_journals();
         let before = found(&self.book, change);
         if !condition.is_met(before, self.book.count()) {
-            pass(&mut self.copies, moment);
+            pass(&mut self.copies, &mut self.queries, moment);
             return Ok(Written::Precondition {
                 found: before,
                 clock: self.copies.clock(),
             });
         }
-        match self.book.add(change) {
-            Ok(commit) => {
-                pass(&mut self.copies, moment);
-                Ok(Written::Done {
-                    commit,
-                    before,
-                    clock: self.copies.clock(),
-                })
-            }
+        match self.book.reserve(change) {
+            Ok(()) => match match_if_full(
+                self.alloc,
+                &self.book,
+                &mut self.copies,
+                &mut self.queries,
+                &mut self.front,
+                moment,
+            ) {
+                Ok(()) => {
+                    pass(&mut self.copies, &mut self.queries, moment);
+                    Ok(Written::Done {
+                        commit: self.book.add_reserved(),
+                        before,
+                        clock: self.copies.clock(),
+                    })
+                }
+                Err(Memory) => {
+                    self.book.forget_reserved();
+                    Err(Memory)
+                }
+            },
             Err(BookRefusal::Full { bytes }) => {
-                pass(&mut self.copies, moment);
+                pass(&mut self.copies, &mut self.queries, moment);
                 Ok(Written::Full {
                     bytes,
                     clock: self.copies.clock(),
@@ -118,7 +130,7 @@ impl Hub {
     }
 
     /// Reads the result of a key at the last commit, as one entry. A result that the caller knows by its
-    /// tags is neither printed nor copied. A copy is issued of a record's result only.
+    /// tags is neither printed nor copied. The rows of an active query are those of its match set.
     pub fn read(&mut self, moment: Moment, key: &Key, tags: &Tags) -> Result<Answer, Memory>
         // What Ok means.
         ensures last { IfOk result (λ a. a.commit ≡ self.old.commits) }
@@ -130,22 +142,27 @@ impl Hub {
         ensures memory { OnErr result (self.new ≡ self.old) }
         ensures lean { IsLean self.new }
     {
-        let commit = self.book.count();
-        let result = outcome_at(self.alloc, &self.book, commit, key, tags)?;
+        let started = follow_or_start(self.alloc, &self.book, &mut self.queries, key)?;
+        let result = outcome_at(self.alloc, &self.book, &self.queries, &started, key, tags)?;
         self.copies.reserve(key)?;
-        pass(&mut self.copies, moment);
-        let ttl = lifetime(&self.copies, key);
-        self.copies.issue(key, commit, ttl);
+        let ttl = issue_copy(
+            &self.book,
+            &mut self.copies,
+            &mut self.queries,
+            moment,
+            key,
+            started,
+        );
         Ok(Answer {
-            commit,
+            commit: self.book.count(),
             clock: self.copies.clock(),
             ttl,
             result,
         })
     }
 
-    /// Matches the commits up to one against the issued copies, as one entry. It looks
-    /// at no key but those whose results these commits changed.
+    /// Matches the commits up to one against the issued copies, as one entry. It looks at the records that
+    /// these commits changed, and at the queries of active keys.
     pub fn match_to(&mut self, moment: Moment, to: Commit) -> Result<Matched, Memory>
         requires above { self.old.front < to }
         requires within { to ≤ self.old.commits }
@@ -159,22 +176,20 @@ impl Hub {
         ensures memory { OnErr result (self.new ≡ self.old) }
         ensures lean { IsLean self.new }
     {
-        match reserve_invalidations(self.alloc, &self.book, &mut self.copies, self.front, to) {
-            Ok(invalidations) => {
-                pass(&mut self.copies, moment);
-                invalidate_all(&mut self.copies, &invalidations);
-                self.copies.forget_invalidations();
-                self.front = to;
-                Ok(Matched {
-                    front: to,
-                    clock: self.copies.clock(),
-                })
-            }
-            Err(Memory) => {
-                self.copies.forget_invalidations();
-                Err(Memory)
-            }
-        }
+        match_commits(
+            self.alloc,
+            &self.book,
+            &mut self.copies,
+            &mut self.queries,
+            self.front,
+            to,
+            moment,
+        )?;
+        self.front = to;
+        Ok(Matched {
+            front: to,
+            clock: self.copies.clock(),
+        })
     }
 
     /// Writes the page into the buffer, as one entry. It takes no memory.
@@ -187,7 +202,7 @@ impl Hub {
         ensures sizes { IsRoomFor self.old.setting room.new }
         ensures lean { IsLean self.new }
     {
-        pass(&mut self.copies, moment);
+        pass(&mut self.copies, &mut self.queries, moment);
         let front = self.front;
         let commits = self.book.count();
         let moment = self.copies.clock();
@@ -206,7 +221,7 @@ impl Hub {
         ensures setting { self.new.setting ≡ self.old.setting }
         ensures lean { IsLean self.new }
     {
-        pass(&mut self.copies, moment);
+        pass(&mut self.copies, &mut self.queries, moment);
         Stats {
             front: self.front,
             commits: self.book.count(),
@@ -244,33 +259,6 @@ impl Hub {
     }
 }
 
-/// Moves the clock forward to a moment. What expires is dropped, and so are the keys that became idle.
-fn pass(copies: &mut Copies, moment: Moment)
-    ensures { Passes moment copies.old copies.new }
-{
-    copies.advance(moment);
-    take_idle(copies);
-}
-
-/// Takes each idle key. Whatever a hub keeps of a key besides its copies ends here.
-fn take_idle(copies: &mut Copies)
-    ensures { copies.new ≡ record copies.old { idle = [] } }
-{
-    while copies.next_idle().is_some() {}
-}
-
-/// For how many seconds a copy of a key may be kept: not at all where a further key would be active
-/// beyond the limit.
-fn lifetime(copies: &Copies, key: &Key) -> u32
-    ensures { result ≡ lifetime copies.now key.now }
-{
-    if copies.may_issue(key) {
-        copies.config().ttl_high()
-    } else {
-        0
-    }
-}
-
 /// What the last commit has of the record that a change is of.
 fn found(book: &Book, change: &Change) -> Found
     ensures { result ≡ found_of (document_at book.now.journal (length book.now.journal) change.now.collection change.now.id) }
@@ -278,53 +266,5 @@ fn found(book: &Book, change: &Change) -> Found
     match book.document_at(book.count(), &change.collection, &change.id) {
         Some((version, _)) => Found::At(version),
         None => Found::Missing,
-    }
-}
-
-/// The outcome of a read of a key at a commit, of a caller with these tags: the commit by which it knows
-/// the result, or the text of the result.
-fn outcome_at(
-    alloc: Global,
-    book: &Book,
-    commit: Commit,
-    key: &Key,
-    tags: &Tags,
-) -> Result<Outcome, Memory>
-    requires { commit ≤ length book.now.journal }
-    ensures { IfOk result (λ o. o ≡ outcome_of (result_at key.now book.now.journal commit) (known_at key.now book.now.journal commit tags.now)) }
-{
-    match key.shape() {
-        KeyShape::Record { collection, id } => record_outcome(book, commit, collection, id, tags),
-        KeyShape::Query { kind, normal } => {
-            query_outcome(alloc, book, commit, *kind, normal.query(), tags)
-        }
-    }
-}
-
-/// The outcome of a read of a record at a commit: the commit by which the caller knows the document, or
-/// the text that the book keeps, which is shared.
-#[tactic(auto, using(crate::proofs::OutcomeLemmas::outcome_rules))]
-fn record_outcome(
-    book: &Book,
-    commit: Commit,
-    collection: &Name,
-    id: &Name,
-    tags: &Tags,
-) -> Result<Outcome, Memory>
-    requires { commit ≤ length book.now.journal }
-    ensures { IfOk result (λ o. o ≡ outcome_of (result_at (Record collection.now id.now) book.now.journal commit) (known_at (Record collection.now id.now) book.now.journal commit tags.now)) }
-{
-    let Some((version, text)) = book.text_at(commit, collection, id) else {
-        return Ok(Outcome::Absent);
-    };
-    match tags.known_since(version, commit) {
-        Some(tag) => Ok(Outcome::Same {
-            tag,
-            version: Some(version),
-        }),
-        None => Ok(Outcome::Whole {
-            text: text.clone()?,
-            version: Some(version),
-        }),
     }
 }

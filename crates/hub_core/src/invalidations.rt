@@ -1,11 +1,16 @@
 //! The keys that the commits of a match invalidate.
-ghost use Rattle.std.specs.Prelude.{◌≡◌, ◌≤◌, ◌||◌, ◌&&◌, ◌==◌, ℕ, length, All, max, IfOk, OnOk};
+ghost use Rattle.std.specs.Prelude.{◌≡◌, ◌<◌, ◌≤◌, ◌||◌, ◌&&◌, ◌==◌, ℕ, length, slice_get, Some, All, max, IfOk, OnOk};
 ghost use Rattle.std.specs.List.{list_any};
+ghost use Rattle.query_normal.specs.Keys.{same_key};
 ghost use Rattle.query_normal.specs.declared.key.KeyShape.{KeyShape as AKey};
 ghost use Rattle.hub_core.specs.CopiesView.{until_in, IsInvalidationReserved, CanInvalidate};
-ghost use Rattle.hub_core.specs.Invalidations.{key_of, is_key, altered_key, is_invalidation, AreInvalidationsOf, invalidated_until};
+ghost use Rattle.active_queries.specs.Following.{Following as AFollowing};
+ghost use Rattle.active_queries.specs.Queries.{HaveSeen};
+ghost use Rattle.hub_core.specs.ActiveQueries.{KeepsQueries};
+ghost use Rattle.hub_core.specs.Invalidations.{key_of, is_key, altered_key, is_after, is_invalidation, invalidates, AreInvalidationsOf, AreRecordInvalidationsOf, invalidated_until};
 
 use crate::copies::Copies;
+use active_queries::ActiveQueries;
 use commit_book::{Book, Change};
 use q_base::{Commit, Memory};
 use query_normal::Key;
@@ -19,9 +24,34 @@ pub struct Invalidation {
     pub commit: Commit,
 }
 
-/// The invalidations by the commits after one, up to another, with memory reserved for each. It looks at
-/// these commits only.
+/// The invalidations by the commits after one, up to another, with memory reserved for each. Of records it
+/// looks at these commits only, and lets each query see them.
 pub fn reserve_invalidations(
+    alloc: Global,
+    book: &Book,
+    copies: &mut Copies,
+    queries: &mut ActiveQueries,
+    front: Commit,
+    to: Commit,
+) -> Result<Vec<Invalidation>, Memory>
+    requires forward { front ≤ to }
+    requires within { to ≤ length book.now.journal }
+    requires kept { KeepsQueries book.now.journal front copies.old.copies copies.old.idle queries.old.entries }
+    ensures invalidations { IfOk result (λ invalidations. AreInvalidationsOf book.now.journal front to copies.old.copies invalidations.items) }
+    ensures reserved { IfOk result (λ invalidations. All (λ m. IsInvalidationReserved copies.new m.key) invalidations.items) }
+    ensures seen { OnOk result (HaveSeen to queries.new.entries) }
+    ensures kept { KeepsQueries book.now.journal front copies.old.copies copies.old.idle queries.new.entries }
+    ensures rest { copies.new ≡ record copies.old { invalidatable = copies.new.invalidatable } }
+{
+    queries.follow_all(alloc, book, to)?;
+    let mut invalidations = record_invalidations(alloc, book, copies, front, to)?;
+    push_query_invalidations(copies, queries, front, to, &mut invalidations)?;
+    Ok(invalidations)
+}
+
+/// The invalidations of the keys of records by the commits after one, up to another, with memory reserved
+/// for each. It looks at these commits only.
+fn record_invalidations(
     alloc: Global,
     book: &Book,
     copies: &mut Copies,
@@ -30,7 +60,7 @@ pub fn reserve_invalidations(
 ) -> Result<Vec<Invalidation>, Memory>
     requires forward { front ≤ to }
     requires within { to ≤ length book.now.journal }
-    ensures invalidations { IfOk result (λ invalidations. AreInvalidationsOf book.now.journal front to invalidations.items) }
+    ensures invalidations { IfOk result (λ invalidations. AreRecordInvalidationsOf book.now.journal front to invalidations.items) }
     ensures reserved { IfOk result (λ invalidations. All (λ m. IsInvalidationReserved copies.new m.key) invalidations.items) }
     ensures rest { copies.new ≡ record copies.old { invalidatable = copies.new.invalidatable } }
 {
@@ -58,6 +88,87 @@ fn push_invalidation(
         copies.reserve_invalidation(&key)?;
         invalidations.push(Invalidation { key, commit })?;
     }
+    Ok(())
+}
+
+/// Adds the invalidations by the changes that the queries list, of the commits after one, up to another.
+fn push_query_invalidations(
+    copies: &mut Copies,
+    queries: &ActiveQueries,
+    front: Commit,
+    to: Commit,
+    invalidations: &mut Vec<Invalidation>,
+) -> Result<(), Memory>
+    ensures invalidations { OnOk result ((key : AKey) (n : ℕ) → list_any (is_invalidation key n) invalidations.new.items ≡ (list_any (is_invalidation key n) invalidations.old.items || list_any (invalidates front to key n) queries.now.entries)) }
+    ensures reserved { OnOk result (All (λ m. IsInvalidationReserved copies.old m.key) invalidations.old.items → All (λ m. IsInvalidationReserved copies.new m.key) invalidations.new.items) }
+    ensures rest { copies.new ≡ record copies.old { invalidatable = copies.new.invalidatable } }
+{
+    for index in 0..queries.len() {
+        push_changes_at(copies, queries, index, front, to, invalidations)?;
+    }
+    Ok(())
+}
+
+/// Adds the invalidations by the changes that the query at an index lists.
+fn push_changes_at(
+    copies: &mut Copies,
+    queries: &ActiveQueries,
+    index: usize,
+    front: Commit,
+    to: Commit,
+    invalidations: &mut Vec<Invalidation>,
+) -> Result<(), Memory>
+    requires { index < length queries.now.entries }
+    ensures invalidations { OnOk result ((entry : AKey × AFollowing) (key : AKey) (n : ℕ) → slice_get queries.now.entries index ≡ Some entry → list_any (is_invalidation key n) invalidations.new.items ≡ (list_any (is_invalidation key n) invalidations.old.items || invalidates front to key n entry)) }
+    ensures reserved { OnOk result (All (λ m. IsInvalidationReserved copies.old m.key) invalidations.old.items → All (λ m. IsInvalidationReserved copies.new m.key) invalidations.new.items) }
+    ensures rest { copies.new ≡ record copies.old { invalidatable = copies.new.invalidatable } }
+{
+    match queries.at(index) {
+        Some((key, query)) => push_changes(copies, key, query.changed(), front, to, invalidations),
+        None => Ok(()),
+    }
+}
+
+/// Adds the invalidations of a key by those of these commits that come after one, up to another.
+fn push_changes(
+    copies: &mut Copies,
+    key: &Key,
+    changed: &[Commit],
+    front: Commit,
+    to: Commit,
+    invalidations: &mut Vec<Invalidation>,
+) -> Result<(), Memory>
+    ensures invalidations { OnOk result ((other : AKey) (n : ℕ) → list_any (is_invalidation other n) invalidations.new.items ≡ (list_any (is_invalidation other n) invalidations.old.items || (same_key other key.now && list_any (λ m. is_after front to m && (m == n)) changed.now))) }
+    ensures reserved { OnOk result (All (λ m. IsInvalidationReserved copies.old m.key) invalidations.old.items → All (λ m. IsInvalidationReserved copies.new m.key) invalidations.new.items) }
+    ensures rest { copies.new ≡ record copies.old { invalidatable = copies.new.invalidatable } }
+{
+    for commit in changed {
+        push_where_after(copies, key, *commit, front, to, invalidations)?;
+    }
+    Ok(())
+}
+
+/// Adds the invalidation of a key by a commit, where that comes after one, up to another.
+fn push_where_after(
+    copies: &mut Copies,
+    key: &Key,
+    commit: Commit,
+    front: Commit,
+    to: Commit,
+    invalidations: &mut Vec<Invalidation>,
+) -> Result<(), Memory>
+    ensures invalidations { OnOk result ((other : AKey) (n : ℕ) → list_any (is_invalidation other n) invalidations.new.items ≡ (list_any (is_invalidation other n) invalidations.old.items || (same_key other key.now && (is_after front to commit && (commit == n))))) }
+    ensures reserved { OnOk result (All (λ m. IsInvalidationReserved copies.old m.key) invalidations.old.items → All (λ m. IsInvalidationReserved copies.new m.key) invalidations.new.items) }
+    ensures rest { copies.new ≡ record copies.old { invalidatable = copies.new.invalidatable } }
+{
+    if commit <= front || to < commit {
+        return Ok(());
+    }
+    copies.reserve_invalidation(key)?;
+    invalidations.push(Invalidation {
+        key: key.clone()?,
+        commit,
+    })?;
     Ok(())
 }
 

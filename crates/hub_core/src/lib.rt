@@ -6,8 +6,11 @@ mod copies;
 mod hub;
 mod invalidations;
 mod laws;
+mod matching;
 mod page_room;
+mod passing;
 mod query_outcome;
+mod reading;
 
 pub use config::{Config, ConfigRefusal};
 pub use hub::Hub;

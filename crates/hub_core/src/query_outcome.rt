@@ -9,7 +9,8 @@ ghost use Rattle.hub_model.specs.declared.entry.Tags.TheVariants.{Listed as List
 ghost use Rattle.hub_model.specs.Journal.{result_at};
 ghost use Rattle.hub_model.specs.Known.{has_result_of, known_at};
 ghost use Rattle.hub_model.specs.Reply.{outcome_of};
-ghost use Rattle.hub_core.specs.QueryRows.{IsKept, AreKept, is_better};
+ghost use Rattle.hub_core.specs.Invalidations.{is_after};
+ghost use Rattle.hub_core.specs.QueryRows.{IsKept, AreKept, AreChangesOf, is_better};
 
 use commit_book::Book;
 use commit_book::laws::collections_have_the_documents_of_their_records;
@@ -21,17 +22,24 @@ use result_kinds::{PrintedRow, ResultText, ids_of, same_result};
 use std::alloc::Global;
 
 /// The outcome of a read of the result of a query at a commit, of a caller with these tags: the commit by
-/// which it knows the result, or the text of the result. No document is looked at where the tags have
-/// that commit itself, or take whichever there is.
+/// which it knows the result, or the text of the result. The rows are those of its window at the commit;
+/// they are neither scanned for nor copied. The commits after `from` that changed the result are given,
+/// so that an older tag costs no more than looking through them where none comes after it. Only a tag
+/// before `from`, or before a change, is compared by its own rows, which are scanned for.
 pub fn query_outcome(
     alloc: Global,
     book: &Book,
     commit: Commit,
     kind: Kind,
     query: &Query,
+    rows: &[Row],
+    from: Commit,
+    changed: &[Commit],
     tags: &Tags,
 ) -> Result<Outcome, Memory>
-    requires { commit ≤ length book.now.journal }
+    requires within { commit ≤ length book.now.journal }
+    requires rows { rows.now ≡ window query.now (docs book.now.journal commit query.now.collection) }
+    requires changed { AreChangesOf (QueryKey kind query.now) book.now.journal from commit changed.now }
     ensures { IfOk result (λ o. o ≡ outcome_of (result_at (QueryKey kind query.now) book.now.journal commit) (known_at (QueryKey kind query.now) book.now.journal commit tags.now)) }
 {
     match tags {
@@ -39,7 +47,17 @@ pub fn query_outcome(
             tag: commit,
             version: None,
         }),
-        Tags::Listed(tags) => listed_outcome(alloc, book, commit, kind, query, tags.as_slice()),
+        Tags::Listed(tags) => listed_outcome(
+            alloc,
+            book,
+            commit,
+            kind,
+            query,
+            rows,
+            from,
+            changed,
+            tags.as_slice(),
+        ),
     }
 }
 
@@ -50,9 +68,14 @@ fn listed_outcome(
     commit: Commit,
     kind: Kind,
     query: &Query,
+    rows: &[Row],
+    from: Commit,
+    changed: &[Commit],
     tags: &[Commit],
 ) -> Result<Outcome, Memory>
-    requires { commit ≤ length book.now.journal }
+    requires within { commit ≤ length book.now.journal }
+    requires rows { rows.now ≡ window query.now (docs book.now.journal commit query.now.collection) }
+    requires changed { AreChangesOf (QueryKey kind query.now) book.now.journal from commit changed.now }
     ensures { IfOk result (λ o. o ≡ outcome_of (result_at (QueryKey kind query.now) book.now.journal commit) (known_at (QueryKey kind query.now) book.now.journal commit (ListedTags tags.now))) }
 {
     the_greatest_same_result_is_told();
@@ -62,13 +85,15 @@ fn listed_outcome(
             version: None,
         });
     }
-    let rows = rows_at(alloc, book, commit, query)?;
-    match greatest_known(alloc, book, commit, kind, query, &rows, tags)? {
+    match greatest_known(alloc, book, commit, kind, query, rows, from, changed, tags)? {
         Some(tag) => Ok(Outcome::Same { tag, version: None }),
-        None => Ok(Outcome::Whole {
-            text: text_of(alloc, book, commit, &query.collection, kind, &rows)?,
-            version: None,
-        }),
+        None => {
+            collections_have_the_documents_of_their_records();
+            Ok(Outcome::Whole {
+                text: text_of(alloc, book, commit, &query.collection, kind, rows)?,
+                version: None,
+            })
+        }
     }
 }
 
@@ -79,11 +104,15 @@ fn is_listed(tags: &[Commit], commit: Commit) -> bool
     tags.iter().any(|tag| *tag == commit)
 }
 
-/// The rows of a query at a commit.
-fn rows_at(alloc: Global, book: &Book, commit: Commit, query: &Query) -> Result<Rows, Memory>
+/// The rows of a query at a commit, which are scanned for.
+pub(crate) fn rows_at(
+    alloc: Global,
+    book: &Book,
+    commit: Commit,
+    query: &Query,
+) -> Result<Rows, Memory>
     requires { commit ≤ length book.now.journal }
-    ensures rows { IfOk result (λ rows. rows ≡ window query.now (docs book.now.journal commit query.now.collection)) }
-    ensures kept { IfOk result (λ rows. AreKept book.now.journal commit query.now.collection rows) }
+    ensures { IfOk result (λ rows. rows ≡ window query.now (docs book.now.journal commit query.now.collection)) }
 {
     collections_have_the_documents_of_their_records();
     let documents = Docs::of(book.documents_of(commit, &query.collection)?);
@@ -99,16 +128,21 @@ fn greatest_known(
     commit: Commit,
     kind: Kind,
     query: &Query,
-    rows: &Rows,
+    rows: &[Row],
+    from: Commit,
+    changed: &[Commit],
     tags: &[Commit],
 ) -> Result<Option<Commit>, Memory>
     requires within { commit ≤ length book.now.journal }
     requires rows { rows.now ≡ window query.now (docs book.now.journal commit query.now.collection) }
+    requires changed { AreChangesOf (QueryKey kind query.now) book.now.journal from commit changed.now }
     ensures { IfOk result (λ known. known ≡ reduce max (filter (has_result_of (QueryKey kind query.now) book.now.journal commit) tags.now)) }
 {
     let mut known = None;
     for tag in tags {
-        if is_better(known, *tag) && is_known(alloc, book, commit, kind, query, rows, *tag)? {
+        if is_better(known, *tag)
+            && is_known(alloc, book, commit, kind, query, rows, from, changed, *tag)?
+        {
             known = Some(*tag);
         }
     }
@@ -125,26 +159,40 @@ fn is_better(known: Option<Commit>, tag: Commit) -> bool
     }
 }
 
-/// Whether a tag is a commit with the same result as another, whose rows are given.
+/// Whether a tag is a commit with the same result as another, whose rows are given. No row is looked at
+/// where no commit after the tag changed the result.
 fn is_known(
     alloc: Global,
     book: &Book,
     commit: Commit,
     kind: Kind,
     query: &Query,
-    rows: &Rows,
+    rows: &[Row],
+    from: Commit,
+    changed: &[Commit],
     tag: Commit,
 ) -> Result<bool, Memory>
     requires within { commit ≤ length book.now.journal }
     requires rows { rows.now ≡ window query.now (docs book.now.journal commit query.now.collection) }
+    requires changed { AreChangesOf (QueryKey kind query.now) book.now.journal from commit changed.now }
     ensures { IfOk result (λ known. known ≡ has_result_of (QueryKey kind query.now) book.now.journal commit tag) }
 {
     if tag > commit {
         return Ok(false);
     }
+    if from <= tag && !has_after(changed, tag, commit) {
+        return Ok(true);
+    }
     query_results_are_told_by_versions();
     let found = rows_at(alloc, book, tag, query)?;
-    Ok(same_result(kind, &found, rows))
+    Ok(same_result(kind, found.as_slice(), rows))
+}
+
+/// Whether one of these commits comes after another, and not after a last one.
+fn has_after(commits: &[Commit], from: Commit, to: Commit) -> bool
+    ensures { result ≡ list_any (is_after from to) commits.now }
+{
+    commits.iter().any(|commit| from < *commit && *commit <= to)
 }
 
 /// The text of the result with these rows, written once.
@@ -154,7 +202,7 @@ fn text_of(
     commit: Commit,
     collection: &Name,
     kind: Kind,
-    rows: &Rows,
+    rows: &[Row],
 ) -> Result<SharedText, Memory>
     requires within { commit ≤ length book.now.journal }
     requires kept { AreKept book.now.journal commit collection.now rows.now }
@@ -162,7 +210,7 @@ fn text_of(
 {
     let text = match kind {
         Kind::Objects => {
-            ResultText::of_objects(kept_rows(alloc, book, commit, collection, rows.as_slice())?)?
+            ResultText::of_objects(kept_rows(alloc, book, commit, collection, rows)?)?
         }
         Kind::Ids => ResultText::of_ids(ids_of(alloc, rows)?)?,
     };

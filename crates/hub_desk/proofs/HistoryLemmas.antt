@@ -1,20 +1,30 @@
--- What one entry more does to a history.
-use Rattle.std.proofs.Common.{◌≡◌, ◌↔◌, ℕ, true, false, nat_lt, lt-ltb, le-ltb, Some, ◌+◌, ◌<◌, ◌≤◌, List, [], ◌∷◌, ◌++◌, length, refl, sym, ap, ◌∙◌, append-nil, arith, subst}
+-- What the entries of a call do to a history.
+use Rattle.std.proofs.Common.{◌≡◌, ◌↔◌, ℕ, Bool, true, false, nat_lt, lt-ltb, le-ltb, Some, ◌+◌, ◌<◌, ◌≤◌, List, [], ◌∷◌, ◌++◌, length, refl, sym, ap, ap₂, ◌∙◌, append_assoc, append-nil, arith, subst}
+use Rattle.std.specs.Prelude.{if◌then◌else◌}
 use Rattle.std.specs.List.{enumerate_from}
+use Rattle.commit_book.specs.declared.change.Change.{Change}
+use Rattle.hub_model.specs.declared.entry.Condition.{Condition}
 use Rattle.hub_model.specs.declared.entry.Entry.{Entry}
 use Rattle.hub_model.specs.declared.entry.Matched.{Matched}
 use Rattle.hub_model.specs.declared.entry.Stats.{Stats}
-use Rattle.hub_model.specs.declared.entry.Entry.TheVariants.{Match, Fetch, Tick}
+use Rattle.hub_model.specs.declared.entry.Entry.TheVariants.{Write, Match, Fetch, Tick}
 use Rattle.hub_model.specs.Desk.{Makes, Learns}
-use Rattle.hub_model.specs.Legal.{MayFollow, IsLegalFrom, IsLegal}
+use Rattle.hub_model.specs.Helps.{helps_of, match_between}
+use Rattle.hub_model.specs.Legal.{Admits, IsLegalFrom, IsLegal}
 use Rattle.hub_model.specs.Reply.{Replied, matched, counted, reply, reply_in}
 use Rattle.hub_model.specs.Setting.{Setting}
 use Rattle.hub_model.specs.Record.{page_of}
-use Rattle.hub_desk.specs.Desk.{matching, MatchesAll, Fetches, IsNoted}
+use Rattle.hub_desk.specs.Calls.{EntriesAreRepresented, RepliesAreBehind}
+use Rattle.hub_desk.specs.Desk.{matching, MatchesAll, Fetches}
+use Rattle.hub_desk.specs.HubValue.{entries_for}
 use Rattle.hub_core.specs.PageRoom.{PageRoomView}
 use Rattle.hub_core.specs.HubState.{HubView, IsAt, Represents}
 use Rattle.hub_model.specs.State.{State, start}
 use Rattle.hub_model.specs.Step.{after, after_all, state_of}
+
+-- the law by which the fronts tell what helped a write
+abbrev pub HelpsAreTold : Type 0
+HelpsAreTold = (g : Setting) (t : State) (moment : ℕ) (change : Change) (condition : Condition) → helps_of g t (Write moment change condition) ≡ match_between moment t.front (after_all g t (helps_of g t (Write moment change condition) ++ Write moment change condition ∷ [])).front
 
 -- entries appended to others have the numbers after theirs
 pub enumerate_from-append : {X : Type 0} (n : ℕ) (xs ys : List X) → enumerate_from n (xs ++ ys) ≡ enumerate_from n xs ++ enumerate_from (n + length xs) ys
@@ -25,15 +35,6 @@ enumerate_from-append {X} n (x ∷ xs) ys =
     let same : enumerate_from (n + 1 + length xs) ys ≡ enumerate_from (n + length (x ∷ xs)) ys = ap (λ k. enumerate_from k ys) offset in
     cc
 
--- what is stored behind a history makes it go on, by the law of more entries
-pub noted : (old new es : List Entry) → ((g : Setting) (history more : List Entry) → state_of g (history ++ more) ≡ after_all g (state_of g history) more) → ((g : Setting) (history more : List Entry) → IsLegal g (history ++ more) ↔ (IsLegal g history × IsLegalFrom g (state_of g history) more)) → new ≡ old ++ es → IsNoted old new es
-noted old new es state legal stored =
-    record {
-      stored = stored;
-      state = λ g. subst (λ (l : List Entry). state_of g l ≡ after_all g (state_of g old) es) (sym stored) (state g old es);
-      legal = λ g was may. subst (λ (l : List Entry). IsLegal g l) (sym stored) ((legal g old es).1 (was, may));
-    }
-
 -- a desk that makes no entry knows what it knew
 pub learnt : (g : Setting) (seen : List Entry) (mine : List (ℕ × Entry)) → Learns g seen seen mine mine
 learnt g seen mine = record { grew = ([], append-nil seen); legal = λ h. h; mine = refl }
@@ -43,14 +44,9 @@ module _ (h : HubView) (history : List Entry) (represented : Represents h histor
   abbrev s : State
   s = state_of h.setting history
 
-  -- the hub after entries that may follow represents the longer history
-  pub represents-more : (new : HubView) (longer es : List Entry) → IsLegalFrom h.setting s es → new.setting ≡ h.setting → IsAt new (after_all h.setting s es) → IsNoted history longer es → Represents new longer
-  represents-more new longer es may setting at n =
-      let there : after_all h.setting s es ≡ state_of h.setting longer = sym (n.state h.setting) in
-      record {
-        state = subst (λ (g : Setting). IsAt new (state_of g longer)) (sym setting) (subst (λ (t : State). IsAt new t) there at);
-        legal = subst (λ (g : Setting). IsLegal g longer) (sym setting) (n.legal h.setting represented.legal may);
-      }
+  -- the hub after a call represents the longer history
+  pub represents-more : (new : HubView) (longer : List Entry) (e : Entry) → EntriesAreRepresented → Admits s e → new.setting ≡ h.setting → IsAt new (after_all h.setting s (entries_for h.setting history e)) → longer ≡ history ++ entries_for h.setting history e → Represents new longer
+  represents-more new longer e represents admits same at stored = subst (λ (l : List Entry). Represents new l) (sym stored) (represents h new history e represented admits same at)
 
   -- a read of the last commit may follow, as the front is not above it
   pub may_read : (at : ℕ) → s.front ≤ length s.journal → at ≡ h.commits → (s.front ≤ at) × (at ≤ length s.journal)
@@ -80,68 +76,87 @@ module _ (h : HubView) (history : List Entry) (represented : Represents h histor
         let test : nat_lt s.front (length s.journal) ≡ false = let f = represented.state.time.front in le-ltb s.front (length s.journal) (omega (arith, ahead, up, front_is, f)) in
         let here : matching s moment ≡ Tick moment = rw test refl in sym here
 
+  -- what helped a write, by the fronts before it and after it
+  module _ (new : HubView) (moment : ℕ) (change : Change) (condition : Condition) (told : HelpsAreTold) (at : IsAt new (after_all h.setting s (entries_for h.setting history (Write moment change condition)))) (front later : ℕ) (front_is : front ≡ h.front) (later_is : later ≡ new.front) where
+    abbrev mine : Entry
+    mine = Write moment change condition
+
+    helps_between : match_between moment front later ≡ helps_of h.setting s mine
+    helps_between =
+        ap₂ (match_between moment) (front_is ∙ represented.state.time.front) (later_is ∙ at.time.front) ∙ sym (told h.setting s moment change condition)
+
+    -- it is stored ahead of the write
+    pub written-stored : (between longer : List Entry) → between ≡ history ++ match_between moment front later → longer ≡ between ++ mine ∷ [] → longer ≡ history ++ entries_for h.setting history mine
+    written-stored between longer ahead last =
+        last ∙ ap (λ (l : List Entry). l ++ mine ∷ []) (ahead ∙ ap (λ (l : List Entry). history ++ l) helps_between) ∙ append_assoc history (helps_of h.setting s mine) (mine ∷ [])
+
+    counted_by : (b : Bool) → (if b then 2 else 1) ≡ length ((if b then Match moment later ∷ [] else []) ++ mine ∷ [])
+    counted_by true = refl
+    counted_by false = refl
+
+    -- and counted with it
+    pub written-counted : (if nat_lt front later then 2 else 1) ≡ length (entries_for h.setting history mine)
+    written-counted = counted_by (nat_lt front later) ∙ ap (λ (l : List Entry). length (l ++ mine ∷ [])) helps_between
+
   -- and of a desk that has seen all of it
   module _ (g : Setting) (seen longer : List Entry) (setting : g ≡ h.setting) (seen_is : seen ≡ history) where
-    -- the answer of the hub is the reply to the entry there
-    pub replied_there : (e : Entry) (told : Replied) → told ≡ reply_in h.setting s e → told ≡ reply g (history ++ []) e
-    unfolding reply
-    replied_there e told told_is = let nothing : history ++ [] ≡ history = append-nil history in cc
+    -- the entries come after those that the desk knew
+    pub seen_there : (helps : List Entry) (e : Entry) → longer ≡ history ++ (helps ++ e ∷ []) → longer ≡ (history ++ helps) ++ e ∷ []
+    seen_there helps e longer_is = longer_is ∙ sym (append_assoc history helps (e ∷ []))
 
-    -- the entry comes after those that the desk knew
-    pub seen_there : (e : Entry) → longer ≡ history ++ e ∷ [] → longer ≡ (history ++ []) ++ e ∷ []
-    seen_there e longer_is = let nothing : history ++ [] ≡ history = append-nil history in cc
-
-    -- so does it with its number
-    pub mine_there : (e : Entry) → longer ≡ history ++ e ∷ [] → enumerate_from 0 longer ≡ enumerate_from 0 seen ++ enumerate_from (length history) ([] ++ e ∷ [])
-    mine_there e longer_is =
-        let positions : enumerate_from 0 (history ++ e ∷ []) ≡ enumerate_from 0 history ++ enumerate_from (0 + length history) (e ∷ []) = enumerate_from-append 0 history (e ∷ []) in
+    -- so do they with their numbers
+    pub mine_there : (es : List Entry) → longer ≡ history ++ es → enumerate_from 0 longer ≡ enumerate_from 0 seen ++ enumerate_from (length history) es
+    mine_there es longer_is =
+        let positions : enumerate_from 0 (history ++ es) ≡ enumerate_from 0 history ++ enumerate_from (0 + length history) es = enumerate_from-append 0 history es in
         let zero_first : 0 + length history ≡ length history = omega arith in
         cc
 
-    -- the answer of the hub is the reply to the entry there, which only this desk can have made
-    abbrev pub made : (e : Entry) (told : Replied) → MayFollow h.setting s e → IsNoted history longer (e ∷ []) → told ≡ reply_in h.setting s e → Makes g seen longer (enumerate_from 0 seen) (enumerate_from 0 longer) e told
-    made e told may n told_is =
-        record {
-          before = history;
-          helps = [];
-          grew = ([], append-nil seen ∙ seen_is);
-          helped = refl;
-          seen = seen_there e n.stored;
-          legal = subst (λ (x : Setting). IsLegal x longer) (sym setting) (n.legal h.setting represented.legal (may, tt));
-          mine = mine_there e n.stored;
-          told_is = replied_there e told told_is;
-        }
-
-    -- the desk fetched the page into the buffer
-    pub fetched_page : (moment : ℕ) (room : PageRoomView) → IsNoted history longer (Fetch moment ∷ []) → room.page ≡ Some (page_of h.setting (after h.setting s (Fetch moment))) → Fetches g seen longer (enumerate_from 0 seen) (enumerate_from 0 longer) moment room
-    fetched_page moment room n held = record { page = page_of h.setting (after h.setting s (Fetch moment)); held = held; made = made (Fetch moment) _ tt n refl }
-
-    -- which matches all commits
-    module _ (moment front to : ℕ) (front_is : front ≡ h.front) (to_is : to ≡ h.commits) where
-      seen_state : s ≡ state_of g (history ++ [])
-      seen_state = let nothing : history ++ [] ≡ history = append-nil history in cc
-
-      -- by a match where the front is behind
-      pub matched_all : (told : Matched) → front < to → IsNoted history longer (Match moment to ∷ []) → matched told ≡ reply_in h.setting s (Match moment to) → MatchesAll g seen longer (enumerate_from 0 seen) (enumerate_from 0 longer) moment told
-      matched_all told behind n told_is =
+    -- after a call for an entry that the state admits
+    module _ (new : HubView) (represents : EntriesAreRepresented) (replies : RepliesAreBehind) where
+      -- the answer of the hub is the reply to the entry there, which only this desk can have made
+      abbrev pub made : (e : Entry) (told : Replied) → Admits s e → new.setting ≡ h.setting → IsAt new (after_all h.setting s (entries_for h.setting history e)) → longer ≡ history ++ entries_for h.setting history e → told ≡ reply_in h.setting (after_all h.setting s (helps_of h.setting s e)) e → Makes g seen longer (enumerate_from 0 seen) (enumerate_from 0 longer) e told
+      made e told admits same at stored told_is =
           record {
-            entry = Match moment to;
-            replied = matched told;
-            made = made (Match moment to) (matched told) (may_match front to front_is to_is behind) n told_is;
-            entry_is = match_is moment front to front_is to_is behind ∙ ap (λ (x : State). matching x moment) seen_state;
-            told_is = refl;
+            before = history;
+            helps = helps_of h.setting s e;
+            grew = ([], append-nil seen ∙ seen_is);
+            helped = ap (λ (x : Setting). helps_of x (state_of x history) e) (sym setting);
+            seen = seen_there (helps_of h.setting s e) e stored;
+            legal = subst (λ (x : Setting). IsLegal x longer) (same ∙ sym setting) (represents-more new longer e represents admits same at stored).legal;
+            mine = mine_there (entries_for h.setting history e) stored;
+            told_is = subst (λ (x : Setting). told ≡ reply x (history ++ helps_of h.setting s e) e) (sym setting) (told_is ∙ sym (replies h.setting history e));
           }
 
-      -- and by a tick where it is the last commit
-      pub ticked_all : (stats : Stats) → to ≤ front → IsNoted history longer (Tick moment ∷ []) → counted stats ≡ reply_in h.setting s (Tick moment) → MatchesAll g seen longer (enumerate_from 0 seen) (enumerate_from 0 longer) moment (record { front = stats.front; clock = stats.clock })
-      ticked_all stats ahead n told_is =
-          record {
-            entry = Tick moment;
-            replied = counted stats;
-            made = made (Tick moment) (counted stats) tt n told_is;
-            entry_is = tick_is moment front to front_is to_is ahead ∙ ap (λ (x : State). matching x moment) seen_state;
-            told_is = refl;
-          }
+      -- the desk fetched the page into the buffer
+      pub fetched_page : (moment : ℕ) (room : PageRoomView) → new.setting ≡ h.setting → IsAt new (after h.setting s (Fetch moment)) → longer ≡ history ++ Fetch moment ∷ [] → room.page ≡ Some (page_of h.setting (after h.setting s (Fetch moment))) → Fetches g seen longer (enumerate_from 0 seen) (enumerate_from 0 longer) moment room
+      fetched_page moment room same at stored held = record { page = page_of h.setting (after h.setting s (Fetch moment)); held = held; made = made (Fetch moment) _ tt same at stored refl }
+
+      -- which matches all commits
+      module _ (moment front to : ℕ) (front_is : front ≡ h.front) (to_is : to ≡ h.commits) where
+        seen_state : s ≡ state_of g (history ++ [])
+        seen_state = let nothing : history ++ [] ≡ history = append-nil history in cc
+
+        -- by a match where the front is behind
+        pub matched_all : (told : Matched) → front < to → new.setting ≡ h.setting → IsAt new (after h.setting s (Match moment to)) → longer ≡ history ++ Match moment to ∷ [] → matched told ≡ reply_in h.setting s (Match moment to) → MatchesAll g seen longer (enumerate_from 0 seen) (enumerate_from 0 longer) moment told
+        matched_all told behind same at stored told_is =
+            record {
+              entry = Match moment to;
+              replied = matched told;
+              made = made (Match moment to) (matched told) (may_match front to front_is to_is behind) same at stored told_is;
+              entry_is = match_is moment front to front_is to_is behind ∙ ap (λ (x : State). matching x moment) seen_state;
+              told_is = refl;
+            }
+
+        -- and by a tick where it is the last commit
+        pub ticked_all : (stats : Stats) → to ≤ front → new.setting ≡ h.setting → IsAt new (after h.setting s (Tick moment)) → longer ≡ history ++ Tick moment ∷ [] → counted stats ≡ reply_in h.setting s (Tick moment) → MatchesAll g seen longer (enumerate_from 0 seen) (enumerate_from 0 longer) moment (record { front = stats.front; clock = stats.clock })
+        ticked_all stats ahead same at stored told_is =
+            record {
+              entry = Tick moment;
+              replied = counted stats;
+              made = made (Tick moment) (counted stats) tt same at stored told_is;
+              entry_is = tick_is moment front to front_is to_is ahead ∙ ap (λ (x : State). matching x moment) seen_state;
+              told_is = refl;
+            }
 
 -- a new hub represents the empty history
 pub new_represents : (h : HubView) (history : List Entry) → IsAt h start → ((g : Setting) → state_of g [] ≡ start) → ((g : Setting) → IsLegal g []) → history ≡ [] → Represents h history
@@ -152,3 +167,23 @@ new_represents h history begins state_none legal_none none =
       state = subst (λ (s : State). IsAt h s) state begins;
       legal = subst (λ (l : List Entry). IsLegal h.setting l) (sym none) (legal_none h.setting);
     }
+
+-- ---- the law of the entries of a call
+
+-- by the law of more entries
+pub entries-represented :
+    ((g : Setting) (history more : List Entry) → state_of g (history ++ more) ≡ after_all g (state_of g history) more)
+    → ((g : Setting) (history more : List Entry) → IsLegal g (history ++ more) ↔ (IsLegal g history × IsLegalFrom g (state_of g history) more))
+    → ((g : Setting) (history : List Entry) (e : Entry) → IsLegal g history → Admits (state_of g history) e → IsLegalFrom g (state_of g history) (helps_of g (state_of g history) e ++ e ∷ []))
+    → EntriesAreRepresented
+entries-represented state legal follows h new history e represented admits same at =
+    let es : List Entry = entries_for h.setting history e in
+    let there : after_all h.setting (state_of h.setting history) es ≡ state_of h.setting (history ++ es) = sym (state h.setting history es) in
+    record {
+      state = subst (λ (g : Setting). IsAt new (state_of g (history ++ es))) (sym same) (subst (λ (t : State). IsAt new t) there at);
+      legal = subst (λ (g : Setting). IsLegal g (history ++ es)) (sym same) ((legal h.setting history es).1 (represented.legal, follows h.setting history e represented.legal admits));
+    }
+
+pub replies-behind : ((g : Setting) (history more : List Entry) → state_of g (history ++ more) ≡ after_all g (state_of g history) more) → RepliesAreBehind
+unfolding reply
+replies-behind state g history e = ap (λ (t : State). reply_in g t e) (state g history (helps_of g (state_of g history) e))

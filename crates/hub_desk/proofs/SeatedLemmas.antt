@@ -1,16 +1,17 @@
 -- What the calls of a hub add to a history, as the value of a turnstile, and what a desk at a seat makes of it.
 use Rattle.std.proofs.Common.{◌≡◌, ℕ, ◌+◌, ◌<◌, ◌≤◌, List, [], ◌++◌, length, sym, ap, ◌∙◌, append-nil, length-append, arith, subst}
-use Rattle.hub_core.specs.HubState.{HubView, IsAt, Represents}
+use Rattle.hub_core.specs.HubState.{HubView, IsAt}
 use Rattle.hub_model.specs.declared.entry.Entry.{Entry}
 use Rattle.hub_model.specs.declared.entry.Entry.TheVariants.{Match, Tick}
 use Rattle.hub_model.specs.Helps.{helps_of}
 use Rattle.hub_model.specs.Desk.{IsPrefix}
 use Rattle.hub_model.specs.Later.{IsLater}
-use Rattle.hub_model.specs.Legal.{IsLegalFrom, IsLegal}
-use Rattle.hub_model.specs.Reply.{Replied, reply, reply_in}
+use Rattle.hub_model.specs.Legal.{Admits, IsLegal}
+use Rattle.hub_model.specs.Reply.{Replied, reply_in}
 use Rattle.hub_model.specs.Setting.{Setting}
 use Rattle.hub_model.specs.State.{State}
 use Rattle.hub_model.specs.Step.{after_all, state_of}
+use Rattle.hub_desk.specs.Calls.{EntriesAreRepresented, RepliesAreBehind}
 use Rattle.hub_desk.specs.Desk.{matching}
 use Rattle.hub_desk.proofs.HistoryLemmas.{match_is, tick_is}
 use Rattle.hub_desk.specs.HubValue.{HubValueView, hub_setting, StandsFor, entries_for, HasAdded}
@@ -36,17 +37,15 @@ module _ (h : HubView) (inside old : HubValueView) (hub_is : h ≡ inside.hub) (
 
   -- After a call for an entry the hub is in the state behind the entries of the call, the count is that many more, and what was told is the reply in the state behind those ahead.
   pub added : (new : HubValueView) (e : Entry) (told : Replied)
-      → ((hub next : HubView) (l more : List Entry) → Represents hub l → IsLegalFrom hub.setting (state_of hub.setting l) more → next.setting ≡ hub.setting → ((t : State) → IsAt hub t → IsAt next (after_all hub.setting t more)) → Represents next (l ++ more))
-      → ((x : Setting) (l more : List Entry) → state_of x (l ++ more) ≡ after_all x (state_of x l) more) → IsLegalFrom g s (entries_for g history e) → new.hub.setting ≡ g → ((t : State) → IsAt h t → IsAt new.hub (after_all g t (entries_for g history e)))
+      → EntriesAreRepresented → RepliesAreBehind → Admits s e → new.hub.setting ≡ g → IsAt new.hub (after_all g s (entries_for g history e))
       → new.count ≡ inside.count + length (entries_for g history e) → told ≡ reply_in g (after_all g s (helps_of g s e)) e → HasAdded (hub_setting old) history new e told
-  unfolding reply
-  added new e told goes_on state may setting after count told_is =
+  added new e told represents replies admits setting after count told_is =
       let es : List Entry = entries_for g history e in
       let counted : new.count ≡ length history + length es = count ∙ ap (λ (n : ℕ). n + length es) stood.counted in
       let here : HasAdded g history new e told =
       record {
-        stands = record { represents = goes_on h new.hub history es stood.represents may setting after; counted = counted ∙ sym (length-append history es) };
-        told_is = told_is ∙ ap (λ (t : State). reply_in g t e) (sym (state g history (helps_of g s e)));
+        stands = record { represents = represents h new.hub history e stood.represents admits setting after; counted = counted ∙ sym (length-append history es) };
+        told_is = told_is ∙ sym (replies g history e);
       } in
       subst (λ (v : HubValueView). HasAdded (hub_setting v) history new e told) same here
 

@@ -8,8 +8,7 @@ use Rattle.hub_model.specs.Desk.{Makes}
 use Rattle.hub_model.specs.Reply.{Replied, matched, fetched, counted}
 use Rattle.hub_model.specs.Setting.{Setting}
 use Rattle.hub_model.specs.State.{State}
-use Rattle.hub_model.specs.Step.{after_all, state_of}
-use Rattle.hub_model.specs.Legal.{IsLegalFrom, IsLegal}
+use Rattle.hub_model.specs.Step.{state_of}
 use Rattle.query_normal.specs.Pages.{Page}
 
 -- the entry that matches all commits of a state: a match up to the last one, or a tick where the front is there already
@@ -39,12 +38,6 @@ pub record Fetches (g : Setting) (old new : List Entry) (mine_old mine_new : Lis
   pub page : Page
   pub held : room.page ≡ Some page
   pub made : Makes g old new mine_old mine_new (Fetch moment) (fetched page)
-
--- The history goes on by these entries: its state is what they make of the state before, and it is legal where each may follow.
-pub record IsNoted (old new es : List Entry) : Type 0 where
-  pub stored : new ≡ old ++ es
-  pub state : (g : Setting) → state_of g new ≡ after_all g (state_of g old) es
-  pub legal : (g : Setting) → IsLegal g old → IsLegalFrom g (state_of g old) es → IsLegal g new
 
 -- one call makes two entries at most: one ahead of its own, and its own
 abbrev pub most_entries : ℕ

@@ -1,5 +1,5 @@
 //! A hub as the value of a turnstile.
-ghost use Rattle.std.specs.Prelude.{◌≡◌, ◌+◌, ◌<◌, ◌≤◌, ◌^◌, [], List, length, true, IfOk, OnErr};
+ghost use Rattle.std.specs.Prelude.{◌≡◌, ◌+◌, ◌<◌, ◌≤◌, ◌^◌, [], List, length, true, nat_lt, if◌then◌else◌, IfOk, OnErr};
 ghost use Rattle.hub_core.specs.PageRoom.{IsRoomFor};
 ghost use Rattle.hub_model.specs.declared.entry.Entry.{Entry as AnEntry};
 ghost use Rattle.hub_model.specs.declared.entry.Entry.TheVariants.{Write, Read, Match, Tick};
@@ -7,8 +7,9 @@ ghost use Rattle.hub_model.specs.Reply.{wrote, read, matched, counted};
 ghost use Rattle.hub_model.specs.Step.{is_accepted, state_of};
 ghost use Rattle.hub_desk.specs.HubValue.{hub_setting, StandsFor, Adds, AddsPage};
 
+use crate::laws::calls_make_entries;
 use hub_core::{Config, Hub, PageRoom, hubs_represent_histories};
-use hub_model::laws::{front_is_within, more_entries};
+use hub_model::laws::{front_is_within, helps_are_told_by_the_front};
 use hub_model::{Answer, Change, Condition, Entry, Matched, Stats, Tags, Written};
 use q_base::{Commit, Memory, Moment};
 use query_normal::Key;
@@ -99,24 +100,25 @@ impl HubValue {
         &self.hub
     }
 
-    /// Writes, as one entry.
+    /// Writes, as one entry behind those that have to come ahead of it.
     pub(crate) fn write(
         &mut self,
         moment: Moment,
         change: &Change,
         condition: &Condition,
     ) -> Result<Written, Memory>
-        requires { self.old.count + 1 < 2 ^ 64 }
+        requires { self.old.count + 2 < 2 ^ 64 }
         ensures made { IfOk result (λ w. Adds self.old self.new (Write moment change.now condition.now) (wrote w)) }
         ensures accepted { OnErr result ((history : List AnEntry) → StandsFor self.old history → is_accepted (hub_setting self.old) (state_of (hub_setting self.old) history) change.now condition.now ≡ true) }
         ensures memory { OnErr result (self.new ≡ self.old) }
         ensures setting { hub_setting self.new ≡ hub_setting self.old }
     {
-        // The laws of a hub and a history that go on by more entries.
-        hubs_represent_histories();
-        more_entries();
+        // The law by which the fronts tell what helped a write.
+        helps_are_told_by_the_front();
+        calls_make_entries();
+        let front = self.hub.front();
         let written = self.hub.write(moment, change, condition)?;
-        self.count += 1;
+        self.count += written_entries(front, self.hub.front());
         Ok(written)
     }
 
@@ -128,10 +130,9 @@ impl HubValue {
         ensures memory { OnErr result (self.new ≡ self.old) }
         ensures setting { hub_setting self.new ≡ hub_setting self.old }
     {
-        hubs_represent_histories();
-        more_entries();
         // The law by which a read of the last commit is not below the front.
         front_is_within();
+        calls_make_entries();
         let answer = self.hub.read(moment, key, tags)?;
         self.count += 1;
         Ok(answer)
@@ -146,8 +147,7 @@ impl HubValue {
         ensures memory { OnErr result (self.new ≡ self.old) }
         ensures setting { hub_setting self.new ≡ hub_setting self.old }
     {
-        hubs_represent_histories();
-        more_entries();
+        calls_make_entries();
         let matched = self.hub.match_to(moment, to)?;
         self.count += 1;
         Ok(matched)
@@ -161,8 +161,7 @@ impl HubValue {
         ensures room { IsRoomFor (hub_setting self.old) room.new }
         ensures setting { hub_setting self.new ≡ hub_setting self.old }
     {
-        hubs_represent_histories();
-        more_entries();
+        calls_make_entries();
         self.hub.fetch(moment, room);
         self.count += 1;
     }
@@ -173,10 +172,17 @@ impl HubValue {
         ensures made { Adds self.old self.new (Tick moment) (counted result) }
         ensures setting { hub_setting self.new ≡ hub_setting self.old }
     {
-        hubs_represent_histories();
-        more_entries();
+        calls_make_entries();
         let stats = self.hub.tick(moment);
         self.count += 1;
         stats
     }
+}
+
+/// The number of entries of a write that finds one front and leaves another: a match that moved it, and
+/// the write.
+fn written_entries(front: Commit, later: Commit) -> u64
+    ensures { result ≡ (if nat_lt front later then 2 else 1) }
+{
+    if front < later { 2 } else { 1 }
 }

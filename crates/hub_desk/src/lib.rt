@@ -3,6 +3,7 @@
 
 mod desk;
 mod hub_value;
+mod laws;
 mod owned;
 mod seated;
 

@@ -1,14 +1,16 @@
 //! A desk that owns its hub, and keeps the list of its entries.
-ghost use Rattle.std.specs.Prelude.{◌≡◌, ◌+◌, ◌<◌, ◌≤◌, [], ◌∷◌, length, vec_len, vec_capacity, IfOk};
+ghost use Rattle.std.specs.Prelude.{◌≡◌, ◌+◌, ◌<◌, ◌≤◌, [], ◌∷◌, ◌++◌, length, vec_len, vec_capacity, IfOk};
 ghost use Rattle.std.specs.List.{enumerate_from};
 ghost use Rattle.hub_core.specs.HubState.{Represents};
-ghost use Rattle.hub_desk.specs.Desk.{IsNoted, most_entries};
+ghost use Rattle.hub_model.specs.Helps.{match_between};
+ghost use Rattle.hub_desk.specs.Desk.{most_entries};
 
 use crate::desk::Desk;
+use crate::laws::calls_make_entries;
 use hub_core::{Config, Hub, PageRoom};
-use hub_model::laws::{front_is_within, more_entries, no_entry_is_legal};
+use hub_model::laws::{front_is_within, helps_are_told_by_the_front, no_entry_is_legal};
 use hub_model::{Answer, Change, Condition, Entry, Matched, Stats, Tags, Written};
-use q_base::{Memory, Moment};
+use q_base::{Commit, Memory, Moment};
 use query_normal::Key;
 use std::alloc::Global;
 use std::marker::Model;
@@ -72,12 +74,22 @@ impl Owned {
 /// Stores an entry in the memory that was reserved for it.
 fn note(entries: &mut Vec<Entry>, entry: Entry)
     requires { vec_len entries.old < vec_capacity entries.old }
-    ensures { IsNoted entries.old.items entries.new.items (entry ∷ []) }
+    ensures stored { entries.new.items ≡ entries.old.items ++ entry ∷ [] }
+    ensures capacity { vec_capacity entries.old ≤ vec_capacity entries.new }
 {
-    // The law of a history with more entries.
-    more_entries();
     if entries.push(entry).is_err() {
         unreachable!()
+    }
+}
+
+/// Stores the match that a call made ahead of its own entry, where it moved the front.
+fn note_match(entries: &mut Vec<Entry>, moment: Moment, front: Commit, later: Commit)
+    requires { vec_len entries.old + 2 ≤ vec_capacity entries.old }
+    ensures stored { entries.new.items ≡ entries.old.items ++ match_between moment front later }
+    ensures room { vec_len entries.new < vec_capacity entries.new }
+{
+    if front < later {
+        note(entries, Entry::Match { moment, to: later });
     }
 }
 
@@ -105,7 +117,12 @@ impl Desk for Owned {
         change: Change,
         condition: Condition,
     ) -> Result<Written, Memory> {
+        // The law by which the fronts tell what helped a write.
+        helps_are_told_by_the_front();
+        calls_make_entries();
+        let front = self.hub.front();
         let written = self.hub.write(moment, &change, &condition)?;
+        note_match(&mut self.entries, moment, front, self.hub.front());
         note(
             &mut self.entries,
             Entry::Write {
@@ -120,6 +137,7 @@ impl Desk for Owned {
     fn read(&mut self, moment: Moment, key: Key, tags: Tags) -> Result<Answer, Memory> {
         // The law by which a read of the last commit is not below the front.
         front_is_within();
+        calls_make_entries();
         let answer = self.hub.read(moment, &key, &tags)?;
         let at = answer.commit;
         note(
@@ -135,6 +153,7 @@ impl Desk for Owned {
     }
 
     fn match_all(&mut self, moment: Moment) -> Result<Matched, Memory> {
+        calls_make_entries();
         let to = self.hub.commits();
         if self.hub.front() < to {
             let matched = self.hub.match_to(moment, to)?;
@@ -151,11 +170,13 @@ impl Desk for Owned {
     }
 
     fn fetch(&mut self, moment: Moment, room: &mut PageRoom) {
+        calls_make_entries();
         self.hub.fetch(moment, room);
         note(&mut self.entries, Entry::Fetch { moment });
     }
 
     fn tick(&mut self, moment: Moment) -> Stats {
+        calls_make_entries();
         let stats = self.hub.tick(moment);
         note(&mut self.entries, Entry::Tick { moment });
         stats

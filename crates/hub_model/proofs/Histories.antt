@@ -100,7 +100,7 @@ front-last g history = front-from g start history ∙ last_or-zero (filter_map t
 -- the front is not above the number of commits
 within-after : (g : Setting) (s : State) (e : Entry) → s.front ≤ length s.journal → MayFollow g s e → (after g s e).front ≤ length (after g s e).journal
 within-after g s (Write moment change condition) h may = wrote-keeps g (at_moment s moment) change condition (λ (t : State). t.front ≤ length t.journal) (let size = length-append s.journal (change ∷ []) in omega (arith, size, h)) h
-within-after g s (Match moment to) h may = may.1
+within-after g s (Match moment to) h may = may.0.1
 within-after g s e h may = h
 
 within-from : (g : Setting) (s : State) (history : List Entry) → s.front ≤ length s.journal → IsLegalFrom g s history → (after_all g s history).front ≤ length (after_all g s history).journal

@@ -61,9 +61,9 @@ later_after g s (Write moment change condition) may =
     (later_clock s (at_moment s moment).clock (omega arith))
 later_after g s (Read moment key tags at) may =
     let r : IssuedCopy = record { key = key; at = at; clock = (at_moment s moment).clock; ttl = ttl_of g (at_moment s moment) key at } in
-    record { clock = omega arith; front = omega arith; commits = []; journal = sym (append-nil s.journal); issued = r ∷ []; copies = refl; fresh = All-cons (IsFrom s) r [] may.0 (All-nil (IsFrom s)) }
+    record { clock = omega arith; front = omega arith; commits = []; journal = sym (append-nil s.journal); issued = r ∷ []; copies = refl; fresh = All-cons (IsFrom s) r [] may.0.0 (All-nil (IsFrom s)) }
 later_after g s (Match moment to) may =
-    record { clock = omega arith; front = (let up = may.0 in omega (arith, up)); commits = []; journal = sym (append-nil s.journal); issued = []; copies = sym (append-nil s.copies); fresh = All-nil (IsFrom s) }
+    record { clock = omega arith; front = (let up = may.0.0 in omega (arith, up)); commits = []; journal = sym (append-nil s.journal); issued = []; copies = sym (append-nil s.copies); fresh = All-nil (IsFrom s) }
 later_after g s e may = later_clock s (at_moment s (moment_of e)).clock (omega arith)
 
 later_from : (g : Setting) (s : State) (es : List Entry) → IsLegalFrom g s es → IsLater s (after_all g s es)

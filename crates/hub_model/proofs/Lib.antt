@@ -15,3 +15,4 @@ pub mod Recorded
 pub mod Results
 mod Rows
 pub mod Untils
+mod Unmatched

@@ -138,7 +138,7 @@ outdated_copies-read g s key at h =
 pub read-outdates_nothing : (g : Setting) (history : List Entry) (moment : ℕ) (key : KeyShape) (tags : Tags) (at : ℕ) → IsLegal g (history ++ Read moment key tags at ∷ []) → outdated_copies (state_of g (history ++ Read moment key tags at ∷ [])) ≡ outdated_copies (state_of g history)
 read-outdates_nothing g history moment key tags at legal =
     let may = (legal-parts g history (Read moment key tags at ∷ []) legal).1.0 in
-    ap outdated_copies (state_of-push g history (Read moment key tags at)) ∙ outdated_copies-read g (at_moment (state_of g history) moment) key at may.0
+    ap outdated_copies (state_of-push g history (Read moment key tags at)) ∙ outdated_copies-read g (at_moment (state_of g history) moment) key at may.0.0
 
 -- ---- writes
 

@@ -1,5 +1,6 @@
 -- Worked histories, computed from the definitions alone.
 use Rattle.std.proofs.Common.{◌≡◌, ◌<◌, ◌≤◌, ℕ, ◌++◌, List, [], ◌∷◌, Some, None, true, false, pos, codes, map, refl, ap, arith}
+use Rattle.std.specs.Prelude.{replicate}
 use Rattle.std.specs.Fmt.{digits}
 use Rattle.json.specs.Print.{escape_byte}
 use Rattle.q_doc.specs.Printed.{printed}
@@ -8,7 +9,7 @@ use Rattle.query_normal.specs.declared.key.KeyShape.{KeyShape}
 use Rattle.query_core.specs.declared.operator.Op.TheVariants.{Equal}
 use Rattle.query_core.specs.declared.query.Kind.{Kind}
 use Rattle.query_core.specs.declared.query.Kind.TheVariants.{Objects, Ids}
-use Rattle.query_core.specs.Filters.{compared}
+use Rattle.query_core.specs.Filters.{constant, compared}
 use Rattle.query_normal.specs.declared.key.KeyShape.TheVariants.{Record, Query}
 use Rattle.query_normal.specs.Pages.{Page}
 use Rattle.result_kinds.specs.Results.{ids}
@@ -17,7 +18,7 @@ use Rattle.commit_book.specs.Journal.{cost_of}
 use Rattle.hub_model.specs.declared.entry.Condition.{Condition}
 use Rattle.hub_model.specs.declared.entry.Condition.TheVariants.{Always, Present, Absent, Unchanged}
 use Rattle.hub_model.specs.declared.entry.Entry.{Entry}
-use Rattle.hub_model.specs.declared.entry.Entry.TheVariants.{Write, Read, Match, Fetch}
+use Rattle.hub_model.specs.declared.entry.Entry.TheVariants.{Write, Read, Match, Fetch, Tick}
 use Rattle.hub_model.specs.declared.entry.Found.TheVariants.{Missing, At}
 use Rattle.hub_model.specs.declared.entry.Outcome.TheVariants.{Whole, Same, Absent as Nothing}
 use Rattle.hub_model.specs.declared.entry.Outcome.{Outcome}
@@ -26,14 +27,15 @@ use Rattle.hub_model.specs.declared.entry.Tags.TheVariants.{Any, Listed}
 use Rattle.hub_model.specs.declared.entry.Written.TheVariants.{Done, Precondition, Full}
 use Rattle.hub_model.specs.Setting.{Setting, default_setting}
 use Rattle.hub_model.specs.Record.{record_of, outdated_copies, bits_of}
-use Rattle.hub_model.specs.Step.{state_of}
-use Rattle.hub_model.specs.State.{IssuedCopy, start, at_moment}
+use Rattle.hub_model.specs.Helps.{helps_of}
+use Rattle.hub_model.specs.Step.{after_all, state_of}
+use Rattle.hub_model.specs.State.{IssuedCopy, State, start, at_moment}
 use Rattle.hub_model.specs.Copies.{active_keys}
 use Rattle.hub_model.specs.Legal.{IsLegal}
-use Rattle.hub_model.specs.Reply.{Replied, reply, wrote, read, matched, fetched}
+use Rattle.hub_model.specs.Reply.{Replied, reply, reply_in, wrote, read, matched, fetched, counted}
 use Rattle.hub_model.specs.Journal.{absent, present, queried, result_at, same_finding}
 use Rattle.hub_model.specs.Lifetime.{ttl_of}
-use Rattle.hub_model.specs.Outdated.{is_outdated}
+use Rattle.hub_model.specs.Outdated.{is_outdated, is_changed}
 
 -- every lifetime is 60 seconds
 abbrev sixty : Setting
@@ -68,7 +70,12 @@ covered_replies = (refl, refl, refl, refl)
 -- the history is legal
 covered_legal : IsLegal sixty covered
 unfolding IsLegal cost_of digits escape_byte
-covered_legal = (tt, (((let h : 0 ≤ 1 = omega arith in h), (let h : 1 ≤ 1 = omega arith in h)), (tt, (((let h : 0 < 2 = omega arith in h), (let h : 2 ≤ 2 = omega arith in h)), tt))))
+covered_legal =
+    let one : 1 ≤ 1024 = omega arith in
+    let two : 2 ≤ 1024 = omega arith in
+    let reads : (0 ≤ 1) × (1 ≤ 1) = ((let h : 0 ≤ 1 = omega arith in h), (let h : 1 ≤ 1 = omega arith in h)) in
+    let matches : (0 < 2) × (2 ≤ 2) = ((let h : 0 < 2 = omega arith in h), (let h : 2 ≤ 2 = omega arith in h)) in
+    ((tt, one), ((reads, one), ((tt, two), ((matches, (let h : 2 ≤ 1026 = omega arith in h)), tt))))
 
 -- a page at 159 with the bits of these keys
 abbrev page : ℕ → ℕ → List KeyShape → Page
@@ -295,7 +302,7 @@ abbrev told_at_4 : Kind → Tags → Replied
 told_at_4 kind tags = reply sixty (map (λ change. Write 100 change Always) four) (Read 100 (where_a_is_1 kind) tags 4)
 
 abbrev answer_at_4 : Outcome → Replied
-answer_at_4 result = read (record { commit = 4; clock = 100; ttl = 0; result = result })
+answer_at_4 result = read (record { commit = 4; clock = 100; ttl = 60; result = result })
 
 query_replies : (told_at_4 Ids (Listed []) ≡ answer_at_4 (Whole (codes "[\"p1\"]") None))
     × (told_at_4 Objects (Listed []) ≡ answer_at_4 (Whole (codes "[{\"doc\":{\"a\":1},\"id\":\"p1\",\"version\":4}]") None))
@@ -306,13 +313,105 @@ unfolding state_of reply cost_of digits escape_byte
 query_replies = (refl, refl, refl, refl, refl)
 
 -- at commit 1, as a caller that has put p1 alone reads it
-first_query : (reply sixty (Write 100 (put_p1 1) Always ∷ []) (Read 100 (where_a_is_1 Objects) (Listed []) 1) ≡ read (record { commit = 1; clock = 100; ttl = 0; result = Whole (codes "[{\"doc\":{\"a\":1},\"id\":\"p1\",\"version\":1}]") None }))
-    × (reply sixty [] (Read 100 (where_a_is_1 Ids) (Listed []) 0) ≡ read (record { commit = 0; clock = 100; ttl = 0; result = Whole (codes "[]") None }))
+first_query : (reply sixty (Write 100 (put_p1 1) Always ∷ []) (Read 100 (where_a_is_1 Objects) (Listed []) 1) ≡ read (record { commit = 1; clock = 100; ttl = 60; result = Whole (codes "[{\"doc\":{\"a\":1},\"id\":\"p1\",\"version\":1}]") None }))
+    × (reply sixty [] (Read 100 (where_a_is_1 Ids) (Listed []) 0) ≡ read (record { commit = 0; clock = 100; ttl = 60; result = Whole (codes "[]") None }))
 unfolding state_of reply cost_of digits escape_byte
 first_query = (refl, refl)
 
--- a reply to a query is no active key, and takes no place of one
-query_lifetimes : (active_keys (state_of (few_active 1) (Read 100 (where_a_is_1 Ids) (Listed []) 0 ∷ [])) ≡ [])
-    × (ttl_of (few_active 1) (state_of (few_active 1) (Read 100 (where_a_is_1 Ids) (Listed []) 0 ∷ [])) p1 0 ≡ 60)
+-- a copy of a reply to a query makes its key active, and takes the place of another
+query_lifetimes : (active_keys (state_of (few_active 1) (Read 100 (where_a_is_1 Ids) (Listed []) 0 ∷ [])) ≡ where_a_is_1 Ids ∷ [])
+    × (ttl_of (few_active 1) (at_moment (state_of (few_active 1) (Read 100 (where_a_is_1 Ids) (Listed []) 0 ∷ [])) 159) p1 0 ≡ 0)
+    × (ttl_of (few_active 1) (at_moment (state_of (few_active 1) (Read 100 (where_a_is_1 Ids) (Listed []) 0 ∷ [])) 159) (where_a_is_1 Ids) 0 ≡ 60)
+    × (ttl_of (few_active 1) (at_moment (state_of (few_active 1) (Read 100 (where_a_is_1 Ids) (Listed []) 0 ∷ [])) 160) p1 0 ≡ 60)
 unfolding state_of cost_of digits escape_byte
-query_lifetimes = (refl, refl)
+query_lifetimes = (refl, refl, refl, refl)
+
+-- ---- a commit that changes a document of a result, but not its ids, outdates the one result alone
+
+-- puts `{"a":1,"b":n}`
+abbrev put_both : List ℕ → ℕ → Change
+put_both id n = record { collection = codes "shop"; id = id; document = Some (object (member (codes "a") (number (pos 1)) (member (codes "b") (number (pos n)) no_members))) }
+
+abbrev read_both_ways : List Entry
+read_both_ways =
+    Write 100 (put_both (codes "p1") 0) Always
+    ∷ Write 100 (put_both (codes "p2") 0) Always
+    ∷ Read 100 (where_a_is_1 Ids) (Listed []) 2
+    ∷ Read 100 (where_a_is_1 Objects) (Listed []) 2
+    ∷ Write 100 (put_both (codes "p1") 5) Always
+    ∷ Match 100 3
+    ∷ []
+
+-- both keys are active, and the query's of objects is in the record
+objects_alone : (record_of (state_of sixty read_both_ways) ≡ where_a_is_1 Objects ∷ [])
+    × (active_keys (state_of sixty read_both_ways) ≡ where_a_is_1 Ids ∷ where_a_is_1 Objects ∷ [])
+    × (is_changed (where_a_is_1 Ids) (state_of sixty read_both_ways).journal 3 ≡ false)
+    × (is_changed (where_a_is_1 Objects) (state_of sixty read_both_ways).journal 3 ≡ true)
+unfolding state_of cost_of digits escape_byte
+objects_alone = (refl, refl, refl, refl)
+
+-- ---- a commit that changes the order of the ids changes a result of ids
+
+-- the ids of the collection shop, in the order of `a`
+abbrev by_a : KeyShape
+by_a = Query Ids (record { collection = codes "shop"; filter = constant true; order = (codes "a" ∷ [], false) ∷ []; skip = 0; take = 100 })
+
+abbrev moved : List Change
+moved = put_p1 1 ∷ put_p2 1 ∷ put_p1 2 ∷ []
+
+order_changes : (result_at by_a moved 2 ≡ queried (ids (codes "p1" ∷ codes "p2" ∷ [])))
+    × (result_at by_a moved 3 ≡ queried (ids (codes "p2" ∷ codes "p1" ∷ [])))
+    × (is_changed by_a moved 3 ≡ true)
+order_changes = (refl, refl, refl)
+
+-- ---- a change of a result that is undone outdates the copies from before it and between, and the one from before is still what a reader knows
+
+-- puts `{"a":0}`
+abbrev put_zero : List ℕ → Entry
+put_zero id = Write 100 (record { collection = codes "shop"; id = id; document = Some (a_is 0) }) Always
+
+abbrev five_zeros : List Entry
+five_zeros = put_zero (codes "p1") ∷ put_zero (codes "p2") ∷ put_zero (codes "p3") ∷ put_zero (codes "p4") ∷ put_zero (codes "p5") ∷ []
+
+abbrev there_and_back : List Entry
+there_and_back =
+    five_zeros
+    ++ Read 100 (where_a_is_1 Ids) (Listed []) 5
+    ∷ Write 100 (put_p1 1) Always
+    ∷ Read 100 (where_a_is_1 Ids) (Listed []) 6
+    ∷ Write 100 (put_p1 0) Always
+    ∷ Match 100 7
+    ∷ []
+
+abbrev copy_of_query : ℕ → IssuedCopy
+copy_of_query at = record { key = where_a_is_1 Ids; at = at; clock = 100; ttl = 60 }
+
+query_undone : (result_at (where_a_is_1 Ids) (state_of sixty there_and_back).journal 5 ≡ queried (ids []))
+    × (result_at (where_a_is_1 Ids) (state_of sixty there_and_back).journal 6 ≡ queried (ids (codes "p1" ∷ [])))
+    × (record_of (state_of sixty there_and_back) ≡ where_a_is_1 Ids ∷ [])
+    × (outdated_copies (state_of sixty there_and_back) ≡ copy_of_query 5 ∷ copy_of_query 6 ∷ [])
+    × (reply sixty there_and_back (Read 100 (where_a_is_1 Ids) (Listed (5 ∷ [])) 7) ≡ read (record { commit = 7; clock = 100; ttl = 60; result = Same 5 None }))
+unfolding state_of reply cost_of digits escape_byte
+query_undone = (refl, refl, refl, refl, refl)
+
+-- ---- a write that would be the 1,025th commit after the front is helped
+
+-- a state after n puts of p1, of which none is matched
+abbrev after_puts : ℕ → State
+after_puts n = record { clock = 100; journal = replicate n (put_p1 1); front = 0; copies = [] }
+
+abbrev put_more : Entry
+put_more = Write 100 (put_p1 2) Always
+
+-- 1,024 commits are matched first, and then there is one after the front
+helped : (helps_of sixty (after_puts 1024) put_more ≡ Match 100 1024 ∷ [])
+    × (reply_in sixty (after_all sixty (after_puts 1024) (Match 100 1024 ∷ put_more ∷ [])) (Tick 100) ≡ counted (record { front = 1024; commits = 1025; clock = 100 }))
+unfolding cost_of digits escape_byte
+helped = (refl, refl)
+
+-- the 1,024th is not helped, nor is a write that is refused
+not_helped : (helps_of sixty (after_puts 1023) put_more ≡ [])
+    × (helps_of sixty (after_puts 1024) (Write 100 (put_p1 2) Absent) ≡ [])
+    × (helps_of (few_bytes 78848) (after_puts 1024) put_more ≡ [])
+unfolding cost_of digits escape_byte
+not_helped = (refl, refl, refl)

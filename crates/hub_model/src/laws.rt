@@ -1,8 +1,8 @@
 //! What follows of histories from the definitions alone. Each function states one law, and does
 //! nothing.
-ghost use Rattle.std.specs.Prelude.{◌≡◌, ◌≢◌, ◌↔◌, ◌+◌, ◌<◌, ◌≤◌, ℕ, Bool, true, false, suc, max, List, [], ◌∷◌, ◌++◌, length, Option, Some, None, IsTrue, Contains, slice_get, is_some, nat_lt, ◌&&◌, ◌||◌, if◌then◌else◌};
+ghost use Rattle.std.specs.Prelude.{◌≡◌, ◌≢◌, ◌↔◌, ◌+◌, ◌<◌, ◌≤◌, ℕ, Bool, true, suc, max, List, [], ◌∷◌, ◌++◌, length, Option, Some, None, IsTrue, Contains, slice_get, is_some, nat_lt, ◌&&◌, ◌||◌, if◌then◌else◌};
 ghost use Rattle.std.specs.Bool.{Decides};
-ghost use Rattle.std.specs.List.{list_any, All, IsDistinct};
+ghost use Rattle.std.specs.List.{list_any, IsDistinct};
 ghost use Rattle.std.specs.List.Sorted.{IsPermutation};
 ghost use Rattle.q_doc.specs.Tree.{Tree};
 ghost use Rattle.query_core.specs.declared.query.Kind.{Kind as AKind};
@@ -28,8 +28,9 @@ ghost use Rattle.hub_model.specs.Journal.{Finding, result_at, same_finding};
 ghost use Rattle.hub_model.specs.Known.{known_at};
 ghost use Rattle.hub_model.specs.KnownSince.{known_since, IsGreatestSame};
 ghost use Rattle.hub_model.specs.Later.{IsLater};
-ghost use Rattle.hub_model.specs.Legal.{MayFollow, IsLegalFrom, IsLegal};
-ghost use Rattle.hub_model.specs.Lifetime.{is_query, ttl_of};
+ghost use Rattle.hub_model.specs.Helps.{helps_of, match_between};
+ghost use Rattle.hub_model.specs.Legal.{most_unmatched, Admits, MayFollow, IsLegalFrom, IsLegal};
+ghost use Rattle.hub_model.specs.Lifetime.{ttl_of};
 ghost use Rattle.hub_model.specs.Outdated.{IsOutdated, IsChangedAfter, is_outdated, is_changed};
 ghost use Rattle.hub_model.specs.Record.{IsRecorded, is_recorded, record_of, outdated_copies, bits_of, page_of};
 ghost use Rattle.hub_model.specs.Setting.{Setting};
@@ -102,15 +103,6 @@ pub fn page_holds_recorded_keys()
 /// versions in order, or for one of ids the same ids.
 pub fn query_results_are_told_by_versions()
     ensures { (kind : AKind) (normal : AQuery) (journal : List AChange) (n m : ℕ) → same_finding (result_at (KeyShape.Query kind normal) journal n) (result_at (KeyShape.Query kind normal) journal m) ≡ same_result kind (window normal (docs journal n normal.collection)) (window normal (docs journal m normal.collection)) }
-{}
-
-/// A reply to a query may not be kept, so that a read of one leaves the unexpired copies as they are; none
-/// is of a query, and every active key is a record's.
-pub fn queries_are_not_issued()
-    ensures lifetime { (g : Setting) (s : State) (kind : AKind) (normal : AQuery) (at : ℕ) → ttl_of g s (KeyShape.Query kind normal) at ≡ 0 }
-    ensures reads { (g : Setting) (s : State) (kind : AKind) (normal : AQuery) (at : ℕ) → live (has_read g (KeyShape.Query kind normal) at s) ≡ live s }
-    ensures copies { (g : Setting) (history : List AnEntry) → All (λ r. is_query r.key ≡ false) (live (state_of g history)) }
-    ensures active { (g : Setting) (history : List AnEntry) (key : KeyShape) → IsTrue (is_active (state_of g history) key) → is_query key ≡ false }
 {}
 
 // What a history comes to, said of its entries.
@@ -200,6 +192,25 @@ pub fn later_states_are_ordered()
 /// The front is not above the number of commits.
 pub fn front_is_within()
     ensures { (g : Setting) (history : List AnEntry) → IsLegal g history → (state_of g history).front ≤ length (state_of g history).journal }
+{}
+
+/// No more than so many commits come after the front.
+pub fn few_commits_are_unmatched()
+    ensures { (g : Setting) (history : List AnEntry) → IsLegal g history → length (state_of g history).journal ≤ (state_of g history).front + most_unmatched }
+{}
+
+/// Behind the entries that a call makes ahead of its own a write may always follow, and so may any entry
+/// that the state admits: of a state with few commits after the front, as that of a legal history is.
+pub fn helped_writes_may_follow()
+    ensures write { (g : Setting) (s : State) (moment : ℕ) (change : AChange) (condition : ACondition) → s.front ≤ length s.journal → length s.journal ≤ s.front + most_unmatched → IsLegalFrom g s (helps_of g s (Write moment change condition) ++ Write moment change condition ∷ []) }
+    ensures other { (g : Setting) (s : State) (e : AnEntry) → s.front ≤ length s.journal → length s.journal ≤ s.front + most_unmatched → Admits s e → IsLegalFrom g s (helps_of g s e ++ e ∷ []) }
+    ensures history { (g : Setting) (history : List AnEntry) (e : AnEntry) → IsLegal g history → Admits (state_of g history) e → IsLegalFrom g (state_of g history) (helps_of g (state_of g history) e ++ e ∷ []) }
+{}
+
+/// What helped a write is told by the fronts before it and after it: a match up to the later one where it
+/// is above, and else nothing.
+pub fn helps_are_told_by_the_front()
+    ensures { (g : Setting) (s : State) (moment : ℕ) (change : AChange) (condition : ACondition) → helps_of g s (Write moment change condition) ≡ match_between moment s.front (after_all g s (helps_of g s (Write moment change condition) ++ Write moment change condition ∷ [])).front }
 {}
 
 /// The front never falls.

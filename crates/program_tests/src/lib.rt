@@ -12,6 +12,8 @@ mod ends;
 #[cfg(test)]
 mod faults;
 #[cfg(test)]
+mod helped;
+#[cfg(test)]
 mod serving;
 #[cfg(test)]
 mod tagged;

@@ -57,6 +57,11 @@ use Rattle.http_front.specs.contracts.routes.Routes as Routes
 use Rattle.commit_book.specs.contracts.book.Book as Book
 use Rattle.commit_book.specs.contracts.row.Reserved as Reserved
 use Rattle.commit_book.specs.contracts.row.Row as Row
+use Rattle.match_sets.specs.contracts.set.MatchSet as MatchSet
+use Rattle.match_sets.specs.contracts.set.MatchSet.TheInside as SetInside
+use Rattle.active_queries.specs.contracts.query.ActiveQuery as ActiveQuery
+use Rattle.active_queries.specs.contracts.query.ActiveQuery.TheInside as FollowedInside
+use Rattle.active_queries.specs.contracts.queries.ActiveQueries as ActiveQueries
 use Rattle.hub_core.proofs.page_room.PageRoom.TheSendSync as ThePages
 use Rattle.hub_core.specs.contracts.config.Config as Config
 use Rattle.hub_core.specs.contracts.copies.Copies as Copies
@@ -150,8 +155,24 @@ expiries_send = search (key_send, keys_send, TheMap.the_send, TheKeyCopies.the_s
 pub copies_send : IsSend Copies.the_row
 copies_send = search (filter_send, expiries_send, crosses, sendable) depth 60 fits 20000
 
+-- what the hub keeps of an active query: its match set, whose rows are tuples of a name, a number and a document
+pub set_inside_send : IsSend SetInside.the_row
+set_inside_send = declared_send SetInside.the_type (query_send, (search (crosses, sendable), (search (doc_send, TheName.the_send, crosses, sendable) depth 60 fits 20000, (search (crosses, sendable), tt))))
+
+pub set_send : IsSend MatchSet.the_row
+set_send = search (set_inside_send, crosses, sendable) depth 60 fits 20000
+
+pub followed_inside_send : IsSend FollowedInside.the_row
+followed_inside_send = declared_send FollowedInside.the_type (search (crosses, sendable), (set_send, (search (crosses, sendable), (search (crosses, sendable), (search (crosses, sendable), tt)))))
+
+pub followed_send : IsSend ActiveQuery.the_row
+followed_send = search (followed_inside_send, crosses, sendable) depth 60 fits 20000
+
+pub queries_send : IsSend ActiveQueries.the_row
+queries_send = search (key_send, followed_send, TheMap.the_send, crosses, sendable) depth 60 fits 20000
+
 pub hub_send : IsSend Hub.the_row
-hub_send = search (book_send, copies_send, crosses, sendable) depth 60 fits 20000
+hub_send = search (book_send, copies_send, queries_send, crosses, sendable) depth 60 fits 20000
 
 pub value_send : IsSend HubValue.the_row
 value_send = search (hub_send, crosses, sendable) depth 60 fits 20000

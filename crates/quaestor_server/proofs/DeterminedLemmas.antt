@@ -1,5 +1,6 @@
 -- Two connections over one history of their own, at the same bytes and moments.
-use Rattle.std.proofs.Common.{◌≡◌, ℕ, ◌+◌, ◌≤◌, ◌++◌, Bool, List, [], ◌∷◌, length, map, Result, Ok, Err, refl, sym, ap, ◌∙◌, subst, arith, append_assoc, append-nil, length-append}
+use Rattle.std.proofs.Common.{◌≡◌, ℕ, ◌+◌, ◌≤◌, ◌++◌, Bool, true, false, nat_lt, List, [], ◌∷◌, length, map, Result, Ok, Err, refl, sym, ap, ◌∙◌, subst, arith, append_assoc, append-nil, length-append}
+use Rattle.std.specs.Prelude.{if◌then◌else◌}
 use Rattle.std.specs.List.{enumerate_from}
 use Rattle.std.proofs.lemmas.List.{append_cancel_left}
 use Rattle.dialogue.specs.Dialogue.{Sides, Exchange, Answered, Dialogue, pieces, is_last}
@@ -13,12 +14,13 @@ use Rattle.http_front.specs.declared.refused.Refused.TheVariants.{NotBuilt}
 use Rattle.http_front.specs.declared.told.Told.{Told}
 use Rattle.http_front.specs.declared.told.Told.TheVariants as answers
 use Rattle.http_message.specs.Item.{Item}
-use Rattle.hub_desk.specs.Desk.{IsFrontOf}
+use Rattle.hub_desk.specs.Desk.{matching, IsFrontOf}
 use Rattle.hub_model.specs.declared.entry.Entry.{Entry}
-use Rattle.hub_model.specs.declared.entry.Entry.TheVariants.{Read}
+use Rattle.hub_model.specs.declared.entry.Entry.TheVariants.{Read, Match, Tick}
 use Rattle.hub_model.specs.declared.entry.Matched.{Matched}
 use Rattle.hub_model.specs.declared.entry.Tags.{Tags}
 use Rattle.hub_model.specs.Desk.{IsPrefix, Makes, Learns}
+use Rattle.hub_model.specs.Helps.{helps_of}
 use Rattle.hub_model.specs.Legal.{MayFollow, IsLegal, IsLegalFrom}
 use Rattle.hub_model.specs.Reply.{Replied, reply, wrote, read, matched, fetched, counted}
 use Rattle.hub_model.specs.Setting.{Setting}
@@ -97,45 +99,63 @@ may_follow : (g : Setting) (history : List Entry) (e : Entry) → IsLegal g (his
 unfolding IsLegal state_of
 may_follow g history e l = legal_last g start history e l
 
+-- a history with the entries that come ahead of one
+abbrev helped : Setting → List Entry → Entry → List Entry
+helped g history e = history ++ helps_of g (state_of g history) e
+
 -- a call that served among no others' entries, said of the history that was known
 record IsPlain (g : Setting) (old new : List Entry) (mine mine_new : List (ℕ × Entry)) (moment : ℕ) (asked : Result Ask Refused) (e : Entry) (replied : Replied) : Type 0 where
-  seen_is : new ≡ old ++ e ∷ []
-  mine_is : mine_new ≡ mine ++ enumerate_from (length old) (e ∷ [])
-  is_of : IsEntryOf asked moment (state_of g old) e
-  may : MayFollow g (state_of g old) e
-  told_is : replied ≡ reply g old e
+  seen_is : new ≡ helped g old e ++ e ∷ []
+  mine_is : mine_new ≡ mine ++ enumerate_from (length old) (helps_of g (state_of g old) e ++ e ∷ [])
+  is_of : IsEntryOf asked moment (state_of g (helped g old e)) e
+  may : MayFollow g (state_of g (helped g old e)) e
+  told_is : replied ≡ reply g (helped g old e) e
 
 plain : (g : Setting) (old new : List Entry) (mine mine_new : List (ℕ × Entry)) (moment : ℕ) (asked : Result Ask Refused) (told : Told) (page : List ℕ) (s : Serves g old new mine mine_new moment asked told page) → length new + length mine ≡ length old + length mine_new → IsPlain g old new mine mine_new moment asked s.entry s.replied
 plain g old new mine mine_new moment asked told page s alone =
     let m = s.made in
     let more = makes_more g old new mine mine_new s.entry s.replied m in
     let before : m.before ≡ old = prefix_whole old m.before m.grew (omega (arith, alone, more.seen_is, more.mine_is)) in
-    let helps : m.helps ≡ [] = m.helped in
-    let ahead : m.before ++ m.helps ≡ old = ap (λ (l : List Entry). l ++ m.helps) before ∙ ap (λ (l : List Entry). old ++ l) helps ∙ append-nil old in
-    let whole : new ≡ old ++ s.entry ∷ [] = m.seen ∙ ap (λ (l : List Entry). l ++ s.entry ∷ []) ahead in
+    let helps : m.helps ≡ helps_of g (state_of g old) s.entry = m.helped ∙ ap (λ (l : List Entry). helps_of g (state_of g l) s.entry) before in
+    let ahead : m.before ++ m.helps ≡ helped g old s.entry = ap (λ (l : List Entry). l ++ m.helps) before ∙ ap (λ (l : List Entry). old ++ l) helps in
+    let whole : new ≡ helped g old s.entry ++ s.entry ∷ [] = m.seen ∙ ap (λ (l : List Entry). l ++ s.entry ∷ []) ahead in
     record {
       seen_is = whole;
       mine_is = m.mine ∙ ap (λ (l : List Entry). mine ++ enumerate_from (length l) (m.helps ++ s.entry ∷ [])) before ∙ ap (λ (l : List Entry). mine ++ enumerate_from (length old) (l ++ s.entry ∷ [])) helps;
       is_of = subst (λ (l : List Entry). IsEntryOf asked moment (state_of g l) s.entry) ahead s.is_of;
-      may = may_follow g old s.entry (subst (λ (l : List Entry). IsLegal g l) whole m.legal);
+      may = may_follow g (helped g old s.entry) s.entry (subst (λ (l : List Entry). IsLegal g l) whole m.legal);
       told_is = m.told_is ∙ ap (λ (l : List Entry). reply g l s.entry) ahead;
     }
 
 -- a read among no others' entries is of the last commit
-read_at : (g : Setting) (known : List Entry) (e : Entry) (moment : ℕ) (key : KeyShape) (tags : Tags) (at : ℕ) → e ≡ Read moment key tags at → IsFresh g known e → MayFollow g (state_of g known) e → at ≡ length (state_of g known).journal
+read_at : (g : Setting) (known : List Entry) (e : Entry) (moment : ℕ) (key : KeyShape) (tags : Tags) (at : ℕ) → e ≡ Read moment key tags at → IsFresh g known e → MayFollow g (state_of g (helped g known e)) e → at ≡ length (state_of g known).journal
 read_at g known e moment key tags at is fresh may =
     let low : length (state_of g known).journal ≤ at = subst (λ (x : Entry). IsFresh g known x) is fresh in
-    let high : MayFollow g (state_of g known) (Read moment key tags at) = subst (λ (x : Entry). MayFollow g (state_of g known) x) is may in
-    omega (arith, low, high.1)
+    let high : MayFollow g (state_of g (known ++ [])) (Read moment key tags at) = subst (λ (x : Entry). MayFollow g (state_of g (helped g known x)) x) is may in
+    let same : length (state_of g (known ++ [])).journal ≡ length (state_of g known).journal = ap (λ (l : List Entry). length (state_of g l).journal) (append-nil known) in
+    omega (arith, low, high.0.1, same)
+
+-- nothing comes ahead of the entry that matches all commits
+match_alone : (g : Setting) (s t : State) (moment : ℕ) → helps_of g s (matching t moment) ≡ []
+match_alone g s t moment = by (nat_lt t.front (length t.journal))
+  where
+    by : (b : Bool) → helps_of g s (if b then Match moment (length t.journal) else Tick moment) ≡ []
+    by true = refl
+    by false = refl
+
+match_at : (g : Setting) (known : List Entry) (e : Entry) (moment : ℕ) → e ≡ matching (state_of g (helped g known e)) moment → e ≡ matching (state_of g known) moment
+match_at g known e moment is =
+    let none : helps_of g (state_of g known) e ≡ [] = ap (λ (x : Entry). helps_of g (state_of g known) x) is ∙ match_alone g (state_of g known) (state_of g (helped g known e)) moment in
+    is ∙ ap (λ (l : List Entry). matching (state_of g l) moment) (ap (λ (l : List Entry). known ++ l) none ∙ append-nil known)
 
 -- an ask has one entry there
-same_entry : (g : Setting) (known : List Entry) (asked : Result Ask Refused) (moment : ℕ) (e f : Entry) → IsEntryOf asked moment (state_of g known) e → IsEntryOf asked moment (state_of g known) f → IsFresh g known e → IsFresh g known f → MayFollow g (state_of g known) e → MayFollow g (state_of g known) f → e ≡ f
+same_entry : (g : Setting) (known : List Entry) (asked : Result Ask Refused) (moment : ℕ) (e f : Entry) → IsEntryOf asked moment (state_of g (helped g known e)) e → IsEntryOf asked moment (state_of g (helped g known f)) f → IsFresh g known e → IsFresh g known f → MayFollow g (state_of g (helped g known e)) e → MayFollow g (state_of g (helped g known f)) f → e ≡ f
 same_entry g known (Ok (asks.Write change condition)) moment e f p q fresh again may might = p ∙ sym q
 same_entry g known (Ok (asks.Read key tags head)) moment e f p q fresh again may might =
     let first = read_at g known e moment key tags p.0 p.1 fresh may in
     let second = read_at g known f moment key tags q.0 q.1 again might in
     p.1 ∙ ap (λ (n : ℕ). Read moment key tags n) (first ∙ sym second) ∙ sym q.1
-same_entry g known (Ok asks.MatchAll) moment e f p q fresh again may might = p ∙ sym q
+same_entry g known (Ok asks.MatchAll) moment e f p q fresh again may might = match_at g known e moment p ∙ sym (match_at g known f moment q)
 same_entry g known (Ok (asks.Fetch head)) moment e f p q fresh again may might = p ∙ sym q
 same_entry g known (Ok (asks.Purges fields head)) moment e f p q fresh again may might = p ∙ sym q
 same_entry g known (Ok (asks.Stats head)) moment e f p q fresh again may might = p ∙ sym q
@@ -184,10 +204,10 @@ module _ (g : Setting) (old new other : List Entry) (mine mine_new again : List 
       let p = plain g old new mine mine_new moment asked told page s alone in
       let q = plain g old other mine again moment asked once pages t lone in
       let e : s.entry ≡ t.entry = same_entry g old asked moment s.entry t.entry p.is_of q.is_of s.fresh t.fresh p.may q.may in
-      let replied : t.replied ≡ s.replied = q.told_is ∙ ap (λ (x : Entry). reply g old x) (sym e) ∙ sym p.told_is in
+      let replied : t.replied ≡ s.replied = q.told_is ∙ ap (λ (x : Entry). reply g (helped g old x) x) (sym e) ∙ sym p.told_is in
       record {
-        seen_is = p.seen_is ∙ ap (λ (x : Entry). old ++ x ∷ []) e ∙ sym q.seen_is;
-        mine_is = p.mine_is ∙ ap (λ (x : Entry). mine ++ enumerate_from (length old) (x ∷ [])) e ∙ sym q.mine_is;
+        seen_is = p.seen_is ∙ ap (λ (x : Entry). helped g old x ++ x ∷ []) e ∙ sym q.seen_is;
+        mine_is = p.mine_is ∙ ap (λ (x : Entry). mine ++ enumerate_from (length old) (helps_of g (state_of g old) x ++ x ∷ [])) e ∙ sym q.mine_is;
         told_is = same_told asked s.replied told once page pages s.told_is (subst (λ (r : Replied). IsToldOf asked r once pages) replied t.told_is);
       }
 

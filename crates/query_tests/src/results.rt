@@ -59,8 +59,8 @@ fn a_text_follows_what_a_buffer_holds(rt: HostRuntime) -> Result<(), Fail> {
 fn an_equal_document_that_is_put_again_is_another_result(rt: HostRuntime) -> Result<(), Fail> {
     let first = shop(rt.alloc(), 1)?;
     let again = shop(rt.alloc(), 121)?;
-    assert!(rt; same_result(Kind::Objects, &first, &first));
-    assert!(rt; !same_result(Kind::Objects, &first, &again));
-    assert!(rt; same_result(Kind::Ids, &first, &again));
+    assert!(rt; same_result(Kind::Objects, first.as_slice(), first.as_slice()));
+    assert!(rt; !same_result(Kind::Objects, first.as_slice(), again.as_slice()));
+    assert!(rt; same_result(Kind::Ids, first.as_slice(), again.as_slice()));
     Ok(())
 }

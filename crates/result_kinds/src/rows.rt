@@ -93,12 +93,11 @@ fn printed_row(alloc: Global, row: &Row) -> Result<PrintedRow, Memory>
 }
 
 /// The ids of the rows.
-pub fn ids_of(alloc: Global, rows: &Rows) -> Result<Vec<Name>, Memory>
+pub fn ids_of(alloc: Global, rows: &[Row]) -> Result<Vec<Name>, Memory>
     ensures { IfOk result (λ ids. ids.items ≡ ids_of rows.now) }
 {
-    let found = rows.as_slice();
-    let mut ids = Vec::with_capacity(alloc, found.len())?;
-    for row in found {
+    let mut ids = Vec::with_capacity(alloc, rows.len())?;
+    for row in rows {
         ids.push(row.0.clone()?)?;
     }
     Ok(ids)

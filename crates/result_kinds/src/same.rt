@@ -3,16 +3,16 @@ ghost use Rattle.std.specs.Prelude.{◌≡◌};
 ghost use Rattle.std.specs.Cmp.Lexicographic.{pointwise};
 ghost use Rattle.result_kinds.specs.Same.{same_id, same_version, same_result};
 
-use query_core::{Kind, Row, Rows};
+use query_core::{Kind, Row};
 
 /// Whether two windows have equal results of a kind: of kind objects the same ids with the same versions, of
 /// kind ids the same ids, in the same order. No document is looked at, and it takes no memory.
-pub fn same_result(kind: Kind, a: &Rows, b: &Rows) -> bool
+pub fn same_result(kind: Kind, a: &[Row], b: &[Row]) -> bool
     ensures { result ≡ same_result kind a.now b.now }
 {
     match kind {
-        Kind::Objects => same_versions(a.as_slice(), b.as_slice()),
-        Kind::Ids => same_ids(a.as_slice(), b.as_slice()),
+        Kind::Objects => same_versions(a, b),
+        Kind::Ids => same_ids(a, b),
     }
 }
 

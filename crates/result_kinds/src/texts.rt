@@ -120,7 +120,7 @@ pub fn result_text(alloc: Global, kind: Kind, rows: &Rows) -> Result<Text, Memor
 {
     let text = match kind {
         Kind::Objects => ResultText::of_objects(printed_rows(alloc, rows)?)?,
-        Kind::Ids => ResultText::of_ids(ids_of(alloc, rows)?)?,
+        Kind::Ids => ResultText::of_ids(ids_of(alloc, rows.as_slice())?)?,
     };
     let mut buffer = Vec::new(alloc);
     text.write_into(&mut buffer)?;

@@ -1,26 +1,29 @@
--- the loop goes commit by commit
-use Rattle.std.proofs.Common.{◌≡◌, ℕ, List, sym, subst, rules, arith}
-use Rattle.hub_core.specs.declared.invalidations.Invalidation.{Invalidation}
-use Rattle.hub_core.specs.Invalidations.{AreInvalidationsOf}
-use Rattle.hub_core.proofs.MatchLemmas.{invalidations-none, invalidations-next}
+-- the queries have followed, and what they list is added to the invalidations of records
+use Rattle.hub_core.proofs.KeepLemmas.{keeps-followed}
+use Rattle.hub_core.proofs.MatchLemmas.{invalidations-all}
 use Rattle.hub_core.proofs.invalidations.reserve_invalidations.Goals as goal
 
-pub loop-commit-init : goal.loop-commit-init
-loop-commit-init c = record {
-  invalidations = subst (λ (ms : List Invalidation). AreInvalidationsOf c.args.book.now.journal c.args.front c.args.front ms) (sym c.new-invalidations.ensures.items) (invalidations-none c.args.book.now.journal c.args.front);
-  reserved = search rules;
-  rest = search rules;
-}
+pub returns-in_err-follow_all-clause-kept : goal.returns-in_err-follow_all-clause-kept
+returns-in_err-follow_all-clause-kept c =
+    keeps-followed c.args.book.now.journal c.args.front c.args.copies.now.copies c.args.copies.now.idle c.args.queries.now.entries c.requires.kept c.follow_all.new.self.entries
+    c.follow_all.ensures.begun (c.follow_all.ensures.following c.requires.kept.following) (c.follow_all.ensures.seen c.args.front c.requires.kept.recent)
 
-pub loop-commit-preserved : goal.loop-commit-preserved
-loop-commit-preserved c =
-    record {
-      invalidations = invalidations-next c.args.book.now.journal c.args.front c.loop-commit.commit _ _ c.loop-commit.invariant.invalidations c.in_ok-push_invalidation.ensures.invalidations c.loop-commit.auto.commit (omega arith);
-      reserved = c.in_ok-push_invalidation.ensures.reserved c.loop-commit.invariant.reserved;
-      rest = search rules;
-    }
+pub returns-in_err-invalidations-clause-kept : goal.returns-in_err-invalidations-clause-kept
+returns-in_err-invalidations-clause-kept c =
+    keeps-followed c.args.book.now.journal c.args.front c.args.copies.now.copies c.args.copies.now.idle c.args.queries.now.entries c.requires.kept c.follow_all.new.self.entries
+    c.follow_all.ensures.begun (c.follow_all.ensures.following c.requires.kept.following) (c.follow_all.ensures.seen c.args.front c.requires.kept.recent)
+
+pub returns-in_err-push_query_invalidations-clause-kept : goal.returns-in_err-push_query_invalidations-clause-kept
+returns-in_err-push_query_invalidations-clause-kept c =
+    keeps-followed c.args.book.now.journal c.args.front c.args.copies.now.copies c.args.copies.now.idle c.args.queries.now.entries c.requires.kept c.follow_all.new.self.entries
+    c.follow_all.ensures.begun (c.follow_all.ensures.following c.requires.kept.following) (c.follow_all.ensures.seen c.args.front c.requires.kept.recent)
+
+pub returns-clause-kept : goal.returns-clause-kept
+returns-clause-kept c =
+    keeps-followed c.args.book.now.journal c.args.front c.args.copies.now.copies c.args.copies.now.idle c.args.queries.now.entries c.requires.kept c.follow_all.new.self.entries
+    c.follow_all.ensures.begun (c.follow_all.ensures.following c.requires.kept.following) (c.follow_all.ensures.seen c.args.front c.requires.kept.recent)
 
 pub returns-clause-invalidations : goal.returns-clause-invalidations
 returns-clause-invalidations c =
-    let last : c.loop-commit.commit ≡ c.args.to = (let up = c.loop-commit.auto.commit-end c.requires.forward in omega (arith, c.loop-commit-test.false, up)) in
-    subst (λ (n : ℕ). AreInvalidationsOf c.args.book.now.journal c.args.front n c.loop-commit.invalidations.items) last c.loop-commit.invariant.invalidations
+    invalidations-all c.args.book.now.journal c.args.front c.args.to c.args.copies.now.copies c.args.copies.now.idle c.follow_all.new.self.entries c.in_ok-invalidations.invalidations.items c.push_query_invalidations.new.invalidations.items
+    (returns-clause-kept c) c.in_ok-follow_all.ensures.reached c.in_ok-invalidations.ensures.invalidations c.in_ok-push_query_invalidations.ensures.invalidations

@@ -1,5 +1,6 @@
 -- the copies and the invalidated keys move to the same clock
-use Rattle.std.proofs.Common.{ℕ, ap, ◌∙◌, subst}
+use Rattle.std.proofs.Common.{ℕ, max, ap, ◌∙◌, subst, rules}
+use Rattle.issued_expiries.specs.Copies.{SameCopies, unexpired}
 use Rattle.expiring_filter.specs.Filter.{Filter}
 use Rattle.expiring_filter.specs.Held.{Expires}
 use Rattle.hub_core.specs.CopiesView.{CopiesView, IsSound, while_later, until_in}
@@ -20,10 +21,12 @@ sound c =
 pub invariant_of-self : goal.invariant_of-self
 invariant_of-self c = sound c
 
-pub returns-clause-records : goal.returns-clause-records
-returns-clause-records c = (sound c).records
-
-pub returns-clause-outdated : goal.returns-clause-outdated
-returns-clause-outdated c = λ key.
-    until-expired c.advance.new.self.clock c.self.inside.outdated.held c.advance-2.new.self.held (expired c) key
-    ∙ ap (λ (h : CopiesView). while_later c.advance.new.self.clock (until_in h.outdated key)) c.self.view_is
+pub returns-clause-passes : goal.returns-clause-passes
+returns-clause-passes c = record {
+  clock = c.advance.ensures.clock ∙ ap (λ (h : CopiesView). max h.clock c.args.moment) c.self.view_is;
+  copies = subst (λ (h : CopiesView). SameCopies c.advance.new.self.held (unexpired c.advance.new.self.clock h.copies)) c.self.view_is c.advance.ensures.held;
+  outdated = λ key.
+      until-expired c.advance.new.self.clock c.self.inside.outdated.held c.advance-2.new.self.held (expired c) key
+      ∙ ap (λ (h : CopiesView). while_later c.advance.new.self.clock (until_in h.outdated key)) c.self.view_is;
+  rest = search rules;
+}

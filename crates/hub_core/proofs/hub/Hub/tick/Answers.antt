@@ -1,9 +1,13 @@
 -- the clock moves, and nothing else
 use Rattle.std.proofs.Common.{sym, subst}
 use Rattle.hub_core.specs.HubState.{HubView, IsAt}
-use Rattle.hub_core.proofs.HubLemmas.{hub-passed}
+use Rattle.hub_core.proofs.HubLemmas.{hub-passed, sound-passed}
 use Rattle.hub_core.proofs.hub.Hub.tick.Goals as goal
+
+pub invariant_of-self : goal.invariant_of-self
+invariant_of-self c =
+    sound-passed c.self.inside.book c.self.inside.front c.self.inside.copies c.pass.new.copies c.self.inside.queries.entries c.pass.new.queries.entries c.args.moment c.self.invariant c.pass.ensures.passes c.pass.ensures.idle c.pass.ensures.kept
 
 pub returns-clause-after : goal.returns-clause-after
 returns-clause-after c = λ s at.
-    hub-passed c.self.inside.book c.self.inside.front c.self.inside.copies s (subst (λ (h : HubView). IsAt h s) (sym c.self.view_is) at) c.pass.new.copies c.args.moment c.pass.ensures
+    hub-passed c.self.inside.book c.self.inside.front c.self.inside.copies s (subst (λ (h : HubView). IsAt h s) (sym c.self.view_is) at) c.pass.new.copies c.args.moment c.pass.ensures.passes

@@ -5,9 +5,9 @@ use Rattle.hub_desk.proofs.hub_value.HubValue.fetch.Goals as goal
 
 pub returns-clause-made : goal.returns-clause-made
 returns-clause-made c = λ history stands.
-    let there = (stood _ _ _ c.deref_mut.ensures.value c.self.view_is history stands).represents.state in
+    let state = (stood _ _ _ c.deref_mut.ensures.value c.self.view_is history stands).represents.state in
     record {
       page = _;
-      held = c.fetch.ensures.page _ there;
-      added = added _ _ _ c.deref_mut.ensures.value c.self.view_is history stands _ _ _ c.hubs_represent_histories.ensures.goes_on c.more_entries.ensures.state (tt, tt) c.fetch.ensures.setting c.fetch.ensures.after refl refl;
+      held = c.fetch.ensures.page _ state;
+      added = added _ _ _ c.deref_mut.ensures.value c.self.view_is history stands _ _ _ c.calls_make_entries.ensures.represented c.calls_make_entries.ensures.replies tt c.fetch.ensures.setting (c.fetch.ensures.after _ state) refl refl;
     }

@@ -10,4 +10,4 @@ returns-clause-made c = λ history stands.
     let within : c.args.to ≤ c.deref_mut.result.now.commits = search rules in
     let front = state.time.front in
     let commits = state.book.commits in
-    added _ _ _ c.deref_mut.ensures.value c.self.view_is history stands _ _ _ c.hubs_represent_histories.ensures.goes_on c.more_entries.ensures.state ((omega (arith, front, above), omega (arith, commits, within)), tt) c.match_to.ensures.setting c.in_ok-matched.ensures.after refl (c.in_ok-matched.ensures.told _ state)
+    added _ _ _ c.deref_mut.ensures.value c.self.view_is history stands _ _ _ c.calls_make_entries.ensures.represented c.calls_make_entries.ensures.replies (omega (arith, front, above), omega (arith, commits, within)) c.match_to.ensures.setting (c.in_ok-matched.ensures.after _ state) refl (c.in_ok-matched.ensures.told _ state)

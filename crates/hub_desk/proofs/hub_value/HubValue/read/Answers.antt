@@ -8,4 +8,4 @@ pub returns-clause-made : goal.returns-clause-made
 returns-clause-made c = λ history stands.
     let represented = (stood _ _ _ c.deref_mut.ensures.value c.self.view_is history stands).represents in
     let may = may_read _ _ represented _ (c.front_is_within.ensures _ _ represented.legal) c.in_ok-answer.ensures.last in
-    added _ _ _ c.deref_mut.ensures.value c.self.view_is history stands _ _ _ c.hubs_represent_histories.ensures.goes_on c.more_entries.ensures.state (may, tt) c.read.ensures.setting c.in_ok-answer.ensures.after refl (c.in_ok-answer.ensures.told _ represented.state)
+    added _ _ _ c.deref_mut.ensures.value c.self.view_is history stands _ _ _ c.calls_make_entries.ensures.represented c.calls_make_entries.ensures.replies may c.read.ensures.setting (c.in_ok-answer.ensures.after _ represented.state) refl (c.in_ok-answer.ensures.told _ represented.state)

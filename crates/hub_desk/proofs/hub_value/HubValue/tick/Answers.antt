@@ -5,4 +5,5 @@ use Rattle.hub_desk.proofs.hub_value.HubValue.tick.Goals as goal
 
 pub returns-clause-made : goal.returns-clause-made
 returns-clause-made c = λ history stands.
-    added _ _ _ c.deref_mut.ensures.value c.self.view_is history stands _ _ _ c.hubs_represent_histories.ensures.goes_on c.more_entries.ensures.state (tt, tt) c.tick-stats.ensures.setting c.tick-stats.ensures.after refl (c.tick-stats.ensures.told _ (stood _ _ _ c.deref_mut.ensures.value c.self.view_is history stands).represents.state)
+    let state = (stood _ _ _ c.deref_mut.ensures.value c.self.view_is history stands).represents.state in
+    added _ _ _ c.deref_mut.ensures.value c.self.view_is history stands _ _ _ c.calls_make_entries.ensures.represented c.calls_make_entries.ensures.replies tt c.tick-stats.ensures.setting (c.tick-stats.ensures.after _ state) refl (c.tick-stats.ensures.told _ state)

@@ -1,14 +1,19 @@
--- the write is the next entry, and it may always follow
+-- the write is the next entry, behind the match that helped it, and it may always follow
 use Rattle.std.proofs.Common.{ap, sym}
+use Rattle.hub_model.specs.declared.entry.Entry.TheVariants.{Write}
 use Rattle.hub_desk.specs.Desk.{OwnedView}
-use Rattle.hub_desk.proofs.HistoryLemmas.{represents-more, made}
+use Rattle.hub_desk.proofs.HistoryLemmas.{represents-more, made, written-stored}
 use Rattle.hub_desk.proofs.owned.OwnedDesk.write.Goals as goal
 
 pub invariant_of-self-2 : goal.invariant_of-self-2
 invariant_of-self-2 c =
-    represents-more _ _ c.self.invariant _ _ _ (tt, tt) c.write.ensures.setting (c.in_ok-written.ensures.after _ c.self.invariant.state) c.note.ensures
+    let after = c.in_ok-written.ensures.after _ c.self.invariant.state in
+    represents-more _ _ c.self.invariant _ _ (Write c.args.moment c.args.change c.args.condition) c.calls_make_entries.ensures.represented tt c.write.ensures.setting after
+    (written-stored _ _ c.self.invariant _ _ _ _ c.helps_are_told_by_the_front.ensures after _ _ c.front-front.ensures.same c.front.ensures.same _ _ c.note_match.ensures.stored c.note.ensures.stored)
 
 pub returns-clause-made : goal.returns-clause-made
 returns-clause-made c =
-    made c.self.inside.hub c.self.inside.entries.items c.self.invariant _ _ _ (sym (ap (λ (k : OwnedView). k.setting) c.self.view_is)) (sym (ap (λ (k : OwnedView). k.entries) c.self.view_is)) _ _ tt c.note.ensures
+    let after = c.in_ok-written.ensures.after _ c.self.invariant.state in
+    made c.self.inside.hub c.self.inside.entries.items c.self.invariant _ _ _ (sym (ap (λ (k : OwnedView). k.setting) c.self.view_is)) (sym (ap (λ (k : OwnedView). k.entries) c.self.view_is)) _ c.calls_make_entries.ensures.represented c.calls_make_entries.ensures.replies _ _ tt c.write.ensures.setting after
+    (written-stored _ _ c.self.invariant _ _ _ _ c.helps_are_told_by_the_front.ensures after _ _ c.front-front.ensures.same c.front.ensures.same _ _ c.note_match.ensures.stored c.note.ensures.stored)
     (c.in_ok-written.ensures.told _ c.self.invariant.state)

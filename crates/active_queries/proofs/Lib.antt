@@ -1,0 +1,3 @@
+pub mod EntryLemmas
+mod FollowLemmas
+mod RowLemmas

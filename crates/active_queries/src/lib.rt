@@ -1,0 +1,9 @@
+//! The active queries, each with its match set and the commits that changed its result.
+#![tactic(auto)]
+
+pub mod laws;
+mod queries;
+mod query;
+
+pub use queries::ActiveQueries;
+pub use query::ActiveQuery;

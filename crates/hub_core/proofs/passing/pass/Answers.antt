@@ -1,0 +1,10 @@
+-- what became idle is taken
+use Rattle.hub_core.proofs.ReadLemmas.{passes-idle, kept-passed}
+use Rattle.hub_core.proofs.passing.pass.Goals as goal
+
+pub returns-clause-passes : goal.returns-clause-passes
+returns-clause-passes c = passes-idle c.args.moment c.args.copies.now c.advance.new.self c.drop_idle.new.copies c.advance.ensures.passes c.drop_idle.ensures.rest
+
+pub returns-clause-kept : goal.returns-clause-kept
+returns-clause-kept c = λ journal front keeps.
+    c.drop_idle.ensures.kept journal front (kept-passed c.args.moment c.args.copies.now c.advance.new.self c.args.queries.now.entries c.advance.ensures.passes c.advance.ensures.idle journal front keeps)

@@ -1,0 +1,223 @@
+//! A read: its outcome, and the copy that it issues.
+ghost use Rattle.std.specs.Prelude.{◌≡◌, ◌≤◌, ◌<◌, ℕ, max, List, [], length, IfOk, IfSome, None, option_copied};
+ghost use Rattle.std.specs.Map.{lookup};
+ghost use Rattle.query_core.specs.Limits.{IsQuery};
+ghost use Rattle.query_normal.specs.Keys.{same_key};
+ghost use Rattle.query_normal.specs.declared.key.KeyShape.{KeyShape as AKey};
+ghost use Rattle.query_normal.specs.declared.key.KeyShape.TheVariants.{Record, Query as QueryKey};
+ghost use Rattle.issued_expiries.specs.Copies.{Copy};
+ghost use Rattle.hub_model.specs.Journal.{result_at};
+ghost use Rattle.hub_model.specs.Known.{known_at};
+ghost use Rattle.hub_model.specs.Lifetime.{ttl_of};
+ghost use Rattle.hub_model.specs.Reply.{outcome_of};
+ghost use Rattle.hub_model.specs.State.{State, at_moment};
+ghost use Rattle.hub_model.specs.Step.{has_read};
+ghost use Rattle.active_queries.specs.Following.{Follows, AreFollowing};
+ghost use Rattle.hub_core.specs.ActiveQueries.{IsAtHand, IsStarted, KeepsQueries, query_at_hand, with_started};
+ghost use Rattle.hub_core.specs.CopiesView.{lifetime, IsReadyFor};
+ghost use Rattle.hub_core.specs.HubState.{IsAt, hub_of};
+
+use crate::copies::Copies;
+use crate::passing::drop_idle;
+use crate::query_outcome::query_outcome;
+use active_queries::laws::rows_are_those_of_the_last_commit_seen;
+use active_queries::{ActiveQueries, ActiveQuery};
+use commit_book::Book;
+use hub_model::{Outcome, Tags};
+use q_base::{Commit, Memory, Moment, Name};
+use query_core::{Kind, Query};
+use query_normal::{Key, KeyShape};
+use std::alloc::Global;
+
+/// Lets the query of a key see the last commit, or starts it there. The key of a record has none.
+pub fn follow_or_start(
+    alloc: Global,
+    book: &Book,
+    queries: &mut ActiveQueries,
+    key: &Key,
+) -> Result<Option<(Key, ActiveQuery)>, Memory>
+    ensures at_hand { IfOk result (λ started. IsAtHand book.now.journal key.now started queries.new) }
+    ensures kept { (front : ℕ) (copies : List Copy) (idle : List AKey) → KeepsQueries book.now.journal front copies idle queries.old.entries → KeepsQueries book.now.journal front copies idle queries.new.entries }
+{
+    match key.shape() {
+        KeyShape::Record { .. } => Ok(None),
+        KeyShape::Query { kind, normal } => {
+            if queries.get(key).is_some() {
+                queries.follow(alloc, book, key, book.count())?;
+                Ok(None)
+            } else {
+                let query = normal.query();
+                Ok(Some(start(alloc, book, queries, key, *kind, query)?))
+            }
+        }
+    }
+}
+
+/// Starts the query of a key at the last commit, with space for it beside the others.
+fn start(
+    alloc: Global,
+    book: &Book,
+    queries: &mut ActiveQueries,
+    key: &Key,
+    kind: Kind,
+    query: &Query,
+) -> Result<(Key, ActiveQuery), Memory>
+    requires query { IsQuery query.now }
+    requires key { key.now ≡ QueryKey kind query.now }
+    requires absent { lookup (same_key key.now) queries.old.entries ≡ None }
+    ensures started { IfOk result (λ new. IsStarted book.now.journal key.now new queries.new) }
+    ensures entries { queries.new.entries ≡ queries.old.entries }
+{
+    let query = ActiveQuery::start(alloc, book, kind, query, book.count())?;
+    queries.reserve()?;
+    Ok((key.clone()?, query))
+}
+
+/// The outcome of a read of a key at the last commit, of a caller with these tags: the commit by which it
+/// knows the result, or the text of the result.
+pub fn outcome_at(
+    alloc: Global,
+    book: &Book,
+    queries: &ActiveQueries,
+    started: &Option<(Key, ActiveQuery)>,
+    key: &Key,
+    tags: &Tags,
+) -> Result<Outcome, Memory>
+    requires at_hand { IsAtHand book.now.journal key.now started.now queries.now }
+    requires following { AreFollowing book.now.journal queries.now.entries }
+    ensures { IfOk result (λ o. o ≡ outcome_of (result_at key.now book.now.journal (length book.now.journal)) (known_at key.now book.now.journal (length book.now.journal) tags.now)) }
+{
+    match key.shape() {
+        KeyShape::Record { collection, id } => {
+            record_outcome(book, book.count(), collection, id, tags)
+        }
+        KeyShape::Query { kind, normal } => match query_at_hand(queries, started, key) {
+            Some(query) => active_outcome(alloc, book, query, *kind, normal.query(), tags),
+            None => unreachable!(),
+        },
+    }
+}
+
+/// The query that was started, or else the one that the key has.
+fn query_at_hand<'a>(
+    queries: &'a ActiveQueries,
+    started: &'a Option<(Key, ActiveQuery)>,
+    key: &Key,
+) -> Option<&'a ActiveQuery>
+    ensures { option_copied result ≡ query_at_hand key.now started.now queries.now }
+{
+    match started {
+        Some(new) => Some(&new.1),
+        None => queries.get(key),
+    }
+}
+
+/// The outcome of a read of a query that has seen the last commit. Its rows are those of its match set:
+/// no document is looked at for them.
+fn active_outcome(
+    alloc: Global,
+    book: &Book,
+    active: &ActiveQuery,
+    kind: Kind,
+    query: &Query,
+    tags: &Tags,
+) -> Result<Outcome, Memory>
+    requires follows { Follows kind query.now active.now book.now.journal }
+    requires seen { active.now.seen ≡ length book.now.journal }
+    ensures { IfOk result (λ o. o ≡ outcome_of (result_at (QueryKey kind query.now) book.now.journal (length book.now.journal)) (known_at (QueryKey kind query.now) book.now.journal (length book.now.journal) tags.now)) }
+{
+    rows_are_those_of_the_last_commit_seen();
+    query_outcome(
+        alloc,
+        book,
+        book.count(),
+        kind,
+        query,
+        active.rows(),
+        active.from(),
+        active.changed(),
+        tags,
+    )
+}
+
+/// The outcome of a read of a record at a commit: the commit by which the caller knows the document, or
+/// the text that the book keeps, which is shared.
+#[tactic(auto, using(crate::proofs::OutcomeLemmas::outcome_rules))]
+fn record_outcome(
+    book: &Book,
+    commit: Commit,
+    collection: &Name,
+    id: &Name,
+    tags: &Tags,
+) -> Result<Outcome, Memory>
+    requires { commit ≤ length book.now.journal }
+    ensures { IfOk result (λ o. o ≡ outcome_of (result_at (Record collection.now id.now) book.now.journal commit) (known_at (Record collection.now id.now) book.now.journal commit tags.now)) }
+{
+    let Some((version, text)) = book.text_at(commit, collection, id) else {
+        return Ok(Outcome::Absent);
+    };
+    match tags.known_since(version, commit) {
+        Some(tag) => Ok(Outcome::Same {
+            tag,
+            version: Some(version),
+        }),
+        None => Ok(Outcome::Whole {
+            text: text.clone()?,
+            version: Some(version),
+        }),
+    }
+}
+
+/// Issues the copy of a read at the last commit, at a moment, for which memory is ready; for how many
+/// seconds it may be kept. The query that the read started is kept with it. It takes no memory.
+pub fn issue_copy(
+    book: &Book,
+    copies: &mut Copies,
+    queries: &mut ActiveQueries,
+    moment: Moment,
+    key: &Key,
+    started: Option<(Key, ActiveQuery)>,
+) -> u32
+    requires ready { IsReadyFor copies.old key.now }
+    requires at_hand { IsAtHand book.now.journal key.now started queries.old }
+    ensures ttl { (front : ℕ) (s : State) → IsAt (hub_of book.now front copies.old) s → result ≡ ttl_of copies.old.setting (at_moment s moment) key.now (length book.now.journal) }
+    ensures issued { (front : ℕ) (s : State) → front ≤ length book.now.journal → IsAt (hub_of book.now front copies.old) s → IsAt (hub_of book.now front copies.new) (has_read copies.old.setting key.now (length book.now.journal) (at_moment s moment)) }
+    ensures kept { (front : ℕ) → front ≤ length book.now.journal → KeepsQueries book.now.journal front copies.old.copies copies.old.idle queries.old.entries → KeepsQueries book.now.journal front copies.new.copies copies.new.idle queries.new.entries }
+    ensures clock { copies.new.clock ≡ max copies.old.clock moment }
+    ensures setting { copies.new.setting ≡ copies.old.setting }
+    ensures idle { copies.new.idle ≡ [] }
+    ensures ready { copies.new.ready ≡ [] }
+    ensures invalidatable { copies.new.invalidatable ≡ copies.old.invalidatable }
+{
+    copies.advance(moment);
+    let ttl = lifetime(copies, key);
+    copies.issue(key, book.count(), ttl);
+    add_started(queries, started, ttl);
+    drop_idle(copies, queries);
+    ttl
+}
+
+/// For how many seconds a copy of a key may be kept: not at all where a further key would be active
+/// beyond the limit.
+fn lifetime(copies: &Copies, key: &Key) -> u32
+    ensures { result ≡ lifetime copies.now key.now }
+{
+    if copies.may_issue(key) {
+        copies.config().ttl_high()
+    } else {
+        0
+    }
+}
+
+/// Adds the query that a read started, where a copy of its result may be kept.
+fn add_started(queries: &mut ActiveQueries, started: Option<(Key, ActiveQuery)>, ttl: u32)
+    requires { IfSome started (λ new. (0 < queries.old.spare) × (lookup (same_key new.0) queries.old.entries ≡ None)) }
+    ensures { queries.new.entries ≡ with_started started ttl queries.old.entries }
+{
+    if ttl == 0 {
+        return;
+    }
+    if let Some((key, query)) = started {
+        queries.add(key, query);
+    }
+}

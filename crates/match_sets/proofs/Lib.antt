@@ -1,0 +1,10 @@
+pub mod EditLemmas
+pub mod Journals
+pub mod KeptLemmas
+pub mod LawLemmas
+pub mod Positions
+pub mod StartLemmas
+pub mod StepLemmas
+pub mod TellLemmas
+pub mod ToldLemmas
+pub mod UndoLemmas

@@ -1,0 +1,5 @@
+pub mod Contents
+pub mod Follow
+pub mod Rows
+pub mod Told
+pub mod Windows

@@ -1,0 +1,13 @@
+//! Tests of match sets and of active queries.
+#![tactic(auto)]
+
+#[cfg(test)]
+mod following;
+#[cfg(test)]
+mod slow;
+#[cfg(test)]
+mod store;
+#[cfg(test)]
+mod walks;
+#[cfg(test)]
+mod worked;

@@ -1,0 +1,149 @@
+//! Random commits: what a set shows and tells is compared with windows made from scratch.
+
+use crate::slow::{is_step, shows};
+use crate::store::{go, last_row, new_book, query, set_now, window_now, write};
+use commit_book::{Book, CommitRow};
+use match_sets::{MatchSet, MatchStep, Notice};
+use query_core::{Query, Rows};
+use std::alloc::Global;
+use std::test::Fail;
+
+/// The next of a row of numbers below 65,537.
+fn next(number: u64) -> u64 {
+    ((number % 65_537) * 75 + 74) % 65_537
+}
+
+fn digit(number: u64) -> u8 {
+    b'0' + (number % 10) as u8
+}
+
+/// An id of three digits.
+fn id(alloc: Global, number: u64) -> Result<Vec<u8>, Fail> {
+    let mut id = Vec::new(alloc);
+    id.push(b'p')?;
+    id.push(digit(number / 100))?;
+    id.push(digit(number / 10))?;
+    id.push(digit(number))?;
+    Ok(id)
+}
+
+/// A document with two members of one digit.
+fn document(alloc: Global, number: u64) -> Result<Vec<u8>, Fail> {
+    let mut text = Vec::from_slice(alloc, b"{\"a\":")?;
+    text.push(digit(number / 10))?;
+    text.extend_from_slice(b",\"b\":")?;
+    text.push(digit(number))?;
+    text.push(b'}')?;
+    Ok(text)
+}
+
+/// Which records a walk writes, and of a hundred writes how many delete.
+#[derive(Clone, Copy, Drop)]
+struct Habit {
+    ids: u64,
+    deletions: u64,
+}
+
+/// A random write: of twenty one is in another collection.
+fn write_one(alloc: Global, book: &mut Book, number: u64, habit: &Habit) -> Result<u64, Fail> {
+    let second = next(number);
+    let third = next(second);
+    let collection: &[u8] = if third % 20 == 0 { b"home" } else { b"shop" };
+    let id = id(
+        alloc,
+        if habit.ids == 0 {
+            0
+        } else {
+            number % habit.ids
+        },
+    )?;
+    if second % 100 < habit.deletions {
+        write(alloc, book, collection, &id, b"")?;
+    } else {
+        write(alloc, book, collection, &id, &document(alloc, third)?)?;
+    }
+    Ok(next(third))
+}
+
+/// Writes, and takes the set along: over the commit, back, and over it again. Whether all that it
+/// shows and tells is right.
+fn is_right(
+    alloc: Global,
+    book: &Book,
+    query: &Query,
+    set: &mut MatchSet,
+    before: &Rows,
+) -> Result<bool, Fail> {
+    let row = last_row(book)?;
+    let kept = set.kept();
+    let (_, undo) = go(alloc, book, query, set)?;
+    set.back(undo);
+    let is_back = set.kept() == kept && shows(set, before);
+    let (step, _) = go(alloc, book, query, set)?;
+    let after = window_now(alloc, book, query)?;
+    Ok(is_back && shows(set, &after) && is_step_of(&row, query, before, &after, &step))
+}
+
+/// Whether the step is right: of a row of another collection that nothing happened.
+fn is_step_of(
+    row: &CommitRow,
+    query: &Query,
+    before: &Rows,
+    after: &Rows,
+    step: &MatchStep,
+) -> bool {
+    if row.collection == query.collection {
+        is_step(&row.id, before, after, step)
+    } else {
+        step.notice == Notice::Nothing
+            && step.slid_in.is_none()
+            && step.slid_out.is_none()
+            && !step.objects_changed
+            && !step.ids_changed
+    }
+}
+
+/// Whether a set is right over so many random writes.
+fn walk(
+    alloc: Global,
+    book: &mut Book,
+    query: &Query,
+    set: &mut MatchSet,
+    seed: u64,
+    habit: &Habit,
+) -> Result<bool, Fail> {
+    let mut number = seed;
+    for _ in 0..150u32 {
+        let before = window_now(alloc, book, query)?;
+        number = write_one(alloc, book, number, habit)?;
+        if !is_right(alloc, book, query, set, &before)? {
+            return Ok(false);
+        }
+    }
+    Ok(true)
+}
+
+/// Whether a set of the query is right while records are put, and while they are deleted.
+fn holds_for(alloc: Global, texts: [&str; 4], ids: u64, seed: u64) -> Result<bool, Fail> {
+    let query = query(alloc, texts)?;
+    let mut book = new_book(alloc, 10_000_000)?;
+    let mut number = seed;
+    let filling = Habit { ids, deletions: 0 };
+    for _ in 0..ids % 500 * 2 {
+        number = write_one(alloc, &mut book, number, &filling)?;
+    }
+    let mut set = Box::new(alloc, set_now(alloc, &book, &query)?)?;
+    let (puts, deletions) = (Habit { ids, deletions: 20 }, Habit { ids, deletions: 90 });
+    Ok(
+        walk(alloc, &mut book, &query, &mut set, number, &puts)?
+            && walk(alloc, &mut book, &query, &mut set, number, &deletions)?,
+    )
+}
+
+#[test]
+fn a_small_window_is_that_from_scratch(rt: HostRuntime) -> Result<(), Fail> {
+    assert!(rt; holds_for(rt.alloc(), ["a < 6", "a", "1", "3"], 12, 5)?);
+    assert!(rt; holds_for(rt.alloc(), ["true", "a desc,b", "0", "2"], 9, 77)?);
+    assert!(rt; holds_for(rt.alloc(), ["b = 3 or a > 4", "", "3", "1"], 15, 1_234)?);
+    Ok(())
+}
