@@ -8,8 +8,7 @@ ghost use Rattle.hub_desk.specs.HubValue.{hub_setting};
 
 use commit_book::Change;
 use hub_desk::{
-    Answer, Condition, Config, Desk, HubValue, Outcome, Owned, Seat, Seated, Tags, Turnstile,
-    Written,
+    Answer, Condition, Config, Desk, HubValue, Outcome, Seat, Seated, Tags, Turnstile, Written,
 };
 use q_base::{Memory, Moment, Name};
 use q_doc::Doc;
@@ -160,14 +159,5 @@ fn a_helped_write_makes_two_entries(rt: HostRuntime) -> Result<(), Fail> {
         (value.entries(), value.hub().front(), value.hub().commits()),
         (1026, 1024, 1025)
     );
-    Ok(())
-}
-
-#[test]
-fn a_desk_notes_what_helped_its_write(rt: HostRuntime) -> Result<(), Fail> {
-    let alloc = rt.alloc();
-    let mut desk = Owned::new(alloc, Config::default())?;
-    assert!(rt; write_often(&mut desk, alloc, 1025)?);
-    assert_eq!(rt; (desk.hub().front(), desk.hub().commits()), (1024, 1025));
     Ok(())
 }
