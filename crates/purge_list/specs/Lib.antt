@@ -1,0 +1,2 @@
+pub mod LastChanges
+pub mod Purged

@@ -1,0 +1,6 @@
+pub mod CallLemmas
+pub mod EntryLemmas
+pub mod EstimateLemmas
+pub mod HistoryLemmas
+pub mod RateLemmas
+mod StandardFacts
