@@ -38,7 +38,7 @@ found=$(awk '
             is_named = length($0) - length(rest) > named
             if ((FILENAME, text, is_named) in seen) continue
             seen[FILENAME, text, is_named] = 1
-            if (text ~ /\.(antt|rt|md|sh)$/ || text ~ /^(crates\.txt|HANDLES|Makefile)$/) { if (!(("/" text) in file)) print FILENAME ": no file " text; continue }
+            if (text ~ /\.(antt|rt|md|sh|py)$/ || text ~ /^(crates\.txt|HANDLES|Makefile)$/) { if (!(("/" text) in file)) print FILENAME ": no file " text; continue }
             if (!is_named || text ~ /[^A-Za-z0-9_:.]/ || text ~ /[0-9]\./ || text ~ /\.specs\./ || text == "impl" || text == "Display") continue
             count = split(text, words, /[:.]+/)
             for (i = 1; i <= count; i++) if (words[i] ~ /^[A-Za-z_]/ && !(words[i] in known)) print FILENAME ": nothing is named " words[i] " (" text ")"

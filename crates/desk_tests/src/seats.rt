@@ -8,7 +8,8 @@ ghost use Rattle.hub_desk.specs.HubValue.{hub_setting};
 
 use commit_book::Change;
 use hub_desk::{
-    Answer, Condition, Config, Desk, HubValue, Outcome, Seat, Seated, Tags, Turnstile, Written,
+    Answer, Condition, Config, Desk, HubValue, Outcome, PurgeReply, Seat, Seated, Tags, Turnstile,
+    Written,
 };
 use q_base::{Memory, Moment, Name};
 use q_doc::Doc;
@@ -114,6 +115,61 @@ fn write<D: Desk>(desk: &mut D, change: Change) -> bool
     }
     desk.write(Moment::of(100), change, Condition::Always)
         .is_ok()
+}
+
+/// Reads the record p1 of the collection shop at any desk; whether memory sufficed.
+fn read<D: Desk>(desk: &mut D, alloc: Global) -> Result<bool, Fail>
+    ensures { D.anchor desk.new ≡ D.anchor desk.old }
+{
+    let key = key(alloc, b"p1")?;
+    if desk.ready().is_err() {
+        return Ok(false);
+    }
+    Ok(desk.read(Moment::of(100), key, Tags::Any).is_ok())
+}
+
+/// Matches all commits at any desk; whether memory sufficed.
+fn match_all<D: Desk>(desk: &mut D) -> bool
+    ensures { D.anchor desk.new ≡ D.anchor desk.old }
+{
+    if desk.ready().is_err() {
+        return false;
+    }
+    desk.match_all(Moment::of(100)).is_ok()
+}
+
+/// Asks any desk for the purges from a number on.
+fn purges<D: Desk>(desk: &mut D, from: u64) -> Option<PurgeReply>
+    ensures { D.anchor desk.new ≡ D.anchor desk.old }
+{
+    if desk.ready().is_err() {
+        return None;
+    }
+    desk.purges(Moment::of(100), from).ok()
+}
+
+#[test]
+fn a_seat_tells_the_purges(rt: HostRuntime) -> Result<(), Fail> {
+    let alloc = rt.alloc();
+    let (turnstile, first) = open(alloc)?;
+    let mut desk = Seated::new(&rt, &turnstile, first);
+    assert!(rt; write(&mut desk, put(alloc, b"p1")?) && read(&mut desk, alloc)?);
+    assert!(rt; write(&mut desk, put(alloc, b"p1")?) && match_all(&mut desk));
+    let all = purges(&mut desk, 1).ok_or("memory suffices")?;
+    assert_eq!(rt;
+        (all.from, all.last, all.front, all.clock),
+        (1, 1, 2, Moment::of(100))
+    );
+    assert_eq!(rt;
+        all.keys.first().map(Key::text),
+        Some(b"r/shop/p1".as_slice())
+    );
+    let later = purges(&mut desk, 2).ok_or("memory suffices")?;
+    assert_eq!(rt; (later.from, later.last, later.keys.len()), (2, 1, 0));
+    let seat = desk.into_seat();
+    let value = turnstile.close(seat).ok_or("the turn is free")?;
+    assert_eq!(rt; (value.entries(), value.hub().front()), (6, 2));
+    Ok(())
 }
 
 /// Takes the turn, and lets it go without a value given back.

@@ -1,29 +1,56 @@
 -- The text of a reply that was given.
-use Rattle.std.proofs.Common.{◌≡◌, ℕ, Bool, List, ◌++◌, Result, length, ap, ap₂, subst, ◌∙◌}
+use Rattle.std.proofs.Common.{◌≡◌, ℕ, ◌-◌, ◌<◌, ◌^◌, min, Bool, true, List, ◌++◌, Result, length, refl, ap, ap₂, subst, ◌∙◌, arith}
 use Rattle.q_outside.specs.Ends.{End, Gave}
+use Rattle.http_front.specs.Bodies.{body_text, is_in_one_piece, is_piece, up_to_greatest}
 use Rattle.http_front.specs.Date.{IsDateOf}
 use Rattle.http_front.specs.Reply.{head_text, head_fields}
-use Rattle.http_front.specs.ReplyText.{IsHeadText, IsReplyText, body_of, clock_of, given_body, head_of}
+use Rattle.http_front.specs.ReplyText.{IsHeadText, IsReplyText, body_of, clock_of, given_body, head_of, json_head}
+use Rattle.http_front.specs.declared.body.ReplyBody.{ReplyBody}
 use Rattle.http_front.specs.declared.head.Head.{Head}
 use Rattle.http_front.specs.declared.shape.Shape.{Shape}
 use Rattle.http_front.specs.declared.told.Told.{Told}
+use Rattle.http_front.specs.declared.told.Told.TheVariants.{Write, Read, Match, Page, Count, Purges, Refusal, Memory}
+
+fitting : (size : ℕ) → size < 2 ^ 64 → up_to_greatest size ≡ size
+fitting size fits = omega arith
+
+-- the head is that of the whole length, which 64 bits hold where the body is in one piece
+head_up_to : (shape : Shape) (told : Told) (size : ℕ) (close : Bool) → (is_in_one_piece told ≡ true → size < 2 ^ 64)
+    → head_of shape told (up_to_greatest size) close ≡ head_of shape told size close
+head_up_to shape (Write written) size close fits = ap (λ n. head_of shape (Write written) n close) (fitting size (fits refl))
+head_up_to shape (Read answer) size close fits = ap (λ n. head_of shape (Read answer) n close) (fitting size (fits refl))
+head_up_to shape (Match matched) size close fits = ap (λ n. head_of shape (Match matched) n close) (fitting size (fits refl))
+head_up_to shape (Page clock) size close fits = ap (λ n. head_of shape (Page clock) n close) (fitting size (fits refl))
+head_up_to shape (Count stats) size close fits = ap (λ n. head_of shape (Count stats) n close) (fitting size (fits refl))
+head_up_to shape (Purges reply) size close fits =
+    let same : min (up_to_greatest size) (2 ^ 64 - 1) ≡ min size (2 ^ 64 - 1) = omega arith in
+    ap (λ n. json_head 200 n close) same
+head_up_to shape (Refusal refused clock) size close fits = ap (λ n. head_of shape (Refusal refused clock) n close) (fitting size (fits refl))
+head_up_to shape Memory size close fits = ap (λ n. head_of shape Memory n close) (fitting size (fits refl))
+
+-- the head of what is told, of the length of its body as it is kept
+pub head_is_of : (shape : Shape) (told : Told) (page : List ℕ) (close : Bool) (body : ReplyBody) (size : ℕ) (head : Head)
+    → body_text body ≡ body_of told page → is_piece body ≡ is_in_one_piece told
+    → size ≡ up_to_greatest (length (body_text body)) → (is_piece body ≡ true → length (body_text body) < 2 ^ 64) → head ≡ head_of shape told size close
+    → head ≡ head_of shape told (length (body_of told page)) close
+head_is_of shape told page close body size head text_is piece_is size_is fits head_is =
+    head_is ∙ ap (λ n. head_of shape told n close) size_is
+    ∙ head_up_to shape told (length (body_text body)) close (λ one. fits (piece_is ∙ one))
+    ∙ ap (λ t. head_of shape told (length t) close) text_is
 
 -- a head and what is given of a body, one behind the other
-pub reply_given : {T E : Type 0} (before after : End) (shape : Shape) (told : Told) (page : List ℕ) (close : Bool) (clock : ℕ) (head : Head) (body behind written whole : List ℕ) (result : Result T E)
-    → body ≡ body_of told page → head ≡ head_of shape told (length body) close → clock ≡ clock_of told
-    → IsHeadText head clock written → behind ≡ given_body shape body → whole ≡ written ++ behind
-    → Gave before after whole result
+pub reply_given : {T E : Type 0} (before after : End) (shape : Shape) (told : Told) (page : List ℕ) (close : Bool) (clock : ℕ) (head : Head) (written behind : List ℕ) (result : Result T E)
+    → head ≡ head_of shape told (length (body_of told page)) close → clock ≡ clock_of told
+    → IsHeadText head clock written → behind ≡ given_body shape (body_of told page)
+    → Gave before after (written ++ behind) result
     → (text : List ℕ) × IsReplyText shape told page close text × Gave before after text result
-reply_given before after shape told page close clock head body behind written whole result body_is head_is clock_is h behind_is whole_is gave =
-    let same = head_is ∙ ap (λ b. head_of shape told (length b) close) body_is in (
-      whole,
-      record {
-        date = h.date;
-        dated = subst (λ seconds. IsDateOf seconds h.date) clock_is h.dated;
-        text_is =
-            whole_is
-            ∙ ap₂ (λ xs ys. xs ++ ys) (h.text_is ∙ ap (λ (k : Head). head_text k.status (head_fields k h.date)) same)
-            (behind_is ∙ ap (given_body shape) body_is);
-      },
-      gave,
-    )
+reply_given before after shape told page close clock head written behind result head_is clock_is h behind_is gave = (
+  written ++ behind,
+  record {
+    date = h.date;
+    dated = subst (λ seconds. IsDateOf seconds h.date) clock_is h.dated;
+    text_is =
+        ap₂ (λ xs ys. xs ++ ys) (h.text_is ∙ ap (λ (k : Head). head_text k.status (head_fields k h.date)) head_is) behind_is;
+  },
+  gave,
+)

@@ -1,10 +1,12 @@
 mod AskLemmas
+mod BufferLemmas
 mod CutLemmas
 mod DateLemmas
 mod DigitLemmas
 mod EarlyLemmas
 mod FieldLemmas
 mod FilterLemmas
+mod KeyTextLemmas
 mod NumberLemmas
 mod FramingLemmas
 mod GiveLemmas
@@ -14,6 +16,7 @@ mod PathLemmas
 mod PieceLemmas
 mod UnescapedLemmas
 mod QueryLemmas
+mod QuotedLemmas
 mod ReadLemmas
 mod RecordLemmas
 mod RequestFacts

@@ -28,7 +28,7 @@ given_more before mid after parts i part inside is p q =
     (gave_both before mid after (parts_text (take i parts)) part p q)
 
 -- the beginning of a beginning
-part_of : (before after : End) (prefix more : List ℕ) → GavePart before after prefix → GavePart before after (prefix ++ more)
+pub part_of : (before after : End) (prefix more : List ℕ) → GavePart before after prefix → GavePart before after (prefix ++ more)
 part_of before after prefix more p = record {
   size = p.size;
   part = omega (arith, p.part, length-append prefix more);

@@ -1,5 +1,5 @@
 -- Worked replies, computed from the definitions.
-use Rattle.std.proofs.Common.{◌≡◌, ℕ, Bool, true, false, List, [], Some, None, codes, refl}
+use Rattle.std.proofs.Common.{◌≡◌, ℕ, ◌-◌, ◌<◌, ◌^◌, min, Bool, true, false, List, [], ◌∷◌, ◌++◌, length, Some, None, codes, refl, ap, ◌∙◌, arith}
 use Rattle.std.specs.Fmt.{digits}
 use Rattle.http_front.specs.declared.refused.Allow.TheVariants.{Record, Match as MatchAll, Other}
 use Rattle.http_front.specs.declared.refused.DocumentReason.TheVariants.{NotWhole}
@@ -11,10 +11,13 @@ use Rattle.hub_model.specs.declared.entry.Found.TheVariants.{Missing, At}
 use Rattle.hub_model.specs.declared.entry.Outcome.TheVariants.{Whole, Same, Absent}
 use Rattle.hub_model.specs.declared.entry.Written.TheVariants.{Done, Precondition, Full}
 use Rattle.http_front.specs.Reply.{head_text, head_fields, reply_text, status_line}
-use Rattle.http_front.specs.ReplyText.{reply_of}
+use Rattle.hub_model.specs.Reply.{PurgesTold, told_of}
+use Rattle.hub_model.specs.declared.entry.PurgeReply.{PurgeReply}
+use Rattle.json.specs.Print.{escape_byte}
+use Rattle.http_front.specs.ReplyText.{given_body, json_head, purges_body, reply_of}
 use Rattle.http_front.specs.declared.shape.Shape.{Shape}
 use Rattle.http_front.specs.declared.told.Told.{Told}
-use Rattle.http_front.specs.declared.told.Told.TheVariants.{Write, Read, Count, Refusal, Memory}
+use Rattle.http_front.specs.declared.told.Told.TheVariants.{Write, Read, Count, Purges, Refusal, Memory}
 
 -- the methods of the examples
 get : Shape
@@ -86,6 +89,37 @@ precondition-of-missing = refl
 counts : text_at_100 get (Count (record { front = 0; commits = 0; clock = 100 })) false ≡ codes "HTTP/1.1 200 OK\r\nDate: Thu, 01 Jan 1970 00:01:40 GMT\r\nContent-Type: application/json\r\nContent-Length: 35\r\nCache-Control: no-store\r\n\r\n{\"clock\":100,\"commits\":0,\"front\":0}"
 unfolding head_text head_fields status_line digits get put head
 counts = refl
+
+-- a list of purges with a body of this size, of what it tells
+abbrev purges_of_size : Shape → PurgesTold → ℕ → List ℕ
+purges_of_size shape told size =
+    reply_text (record { status = 200; fields = head_fields (json_head 200 size false) (codes "Thu, 01 Jan 1970 00:01:40 GMT"); body = given_body shape (purges_body told) })
+
+abbrev purges_at_100 : Shape → PurgesTold → List ℕ
+purges_at_100 shape told = purges_of_size shape told (length (purges_body told))
+
+-- that of an empty store, with HEAD too
+no-purges : (purges_at_100 get (record { from = 1; last = 0; front = 0; clock = 100; texts = [] }) ≡ codes "HTTP/1.1 200 OK\r\nDate: Thu, 01 Jan 1970 00:01:40 GMT\r\nContent-Type: application/json\r\nContent-Length: 39\r\nCache-Control: no-store\r\n\r\n{\"from\":1,\"front\":0,\"keys\":[],\"last\":0}")
+    × (purges_at_100 head (record { from = 1; last = 0; front = 0; clock = 100; texts = [] }) ≡ codes "HTTP/1.1 200 OK\r\nDate: Thu, 01 Jan 1970 00:01:40 GMT\r\nContent-Type: application/json\r\nContent-Length: 39\r\nCache-Control: no-store\r\n\r\n")
+unfolding head_text head_fields status_line digits get head purges_body
+no-purges = (refl, refl)
+
+-- the texts of keys are escaped, and have commas between them
+two-purges : purges_body (record { from = 2; last = 3; front = 7; clock = 100; texts = codes "r/shop/p1" ∷ codes "q/shop/ids/f=a = \"x\\\\y\"" ∷ [] }) ≡ codes "{\"from\":2,\"front\":7,\"keys\":[\"r/shop/p1\",\"q/shop/ids/f=a = \\\"x\\\\\\\\y\\\"\"],\"last\":3}"
+unfolding purges_body digits escape_byte
+two-purges = refl
+
+-- the others that are escaped are control characters
+escapes : purges_body (record { from = 1; last = 1; front = 1; clock = 100; texts = (8 ∷ 9 ∷ 10 ∷ 12 ∷ 13 ∷ 31 ∷ 127 ∷ 200 ∷ []) ∷ [] }) ≡ codes "{\"from\":1,\"front\":1,\"keys\":[\"\\b\\t\\n\\f\\r\\u001f" ++ 127 ∷ 200 ∷ codes "\"],\"last\":1}"
+unfolding purges_body digits escape_byte
+escapes = refl
+
+-- this is the reply that tells it, where 64 bits hold the length
+purges-told : (shape : Shape) (reply : PurgeReply) (told : PurgesTold) → told_of reply ≡ told → length (purges_body told) < 2 ^ 64
+    → text_at_100 shape (Purges reply) false ≡ purges_at_100 shape told
+purges-told shape reply told is fits =
+    let same : min (length (purges_body told)) (2 ^ 64 - 1) ≡ length (purges_body told) = omega arith in
+    ap (λ (t : PurgesTold). purges_of_size shape t (min (length (purges_body t)) (2 ^ 64 - 1))) is ∙ ap (purges_of_size shape told) same
 
 -- a method that records do not have
 method-of-record : text_at_100 get (Refusal (BadMethod Record) 100) false ≡ codes "HTTP/1.1 405 Method Not Allowed\r\nDate: Thu, 01 Jan 1970 00:01:40 GMT\r\nContent-Type: application/json\r\nContent-Length: 22\r\nCache-Control: no-store\r\nAllow: GET, HEAD, PUT, DELETE\r\n\r\n{\"error\":\"bad_method\"}"

@@ -62,10 +62,22 @@ pub names : (asked (codes "GET") (codes "/v1/d/shop/P") [] ≡ Err BadTarget)
     × (asked (codes "GET") (codes "/v1/d/shop/p%2fq") [] ≡ Err BadTarget)
     × (asked (codes "DELETE") (codes "/v1/d/shop/p1") [] ≡ Ok (write (codes "shop") (codes "p1") None Always))
     × (asked (codes "GET") (codes "/v1/q/Shop") [] ≡ Err BadTarget)
-    × (asked (codes "GET") (codes "/v1/purges") [] ≡ Ok (Purges [] false))
-    × (asked (codes "GET") (codes "/v1/purges?from=0") [] ≡ Err BadTarget)
 unfolding ask_of has_host values local_part path_of route_of table matchit_on_literals is_utf8 chars lib.Utf8.encode fields_in decoded percent_decode name_in tags_in number_of
-names = (refl, refl, refl, refl, refl, refl, refl, refl, refl)
+names = (refl, refl, refl, refl, refl, refl, refl)
+
+-- purges, from a number from 1 to 2^63 on
+pub purges : (asked (codes "GET") (codes "/v1/purges") [] ≡ Ok (Purges 1 false))
+    × (asked (codes "HEAD") (codes "/v1/purges?from=7") [] ≡ Ok (Purges 7 true))
+    × (asked (codes "GET") (codes "/v1/purges?from=9223372036854775808") [] ≡ Ok (Purges 9223372036854775808 false))
+    × (asked (codes "GET") (codes "/v1/purges?from=9223372036854775809") [] ≡ Err BadTarget)
+    × (asked (codes "GET") (codes "/v1/purges?from=0") [] ≡ Err BadTarget)
+    × (asked (codes "GET") (codes "/v1/purges?from=07") [] ≡ Err BadTarget)
+    × (asked (codes "GET") (codes "/v1/purges?from=1&from=2") [] ≡ Err BadTarget)
+    × (asked (codes "GET") (codes "/v1/purges?to=1") [] ≡ Err BadTarget)
+    × (asked (codes "GET") (codes "/v1/purges?from=%ff") [] ≡ Err BadTarget)
+    × (asked (codes "DELETE") (codes "/v1/purges?from=0") [] ≡ Err (BadMethod allow.Other))
+unfolding ask_of has_host values local_part path_of route_of table matchit_on_literals is_utf8 chars lib.Utf8.encode fields_in decoded percent_decode number_of
+purges = (refl, refl, refl, refl, refl, refl, refl, refl, refl, refl)
 
 -- the fields of Host (RFC 9112, section 3.2)
 pub hosts : (asked_of 1 (codes "GET") (codes "*") [] ≡ Err BadHost)

@@ -1,5 +1,5 @@
 -- Believed. What a request asks of the store, or the first reason why it is refused.
-use Rattle.std.specs.Prelude.{ℕ, Bool, true, false, not, ◌||◌, ◌==◌, nat_le, nat_lt, if◌then◌else◌, bytes_eq, List, [], length, Option, Some, None, Result, Ok, Err, codes}
+use Rattle.std.specs.Prelude.{ℕ, Bool, true, false, not, ◌||◌, ◌==◌, nat_le, nat_lt, if◌then◌else◌, bytes_eq, List, [], length, Option, Some, None, unwrap_or, Result, Ok, Err, codes}
 use Rattle.std.specs.List.{list_all}
 use Rattle.std.specs.Str.{str_eq_ignore_ascii_case}
 use Rattle.percent_encoding.specs.Percent.{percent_decode}
@@ -20,10 +20,12 @@ use Rattle.http_message.specs.Message.{Message}
 use Rattle.http_front.specs.declared.refused.Allow.{Allow}
 use Rattle.http_front.specs.declared.refused.DocumentReason.TheVariants.{NotJson, NotObject, TooDeep, NotWhole}
 use Rattle.http_message.specs.declared.refusal.FramingRefusal.TheVariants.{BodyTooLarge}
+use Rattle.http_front.specs.declared.refused.QueryField.TheVariants as field
 use Rattle.http_front.specs.declared.refused.Refused.{Refused}
 use Rattle.http_front.specs.declared.refused.Refused.TheVariants.{Framing, BadHost, BadTarget, NoRoute, BadMethod, NoLength, BadEncoding, BadTag, BadDocument}
 use Rattle.http_front.specs.Answered.{and_then, unless}
-use Rattle.http_front.specs.Filters.{query_in}
+use Rattle.http_front.specs.Filters.{letter_of, query_in, text_in}
+use Rattle.http_front.specs.Numbers.{number_of}
 use Rattle.http_front.specs.Query.{NamedValue, fields_in}
 use Rattle.http_front.specs.Routes.{route_of, served_of, collection_in, id_in, queried_in, method_of, allows, methods_of}
 use Rattle.http_front.specs.Tags.{tags_in}
@@ -162,6 +164,10 @@ query_by m text fields head =
     and_then (known_of m) (λ known.
     and_then (query_in collection fields) (λ read. Ok (Read (key.Query read.1 (normal_query read.0)) known head))))
 
+-- the number from which on purges are asked for: that of the field `from`, and 1 where there is none
+abbrev pub start_in : List NamedValue → ℕ
+start_in values = unwrap_or (number_of (text_in (letter_of field.From) values)) 1
+
 -- the method is HEAD
 abbrev pub is_head_request : Method → Bool
 is_head_request Head = true
@@ -177,7 +183,7 @@ ask_by m path method route.Record values =
     and_then (name_in (id_in path)) (λ id. record_by m collection id method))
 ask_by m path method route.Query values = query_by m (queried_in path) values (is_head_request method)
 ask_by m path method route.Filter values = Ok (Fetch (is_head_request method))
-ask_by m path method route.Purges values = Ok (Purges values (is_head_request method))
+ask_by m path method route.Purges values = Ok (Purges (start_in values) (is_head_request method))
 ask_by m path method route.Match values = Ok MatchAll
 ask_by m path method route.Stats values = Ok (Stats (is_head_request method))
 

@@ -8,7 +8,7 @@ use Rattle.http_front.specs.Target.{local_part, path_of, query_of}
 use Rattle.http_front.specs.declared.ask.Ask.{Ask}
 use Rattle.http_front.specs.declared.ask.Ask.TheVariants.{Write, Read, Purges, MatchAll, Fetch, Stats}
 use Rattle.http_front.specs.declared.refused.Refused.{Refused}
-use Rattle.http_front.specs.declared.refused.Refused.TheVariants.{Framing, BadHost, BadTarget, NoRoute, BadMethod, NoLength, BadEncoding, BadTag, BadFilter, NotBuilt, BadDocument}
+use Rattle.http_front.specs.declared.refused.Refused.TheVariants.{Framing, BadHost, BadTarget, NoRoute, BadMethod, NoLength, BadEncoding, BadTag, BadFilter, BadDocument}
 use Rattle.http_front.specs.declared.routes.Route.{Route}
 use Rattle.http_front.specs.declared.routes.Served.{Served}
 
@@ -34,14 +34,13 @@ is_early_refusal decodes BadEncoding = true
 is_early_refusal decodes (Framing refused) = false
 is_early_refusal decodes BadTag = false
 is_early_refusal decodes (BadFilter refusal) = false
-is_early_refusal decodes NotBuilt = false
 is_early_refusal decodes (BadDocument reason) = false
 
 -- such a refusal, or a match, a page or the numbers of the store; and the list of purges, where no fields are decoded
 abbrev pub is_early_answer : Bool → Result Ask Refused → Bool
 is_early_answer decodes (Ok (Write change condition)) = false
 is_early_answer decodes (Ok (Read key tags head)) = false
-is_early_answer decodes (Ok (Purges fields head)) = not decodes
+is_early_answer decodes (Ok (Purges from head)) = not decodes
 is_early_answer decodes (Ok MatchAll) = true
 is_early_answer decodes (Ok (Fetch head)) = true
 is_early_answer decodes (Ok (Stats head)) = true

@@ -1,6 +1,8 @@
 pub mod Added
 pub mod Answered
 pub mod Asks
+pub mod Bodies
+pub mod Buffered
 pub mod Date
 pub mod Early
 pub mod Filters

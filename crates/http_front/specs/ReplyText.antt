@@ -1,5 +1,8 @@
 -- Believed. The reply to each request: its status, its fields and its body.
-use Rattle.std.specs.Prelude.{◌≡◌, ℕ, ◌+◌, Bool, true, false, List, [], ◌++◌, length, Option, Some, None, if◌then◌else◌, codes, decimal}
+use Rattle.std.specs.Prelude.{◌≡◌, ℕ, ◌+◌, ◌-◌, ◌^◌, min, Bool, true, false, List, [], ◌++◌, length, Option, Some, None, if◌then◌else◌, codes, decimal}
+use Rattle.std.specs.List.{join_by}
+use Rattle.json.specs.Print.{quoted}
+use Rattle.hub_model.specs.Reply.{PurgesTold, told_of}
 use Rattle.hub_model.specs.declared.entry.Answer.{Answer}
 use Rattle.hub_model.specs.declared.entry.Found.{Found}
 use Rattle.hub_model.specs.declared.entry.Found.TheVariants.{Missing, At}
@@ -21,10 +24,10 @@ use Rattle.http_front.specs.declared.refused.FilterRefusal.{FilterRefusal}
 use Rattle.http_front.specs.declared.refused.QueryField.{QueryField}
 use Rattle.http_front.specs.declared.refused.QueryField.TheVariants as field
 use Rattle.http_front.specs.declared.refused.Refused.{Refused}
-use Rattle.http_front.specs.declared.refused.Refused.TheVariants.{Framing, BadHost, BadTarget, NoRoute, BadMethod, NoLength, BadEncoding, BadTag, BadFilter, NotBuilt, BadDocument}
+use Rattle.http_front.specs.declared.refused.Refused.TheVariants.{Framing, BadHost, BadTarget, NoRoute, BadMethod, NoLength, BadEncoding, BadTag, BadFilter, BadDocument}
 use Rattle.http_front.specs.declared.shape.Shape.{Shape}
 use Rattle.http_front.specs.declared.told.Told.{Told}
-use Rattle.http_front.specs.declared.told.Told.TheVariants.{Write, Read, Match, Page, Count, Refusal, Memory}
+use Rattle.http_front.specs.declared.told.Told.TheVariants.{Write, Read, Match, Page, Count, Purges, Refusal, Memory}
 
 -- the name of a field in a query
 abbrev pub field_name : QueryField → List ℕ
@@ -74,7 +77,6 @@ refusal NoLength = failure 411 (codes "{\"error\":\"no_length\"}")
 refusal BadEncoding = failure 415 (codes "{\"error\":\"bad_encoding\"}")
 refusal BadTag = failure 400 (codes "{\"error\":\"bad_tag\"}")
 refusal (BadFilter r) = failure 400 (filter_body r)
-refusal NotBuilt = failure 501 (codes "{\"error\":\"not_built\"}")
 refusal (BadDocument NotJson) = failure 422 (codes "{\"error\":\"bad_document\",\"reason\":\"not_json\"}")
 refusal (BadDocument NotObject) = failure 422 (codes "{\"error\":\"bad_document\",\"reason\":\"not_object\"}")
 refusal (BadDocument TooDeep) = failure 422 (codes "{\"error\":\"bad_document\",\"reason\":\"too_deep\"}")
@@ -108,6 +110,12 @@ stats_body s =
     codes "{\"clock\":" ++ decimal s.clock ++ codes ",\"commits\":" ++ decimal s.commits ++ codes ",\"front\":"
     ++ decimal s.front ++ codes "}"
 
+-- the body of a list of purges: the text of each key is a string of JSON (RFC 8259, section 7)
+unfoldable pub purges_body : PurgesTold → List ℕ
+purges_body told =
+    codes "{\"from\":" ++ decimal told.from ++ codes ",\"front\":" ++ decimal told.front ++ codes ",\"keys\":["
+    ++ join_by quoted (codes ",") told.texts ++ codes "],\"last\":" ++ decimal told.last ++ codes "}"
+
 -- the body of each reply, with the bytes of the page where it is one
 abbrev pub body_of : Told → List ℕ → List ℕ
 body_of (Write written) page = written_body written
@@ -115,6 +123,7 @@ body_of (Read answer) page = outcome_body answer.result
 body_of (Match matched) page = codes "{\"front\":" ++ decimal matched.front ++ codes "}"
 body_of (Page clock) page = page
 body_of (Count stats) page = stats_body stats
+body_of (Purges reply) page = purges_body (told_of reply)
 body_of (Refusal refused clock) page = (refusal refused).body
 body_of Memory page = codes "{\"error\":\"memory\"}"
 
@@ -172,13 +181,14 @@ read_head a (Same tag version) size close =
     }
 read_head a Absent size close = answer_head a 404 size close
 
--- the head of each reply, of the length of its body
+-- the head of each reply, of the length of its body; a list of purges tells the greatest number of 64 bits where it is longer
 abbrev pub head_of : Shape → Told → ℕ → Bool → Head
 head_of shape (Write written) size close = written_head shape.put written size close
 head_of shape (Read answer) size close = read_head answer answer.result size close
 head_of shape (Match matched) size close = json_head 200 size close
 head_of shape (Page clock) size close = record (json_head 200 size close) { media = Some OctetStream }
 head_of shape (Count stats) size close = json_head 200 size close
+head_of shape (Purges reply) size close = json_head 200 (min size (2 ^ 64 - 1)) close
 head_of shape (Refusal refused clock) size close =
     record (json_head (refusal refused).status size close) { allow = allowed refused }
 head_of shape Memory size close = record (json_head 503 size close) { dated = false }
@@ -196,6 +206,7 @@ clock_of (Read answer) = answer.clock
 clock_of (Match matched) = matched.clock
 clock_of (Page clock) = clock
 clock_of (Count stats) = stats.clock
+clock_of (Purges reply) = reply.clock
 clock_of (Refusal refused clock) = clock
 clock_of Memory = 0
 

@@ -7,7 +7,7 @@ ghost use Rattle.query_normal.specs.Normal.{normal_query};
 ghost use Rattle.query_normal.specs.declared.key.KeyShape.TheVariants as keys;
 ghost use Rattle.http_message.specs.Fields.{values as values_named};
 ghost use Rattle.http_front.specs.Answered.{and_then};
-ghost use Rattle.http_front.specs.Asks.{ask_at, ask_by, ask_of, condition_by, condition_of, delete_of, document_in, known_of, method_in, name_in, put_of, query_by, read_of, record_by, shape_of, tags_or_not};
+ghost use Rattle.http_front.specs.Asks.{ask_at, ask_by, ask_of, condition_by, condition_of, delete_of, document_in, known_of, method_in, name_in, put_of, query_by, read_of, record_by, shape_of, start_in, tags_or_not};
 ghost use Rattle.http_front.specs.Early.{is_early};
 ghost use Rattle.http_front.specs.Filters.{query_in};
 ghost use Rattle.http_front.specs.Free.{is_bare, is_bare_put, is_free_at, is_free_call, is_free_record};
@@ -21,8 +21,9 @@ use crate::cut::{cut_at, cut_in_two};
 use crate::fields::{has_condition, has_host, has_length, has_no_coding};
 use crate::filter::query_in;
 use crate::names::{are_names, is_name, name_in};
+use crate::number::number_of;
 use crate::query::{QueryFields, fields_in};
-use crate::refused::{DocumentReason, Refused};
+use crate::refused::{DocumentReason, QueryField, Refused};
 use crate::routes::{Method, QUERIES, RECORDS, Route, Routes};
 use crate::shape::Shape;
 use crate::tags::{Comparison, TagRefusal, tags_in};
@@ -48,9 +49,9 @@ pub enum Ask {
         tags: Tags,
         head: bool,
     },
-    /// To give the purges that these fields ask for.
+    /// To give the purges from this number on.
     Purges {
-        fields: QueryFields,
+        from: u64,
         head: bool,
     },
     /// To match all commits against the issued copies.
@@ -186,9 +187,25 @@ fn ask_by(
         Route::Record => ask_names(alloc, request, path, method, reading),
         Route::Query => query_by(alloc, request, names_behind(QUERIES, path).0, fields, head),
         Route::Filter => Ok(Ok(Ask::Fetch { head })),
-        Route::Purges => Ok(Ok(Ask::Purges { fields, head })),
+        Route::Purges => Ok(Ok(Ask::Purges {
+            from: start_in(&fields),
+            head,
+        })),
         Route::Match => Ok(Ok(Ask::MatchAll)),
         Route::Stats => Ok(Ok(Ask::Stats { head })),
+    }
+}
+
+/// The number from which on purges are asked for: that of the field `from`, and 1 without it.
+fn start_in(fields: &QueryFields) -> u64
+    ensures { result ≡ start_in fields.now }
+{
+    let Some(text) = fields.value_of(QueryField::From) else {
+        return 1;
+    };
+    match number_of(text.as_bytes()) {
+        Some(number) => number,
+        None => 1,
     }
 }
 

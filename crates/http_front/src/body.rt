@@ -1,25 +1,52 @@
 //! The bodies of replies.
-ghost use Rattle.std.specs.Prelude.{◌≡◌, ◌+◌, ◌≤◌, ◌++◌, length, decimal, codes};
+ghost use Rattle.std.specs.Prelude.{◌≡◌, ◌+◌, ◌<◌, ◌≤◌, ◌^◌, ◌++◌, true, length, decimal, codes};
 ghost use Rattle.q_outside.specs.Ends.{Gave};
+ghost use Rattle.http_front.specs.Bodies.{body_text, is_in_one_piece, is_piece, up_to_greatest};
 ghost use Rattle.http_front.specs.ReplyText.{found_text, written_body, outcome_body, stats_body, filter_body, refusal, body_of, given_body};
 ghost use Rattle.http_front.specs.declared.refused.Refused.TheVariants.{Framing, BadDocument};
 
+use crate::purges::{give_purges, purges_len};
 use crate::put::{put, put_number};
 use crate::refused::{DocumentReason, FilterRefusal, Refused};
 use crate::shape::Shape;
 use crate::told::Told;
 use http_message::FramingRefusal;
-use hub_model::{Found, Outcome, Stats, Written};
+use hub_model::{Found, Outcome, PurgeReply, Stats, Written};
 use q_outside::{Failed, Sink, give_all};
 
 /// The greatest length of a body with numbers in it.
 pub(crate) const NUMBERS_CAPACITY: usize = 96;
+
+/// The length of the buffer by way of which a list of purges is given without its head.
+const PURGES_CAPACITY: usize = 1024;
 
 /// The body of a read that finds nothing.
 const ABSENT: &[u8] = b"{\"error\":\"absent\"}";
 
 /// The body where memory was wanting.
 const NO_MEMORY: &[u8] = b"{\"error\":\"memory\"}";
+
+/// The body of a reply, as it is kept until it is given.
+#[derive(Clone, Copy)]
+pub(crate) enum ReplyBody<'a> {
+    /// These bytes.
+    Piece(&'a [u8]),
+    /// The text of a list of purges, which is written while it is given.
+    Purges(&'a PurgeReply),
+}
+
+impl<'a> ReplyBody<'a> {
+    /// Its length, or the greatest number where that is less.
+    pub(crate) fn len(self) -> usize
+        ensures len { result ≡ up_to_greatest (length (body_text self.entry)) }
+        ensures fits { is_piece self.entry ≡ true → length (body_text self.entry) < 2 ^ 64 }
+    {
+        match self {
+            ReplyBody::Piece(piece) => piece.len(),
+            ReplyBody::Purges(reply) => purges_len(reply),
+        }
+    }
+}
 
 /// Gives the body of a reply to a sink: nothing where the request was HEAD. Where the reply is a page,
 /// these are its bytes.
@@ -33,35 +60,50 @@ pub fn write_body<K: Sink>(
 {
     let mut numbers = [0; NUMBERS_CAPACITY];
     let body = body_of(told, page, &mut numbers);
-    give_all(sink, given(shape, body))
+    match given(shape, body) {
+        ReplyBody::Piece(piece) => give_all(sink, piece),
+        ReplyBody::Purges(reply) => give_purges(sink, &mut [0; PURGES_CAPACITY], 0, reply),
+    }
 }
 
 /// What is given of a body: nothing where the request was HEAD.
-pub(crate) fn given(shape: Shape, body: &[u8]) -> &[u8]
-    ensures { result.now ≡ given_body shape body.now }
+pub(crate) fn given<'a>(shape: Shape, body: ReplyBody<'a>) -> ReplyBody<'a>
+    ensures { body_text result ≡ given_body shape (body_text body.entry) }
 {
-    if shape.head { &[] } else { body }
+    if shape.head {
+        ReplyBody::Piece(&[])
+    } else {
+        body
+    }
 }
 
-/// The body of a reply, which is written into the buffer where it has numbers. Where the reply is a page,
-/// these are its bytes.
-pub(crate) fn body_of<'a>(told: &'a Told, page: &'a [u8], buffer: &'a mut [u8]) -> &'a [u8]
+/// The body of a reply, which is written into the buffer where it is short and has numbers. Where the
+/// reply is a page, these are its bytes.
+pub(crate) fn body_of<'a>(told: &'a Told, page: &'a [u8], buffer: &'a mut [u8]) -> ReplyBody<'a>
     requires { NUMBERS_CAPACITY ≤ length buffer.old }
-    ensures { result.now ≡ body_of told.now page.now }
+    ensures text { body_text result ≡ body_of told.now page.now }
+    ensures piece { is_piece result ≡ is_in_one_piece told.now }
 {
-    match told {
+    let piece = match told {
         Told::Write(written) => written_body(written, buffer),
         Told::Read(answer) => outcome_body(&answer.result),
         Told::Match(matched) => number_body(b"{\"front\":", matched.front, b"}", buffer),
         Told::Page(_) => page,
         Told::Count(stats) => stats_body(stats, buffer),
+        Told::Purges(reply) => return ReplyBody::Purges(reply),
         Told::Refusal(refused, _) => refusal_body(*refused, buffer),
         Told::Memory => NO_MEMORY,
-    }
+    };
+    ReplyBody::Piece(piece)
 }
 
 /// A number between two pieces, written into the buffer.
-fn number_body<'a>(name: &[u8], number: u64, end: &[u8], buffer: &'a mut [u8]) -> &'a [u8]
+pub(crate) fn number_body<'a>(
+    name: &[u8],
+    number: u64,
+    end: &[u8],
+    buffer: &'a mut [u8],
+) -> &'a [u8]
     requires { length name.now + 20 + length end.now ≤ length buffer.old }
     ensures { result.now ≡ (name.now ++ decimal number) ++ end.now }
 {
@@ -147,7 +189,6 @@ fn refusal_body(refused: Refused, buffer: &mut [u8]) -> &[u8]
         Refused::BadEncoding => b"{\"error\":\"bad_encoding\"}",
         Refused::BadTag => b"{\"error\":\"bad_tag\"}",
         Refused::BadFilter(refused) => filter_body(refused, buffer),
-        Refused::NotBuilt => b"{\"error\":\"not_built\"}",
         Refused::BadDocument(reason) => document_body(reason),
     }
 }

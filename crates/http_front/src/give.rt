@@ -8,10 +8,10 @@ use crate::head::Head;
 use crate::reply::ReplyRoom;
 use crate::shape::Shape;
 use crate::told::Told;
-use q_outside::{Failed, Sink, give_all, give_both};
+use q_outside::{Failed, Sink};
 
-/// Gives the text of a reply: in one piece where it fits the buffer, and else its head and then its
-/// body. Where it is a page, these are its bytes.
+/// Gives the text of a reply: in one piece where it fits the buffer. Else it gives its head and then its
+/// body; a list of purges is written through the buffer. Where it is a page, these are its bytes.
 pub fn give_reply<K: Sink>(
     sink: &mut K,
     buffer: &mut ReplyRoom,
@@ -26,10 +26,5 @@ pub fn give_reply<K: Sink>(
     let body = body_of(told, page, &mut numbers);
     let head = Head::of(shape, told, body.len(), close);
     buffer.write_head(&head, told.clock());
-    let behind = given(shape, body);
-    if buffer.put_where_it_fits(behind) {
-        give_all(sink, buffer.bytes())
-    } else {
-        give_both(sink, buffer.bytes(), behind)
-    }
+    buffer.give_with(sink, given(shape, body))
 }

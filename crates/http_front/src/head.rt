@@ -120,7 +120,9 @@ impl Head {
         match told {
             Told::Write(written) => Head::of_written(shape.put, written, length, close),
             Told::Read(answer) => Head::of_read(answer, length, close),
-            Told::Match(_) | Told::Count(_) => Head::json(StatusCode::OK, length, close),
+            Told::Match(_) | Told::Count(_) | Told::Purges(_) => {
+                Head::json(StatusCode::OK, length, close)
+            }
             Told::Page(_) => Head {
                 media: Some(MediaType::OctetStream),
                 ..Head::json(StatusCode::OK, length, close)

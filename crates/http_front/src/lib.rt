@@ -3,6 +3,7 @@
 
 mod ask;
 mod body;
+mod buffered;
 mod cut;
 mod date;
 mod fields;
@@ -13,8 +14,10 @@ mod laws;
 mod names;
 mod number;
 mod pieces;
+mod purges;
 mod put;
 mod query;
+mod quoted;
 mod refused;
 mod reply;
 mod routes;

@@ -92,8 +92,6 @@ pub enum Refused {
     BadTag,
     /// A field of a query is refused.
     BadFilter(FilterRefusal),
-    /// This server does not answer such a request yet.
-    NotBuilt,
     /// The body is no document, or longer than one.
     BadDocument(DocumentReason),
 }

@@ -3,16 +3,22 @@
 //! A reply's head is written into a buffer that was made before the request was taken, so an accepted
 //! write is answered whatever memory there is. The body follows it there where it fits, so that the sink is
 //! given the reply in one piece.
-ghost use Rattle.std.specs.Prelude.{◌≡◌, ℕ, ◌+◌, ◌<◌, ◌≤◌, ◌++◌, List, [], length, IsFalse, MatchBool, IfOk};
-ghost use Rattle.http_front.specs.ReplyText.{IsHeadText, head_of, body_of, clock_of};
+ghost use Rattle.std.specs.Prelude.{◌≡◌, ℕ, ◌≤◌, ◌++◌, List, [], length, IfOk};
+ghost use Rattle.hub_model.specs.Reply.{told_of};
+ghost use Rattle.q_outside.specs.Ends.{Gave};
+ghost use Rattle.http_front.specs.Bodies.{body_text};
+ghost use Rattle.http_front.specs.ReplyText.{IsHeadText, head_of, body_of, clock_of, purges_body};
 
-use crate::body::{NUMBERS_CAPACITY, body_of};
+use crate::body::{NUMBERS_CAPACITY, ReplyBody, body_of};
 use crate::date::DateText;
 use crate::head::{Head, put_head};
+use crate::purges::give_purges;
 use crate::put::put;
 use crate::shape::Shape;
 use crate::told::Told;
+use hub_model::PurgeReply;
 use q_base::{Memory, Moment};
+use q_outside::{Failed, Sink, give_all, give_both};
 use std::alloc::Global;
 use std::marker::Model;
 
@@ -67,16 +73,39 @@ impl ReplyRoom {
         self.len = put_head(self.bytes.as_mut_slice(), head, self.date.as_slice());
     }
 
-    /// Writes a piece after what is there, where it fits, and answers whether it did.
-    pub(crate) fn put_where_it_fits(&mut self, piece: &[u8]) -> bool
-        ensures text { MatchBool result (self.new ≡ self.old ++ piece.now) (self.new ≡ self.old) }
-        ensures fits { IsFalse result → REPLY_CAPACITY < length self.old + length piece.now }
+    /// Gives what is there and then a body.
+    pub(crate) fn give_with<K: Sink>(
+        &mut self,
+        sink: &mut K,
+        body: ReplyBody<'_>,
+    ) -> Result<(), Failed>
+        ensures { Gave (K.at sink.old) (K.at sink.new) (self.old ++ body_text body.entry) result }
+    {
+        match body {
+            ReplyBody::Piece(piece) => self.give_with_piece(sink, piece),
+            ReplyBody::Purges(reply) => self.give_with_purges(sink, reply),
+        }
+    }
+
+    /// Gives what is there and a piece after it: both at once where the piece fits.
+    fn give_with_piece<K: Sink>(&mut self, sink: &mut K, piece: &[u8]) -> Result<(), Failed>
+        ensures { Gave (K.at sink.old) (K.at sink.new) (self.old ++ piece.now) result }
     {
         if piece.len() > REPLY_CAPACITY - self.len {
-            return false;
+            return give_both(sink, self.bytes(), piece);
         }
         self.len = put(self.bytes.as_mut_slice(), self.len, piece);
-        true
+        give_all(sink, self.bytes())
+    }
+
+    /// Gives what is there and then a list of purges, which is written through the buffer. Nothing is
+    /// there then.
+    fn give_with_purges<K: Sink>(&mut self, sink: &mut K, reply: &PurgeReply) -> Result<(), Failed>
+        ensures { Gave (K.at sink.old) (K.at sink.new) (self.old ++ purges_body (told_of reply.now)) result }
+    {
+        let at = self.len;
+        self.len = 0;
+        give_purges(sink, self.bytes.as_mut_slice(), at, reply)
     }
 }
 

@@ -70,7 +70,6 @@ pub(crate) fn refusal_status(refused: Refused) -> StatusCode
         Refused::BadMethod(_) => StatusCode::METHOD_NOT_ALLOWED,
         Refused::NoLength => StatusCode::LENGTH_REQUIRED,
         Refused::BadEncoding => StatusCode::UNSUPPORTED_MEDIA_TYPE,
-        Refused::NotBuilt => StatusCode::NOT_IMPLEMENTED,
         Refused::BadDocument(_) => StatusCode::UNPROCESSABLE_ENTITY,
     }
 }

@@ -3,7 +3,7 @@ ghost use Rattle.std.specs.Prelude.{◌≡◌};
 ghost use Rattle.http_front.specs.ReplyText.{written_clock, clock_of};
 
 use crate::refused::Refused;
-use hub_model::{Answer, Matched, Stats, Written};
+use hub_model::{Answer, Matched, PurgeReply, Stats, Written};
 use q_base::Moment;
 
 /// What is answered to a request.
@@ -20,6 +20,8 @@ pub enum Told {
     Page(Moment),
     /// The counts of the store.
     Count(Stats),
+    /// The list of purges from a number on.
+    Purges(PurgeReply),
     /// The request is refused. The moment is the clock after its entry.
     Refusal(Refused, Moment),
     /// There was no memory, and no entry was made.
@@ -37,6 +39,7 @@ impl Told {
             Told::Match(matched) => matched.clock,
             Told::Page(clock) | Told::Refusal(_, clock) => *clock,
             Told::Count(stats) => stats.clock,
+            Told::Purges(reply) => reply.clock,
             Told::Memory => Moment::of(0),
         }
     }

@@ -2,6 +2,7 @@
 ghost use Rattle.std.specs.Prelude.{◌≡◌, ◌<◌, None, codes, if◌then◌else◌};
 ghost use Rattle.q_outside.specs.Ends.{Gave};
 
+use crate::asks::new_room;
 use dialogue::{Answers, hold_dialogue};
 use http_message::{FramingRefusal, Request, RequestRoom};
 use q_base::Memory;
@@ -95,6 +96,7 @@ struct Outcome {
 /// Holds a dialogue over a sink whose faults are counted by this ledger.
 fn hold_counted<L: Ledger>(
     alloc: Global,
+    room: &mut RequestRoom,
     source: &mut ListSource,
     script: Script,
     blank: Blank,
@@ -104,9 +106,8 @@ fn hold_counted<L: Ledger>(
     requires some { 0 < L.parts }
 {
     let mut sink = ListSink::<L>::new(alloc, 100_000, script, blank)?;
-    let mut buffer = RequestRoom::new(alloc)?;
     let mut counter = Counter { answered: 0 };
-    let served = hold_dialogue(&mut counter, source, &mut sink, &mut buffer);
+    let served = hold_dialogue(&mut counter, source, &mut sink, room);
     Ok(Outcome {
         served,
         written: sink.bytes,
@@ -124,6 +125,29 @@ fn script_of(alloc: Global, failing: Option<u64>, size: usize) -> Result<Script,
     Ok(Script::of(calls, sizes))
 }
 
+/// A source of these texts, one after another, of which this call fails.
+fn source_of(
+    alloc: Global,
+    texts: &[&[u8]],
+    failing: Option<u64>,
+) -> Result<Box<ListSource>, Memory> {
+    let bytes = all_of(alloc, texts)?;
+    let source = ListSource::of(bytes, script_of(alloc, failing, 100_000)?);
+    Ok(Box::new(alloc, source)?)
+}
+
+/// Holds a dialogue over a source.
+fn hold_over(
+    alloc: Global,
+    room: &mut RequestRoom,
+    source: &mut ListSource,
+    gives: Option<u64>,
+    size: usize,
+) -> Result<Outcome, Memory> {
+    let script = script_of(alloc, gives, size)?;
+    hold_counted::<Brand>(alloc, room, source, script, Blank::new(1))
+}
+
 /// Holds a dialogue over these texts, one after another.
 fn hold(
     alloc: Global,
@@ -132,10 +156,9 @@ fn hold(
     gives: Option<u64>,
     size: usize,
 ) -> Result<Outcome, Memory> {
-    let bytes = all_of(alloc, texts)?;
-    let mut source = ListSource::of(bytes, script_of(alloc, takes, 100_000)?);
-    let script = script_of(alloc, gives, size)?;
-    hold_counted::<Brand>(alloc, &mut source, script, Blank::new(1))
+    let mut room = new_room(alloc)?;
+    let mut source = source_of(alloc, texts, takes)?;
+    hold_over(alloc, &mut room, &mut source, gives, size)
 }
 
 /// Texts, one after another.
@@ -159,6 +182,23 @@ fn assert_outcome(
     assert_eq!(rt; outcome.served, Served { requests, why }, "at {at}");
     assert_eq!(rt; outcome.answered, requests, "at {at}");
     assert_eq!(rt; outcome.written.as_slice(), written, "at {at}");
+}
+
+/// Checks the outcome over these texts, whose source fails at this call.
+fn check_end(
+    rt: &impl Abort,
+    alloc: Global,
+    texts: &[&[u8]],
+    fails: Option<u64>,
+    requests: u64,
+    why: Why,
+    written: &[&[u8]],
+    at: usize,
+) -> Result<(), Memory> {
+    let written = all_of(alloc, written)?;
+    let outcome = hold(alloc, texts, fails, None, 100_000)?;
+    assert_outcome(rt, &outcome, requests, why, &written, at);
+    Ok(())
 }
 
 #[test]
@@ -199,44 +239,56 @@ fn a_connection_ends_in_each_way(rt: HostRuntime) -> Result<(), Fail> {
         (&[GET], Some(1), 1, Why::ReadFault, &[NEXT]),
     ];
     for (at, (texts, fails, requests, why, written)) in rows.into_iter().enumerate() {
-        let outcome = hold(rt.alloc(), texts, fails, None, 100_000)?;
-        let written = all_of(rt.alloc(), written)?;
-        assert_outcome(&rt, &outcome, requests, why, &written, at);
+        check_end(&rt, rt.alloc(), texts, fails, requests, why, written, at)?;
     }
     Ok(())
 }
 
+/// A text so many times, and then another.
+fn repeated(alloc: Global, text: &[u8], count: usize, last: &[u8]) -> Result<Vec<u8>, Memory> {
+    let mut all = Vec::new(alloc);
+    for _ in 0..count {
+        all.extend_from_slice(text)?;
+    }
+    all.extend_from_slice(last)?;
+    Ok(all)
+}
+
+/// How a connection of 10,001 requests goes.
+fn hold_many(alloc: Global) -> Result<Outcome, Memory> {
+    let input = repeated(alloc, GET, 10_001, b"")?;
+    hold(alloc, &[&input], None, None, 100_000)
+}
+
 #[test]
 fn the_last_of_ten_thousand_replies_says_so(rt: HostRuntime) -> Result<(), Fail> {
-    let mut input = Vec::new(rt.alloc());
-    let mut replies = Vec::new(rt.alloc());
-    for request in 0..10_001 {
-        input.extend_from_slice(GET)?;
-        if request < 9_999 {
-            replies.extend_from_slice(NEXT)?;
-        }
-    }
-    replies.extend_from_slice(LAST)?;
-    let outcome = hold(rt.alloc(), &[&input], None, None, 100_000)?;
+    let replies = repeated(rt.alloc(), NEXT, 9_999, LAST)?;
+    let outcome = hold_many(rt.alloc())?;
     assert_outcome(&rt, &outcome, 10_000, Why::RequestLimit, &replies, 0);
+    Ok(())
+}
+
+/// Checks the outcome where this call of the sink fails, in pieces of 5 bytes: five calls are for
+/// `100 Continue`, and one for each reply.
+fn check_failing(rt: &impl Abort, alloc: Global, replies: &[u8], call: u64) -> Result<(), Memory> {
+    let outcome = hold(alloc, &[EXPECTING, BODY, GET], None, Some(call), 5)?;
+    let (requests, why) = match call {
+        0..=4 => (0, Why::WriteFault),
+        5 => (1, Why::WriteFault),
+        6 => (2, Why::WriteFault),
+        _ => (2, Why::InputEnd),
+    };
+    let given = call.min(7).saturating_mul(5) as usize;
+    let written = replies.get(..given).unwrap_or(replies);
+    assert_outcome(rt, &outcome, requests, why, written, given);
     Ok(())
 }
 
 #[test]
 fn an_item_whose_continue_failed_is_not_answered(rt: HostRuntime) -> Result<(), Fail> {
-    // in pieces of 5 bytes: five calls for `100 Continue`, and one for each reply
     let replies = all_of(rt.alloc(), &[CONTINUE, NEXT, NEXT])?;
     for call in 0..8_u64 {
-        let outcome = hold(rt.alloc(), &[EXPECTING, BODY, GET], None, Some(call), 5)?;
-        let (requests, why) = match call {
-            0..=4 => (0, Why::WriteFault),
-            5 => (1, Why::WriteFault),
-            6 => (2, Why::WriteFault),
-            _ => (2, Why::InputEnd),
-        };
-        let given = (call.min(7) * 5) as usize;
-        let written = replies.get(..given).unwrap_or(&replies);
-        assert_outcome(&rt, &outcome, requests, why, written, given);
+        check_failing(&rt, rt.alloc(), &replies, call)?;
     }
     Ok(())
 }
@@ -285,8 +337,24 @@ impl Source for Patient<'_> {
     }
 }
 
+/// Holds a dialogue over these pieces. How it was served, and how many bytes were given.
+fn hold_patient(room: &mut RequestRoom, pieces: &[(&[u8], usize)]) -> (Served, usize) {
+    let given = Cell::new(0);
+    let mut source = Patient {
+        pieces,
+        at: 0,
+        given: &given,
+        faults: 0,
+    };
+    let mut sink = Shown { count: &given };
+    let mut counter = Counter { answered: 0 };
+    let served = hold_dialogue(&mut counter, &mut source, &mut sink, room);
+    (served, given.get())
+}
+
 #[test]
 fn nothing_is_taken_before_what_is_due_was_given(rt: HostRuntime) -> Result<(), Fail> {
+    let mut room = new_room(rt.alloc())?;
     let both = all_of(rt.alloc(), &[GET, GET, EXPECTING])?;
     let pieces: [(&[u8], usize); 5] = [
         (&both, 0),
@@ -295,24 +363,12 @@ fn nothing_is_taken_before_what_is_due_was_given(rt: HostRuntime) -> Result<(), 
         (&GET[9..], 15 + 25),
         (CLOSING, 20 + 25),
     ];
-    let given = Cell::new(0);
-    let mut source = Patient {
-        pieces: &pieces,
-        at: 0,
-        given: &given,
-        faults: 0,
+    let (served, given) = hold_patient(&mut room, &pieces);
+    let wanted = Served {
+        requests: 5,
+        why: Why::CloseAsked,
     };
-    let mut sink = Shown { count: &given };
-    let mut buffer = RequestRoom::new(rt.alloc())?;
-    let mut counter = Counter { answered: 0 };
-    let served = hold_dialogue(&mut counter, &mut source, &mut sink, &mut buffer);
-    assert_eq!(rt;
-        served,
-        Served {
-            requests: 5,
-            why: Why::CloseAsked
-        }
-    );
-    assert_eq!(rt; given.get(), 25 + 25);
+    assert_eq!(rt; served, wanted);
+    assert_eq!(rt; given, 25 + 25);
     Ok(())
 }

@@ -1,7 +1,7 @@
 //! What no clause says of queries: that a request is read into the key of its query where there is
 //! memory. Refusals, with the places that an independent reader of the language gives.
 
-use crate::asks::{asked, refuses};
+use crate::asks::{Asked, asked, refuses};
 use http_front::{Ask, FilterReason, FilterRefusal, QueryField, Refused};
 use q_base::Memory;
 use std::alloc::Global;
@@ -50,21 +50,30 @@ fn refuses_fields(
     refuses(rt, alloc, &request, Refused::BadFilter(refused))
 }
 
-/// Checks that a query with these fields is read as the key of this text.
-fn reads(rt: &impl Abort, alloc: Global, fields: &[u8], text: &[u8]) -> Result<(), Memory> {
-    let asked = asked(alloc, &request_of(alloc, fields)?)?;
-    match &asked {
-        Ok(Ask::Read { key, .. }) => assert_eq!(rt; key.text(), text),
-        _ => assert!(rt; false),
-    }
-    Ok(())
+/// What a query with these fields asks.
+fn asked_by(alloc: Global, fields: &[u8]) -> Result<Box<Asked>, Memory> {
+    let request = request_of(alloc, fields)?;
+    asked(alloc, &request)
 }
 
-/// Checks that a query with these fields is read.
-fn is_read(rt: &impl Abort, alloc: Global, fields: &[u8]) -> Result<(), Memory> {
-    let asked = asked(alloc, &request_of(alloc, fields)?)?;
-    assert!(rt; matches!(&asked, Ok(Ask::Read { .. })));
-    Ok(())
+/// Whether it is a read by the key of this text.
+fn is_read_by(asked: &Asked, text: &[u8]) -> bool {
+    match asked {
+        Ok(Ask::Read { key, .. }) => key.text() == text,
+        _ => false,
+    }
+}
+
+/// Whether a query with these fields is read as the key of this text.
+fn reads(alloc: Global, fields: &[u8], text: &[u8]) -> Result<bool, Memory> {
+    let asked = asked_by(alloc, fields)?;
+    Ok(is_read_by(&asked, text))
+}
+
+/// Whether a query with these fields is read.
+fn is_read(alloc: Global, fields: &[u8]) -> Result<bool, Memory> {
+    let asked = asked_by(alloc, fields)?;
+    Ok(matches!(&*asked, Ok(Ask::Read { .. })))
 }
 
 #[test]
@@ -108,39 +117,76 @@ fn the_first_bad_field_is_answered(rt: HostRuntime) -> Result<(), Fail> {
     Ok(())
 }
 
+/// A filter with so many copies of a part in the middle.
+#[derive(Clone, Copy)]
+struct Long<'a> {
+    before: &'a [u8],
+    part: &'a [u8],
+    count: usize,
+    after: &'a [u8],
+}
+
+/// Its field.
+fn field_of(alloc: Global, long: Long<'_>) -> Result<Vec<u8>, Memory> {
+    repeated(alloc, long.before, long.part, long.count, long.after)
+}
+
+/// Checks that such a filter is refused so.
+fn refuses_long(
+    rt: &impl Abort,
+    alloc: Global,
+    long: Long<'_>,
+    place: u64,
+    reason: FilterReason,
+) -> Result<(), Memory> {
+    let fields = field_of(alloc, long)?;
+    refuses_fields(rt, alloc, &fields, QueryField::Filter, place, reason)
+}
+
+/// Whether such a filter is read.
+fn is_long_read(alloc: Global, long: Long<'_>) -> Result<bool, Memory> {
+    let fields = field_of(alloc, long)?;
+    is_read(alloc, &fields)
+}
+
+/// A list of one number more than this.
+fn list(count: usize) -> Long<'static> {
+    Long {
+        before: b"f=a+in+%5B0",
+        part: b",0",
+        count,
+        after: b"%5D",
+    }
+}
+
+/// So many open brackets.
+fn brackets(count: usize) -> Long<'static> {
+    Long {
+        before: b"f=",
+        part: b"(",
+        count,
+        after: b"",
+    }
+}
+
+/// So many negations.
+fn negations(count: usize) -> Long<'static> {
+    Long {
+        before: b"f=",
+        part: b"not+",
+        count,
+        after: b"true",
+    }
+}
+
 #[test]
 fn the_limits_of_filters_are_answered(rt: HostRuntime) -> Result<(), Fail> {
     let alloc = rt.alloc();
-    let list: &[u8] = b"f=a+in+%5B0";
-    let many = repeated(alloc, list, b",0", 255, b"%5D")?;
-    refuses_fields(
-        &rt,
-        alloc,
-        &many,
-        QueryField::Filter,
-        257,
-        FilterReason::TooMany,
-    )?;
-    is_read(&rt, alloc, &repeated(alloc, list, b",0", 254, b"%5D")?)?;
-    let nested = repeated(alloc, b"f=", b"(", 65, b"")?;
-    refuses_fields(
-        &rt,
-        alloc,
-        &nested,
-        QueryField::Filter,
-        64,
-        FilterReason::TooNested,
-    )?;
-    let deep = repeated(alloc, b"f=", b"not+", 32, b"true")?;
-    refuses_fields(
-        &rt,
-        alloc,
-        &deep,
-        QueryField::Filter,
-        33,
-        FilterReason::TooDeep,
-    )?;
-    is_read(&rt, alloc, &repeated(alloc, b"f=", b"not+", 31, b"true")?)?;
+    refuses_long(&rt, alloc, list(255), 257, FilterReason::TooMany)?;
+    assert!(rt; is_long_read(alloc, list(254))?);
+    refuses_long(&rt, alloc, brackets(65), 64, FilterReason::TooNested)?;
+    refuses_long(&rt, alloc, negations(32), 33, FilterReason::TooDeep)?;
+    assert!(rt; is_long_read(alloc, negations(31))?);
     Ok(())
 }
 
@@ -193,7 +239,7 @@ fn a_query_is_read_as_the_key_of_its_normal_form(rt: HostRuntime) -> Result<(), 
         (b"f=&o&s=&n=&k=", b"q/shop/objects/f=true;o=;s=0;n=100"),
     ];
     for (fields, text) in cases {
-        reads(&rt, rt.alloc(), fields, text)?;
+        assert!(rt; reads(rt.alloc(), fields, text)?);
     }
     Ok(())
 }

@@ -6,12 +6,14 @@ use http_front::{
 };
 use http_message::FramingRefusal;
 use hub_model::{Answer, Found, Matched, Outcome, Stats, Written};
-use q_base::{Commit, Moment, SharedText, Text};
+use q_base::{Commit, Memory, Moment, SharedText, Text};
 use q_outside::EndlessSink;
+use std::alloc::Global;
+use std::process::Abort;
 use std::test::Fail;
 
 /// Neither PUT nor HEAD.
-const PLAIN: Shape = Shape {
+pub(crate) const PLAIN: Shape = Shape {
     put: false,
     head: false,
 };
@@ -21,7 +23,7 @@ const PUT: Shape = Shape {
     head: false,
 };
 
-const HEAD: Shape = Shape {
+pub(crate) const HEAD: Shape = Shape {
     put: false,
     head: true,
 };
@@ -33,6 +35,14 @@ const READ: &str =
 /// The reply to a read of a result that the caller knows.
 const SAME: &str =
     "HTTP/1.1 304 Not Modified\r\nDate: Thu, 01 Jan 1970 00:01:40 GMT\r\nETag: \"5\"\r\nCache-Control: max-age=60\r\nQuaestor-Commit: 7\r\nQuaestor-Version: 4\r\nQuaestor-Until: 160\r\n\r\n";
+
+/// The head for a result that has not changed, of a server that has no more to say of it.
+const UNCHANGED: &[u8] =
+    b"HTTP/1.1 304 Not Modified\r\nDate: Thu, 01 Jan 1970 00:01:40 GMT\r\nETag: \"1\"\r\nCache-Control: max-age=60\r\n\r\n";
+
+/// The head of the reply where another server could not be asked.
+const BAD_GATEWAY: &[u8] =
+    b"HTTP/1.1 502 Bad Gateway\r\nDate: Thu, 01 Jan 1970 00:01:40 GMT\r\nContent-Type: application/json\r\nContent-Length: 18\r\nCache-Control: no-store\r\nConnection: close\r\n\r\n";
 
 /// A read at commit 7 of a result that the caller knows by this tag, for a minute.
 fn known(tag: Commit, version: Commit, clock: Moment) -> Answer {
@@ -70,10 +80,31 @@ fn counts(clock: Moment) -> Stats {
     }
 }
 
-#[test]
-fn replies_have_their_texts(rt: HostRuntime) -> Result<(), Fail> {
-    let clock = Moment::of(100);
-    let table = [
+/// A reply's shape, what it tells, whether the connection ends behind it, and its text.
+type Row<'a> = (Shape, Told, bool, &'a str);
+
+/// Room for replies. It is boxed, as what is told is: each end of a function lets go of a value part by
+/// part, which is long to prove, and of a box by one call.
+pub(crate) fn new_room(alloc: Global) -> Result<Box<ReplyRoom>, Memory> {
+    Ok(Box::new(alloc, ReplyRoom::new(alloc)?)?)
+}
+
+/// Whether a reply could be given.
+fn is_given(room: &mut ReplyRoom, shape: Shape, told: &Told, close: bool) -> bool {
+    give_reply(&mut EndlessSink, room, shape, told, b"", close).is_ok()
+}
+
+/// Checks the text of each row.
+fn check_rows(rt: &impl Abort, room: &mut ReplyRoom, rows: &[Row<'_>]) {
+    for (shape, told, close, text) in rows {
+        assert!(rt; is_given(room, *shape, told, *close));
+        assert_eq!(rt; room.bytes(), text.as_bytes());
+    }
+}
+
+/// Checks the replies to writes.
+fn check_writes(rt: &impl Abort, room: &mut ReplyRoom, clock: Moment) {
+    let rows = [
         (
             PUT,
             Told::Write(done(1, Found::Missing, clock)),
@@ -113,6 +144,13 @@ fn replies_have_their_texts(rt: HostRuntime) -> Result<(), Fail> {
             false,
             "HTTP/1.1 507 Insufficient Storage\r\nDate: Thu, 01 Jan 1970 00:01:40 GMT\r\nContent-Type: application/json\r\nContent-Length: 36\r\nCache-Control: no-store\r\n\r\n{\"bytes\":65837,\"error\":\"store_full\"}",
         ),
+    ];
+    check_rows(rt, room, &rows);
+}
+
+/// Checks the replies to other calls, and where there is no memory.
+fn check_other_calls(rt: &impl Abort, room: &mut ReplyRoom, clock: Moment) {
+    let rows = [
         (PLAIN, Told::Read(known(5, 4, clock)), false, SAME),
         (HEAD, Told::Read(known(5, 4, clock)), false, SAME),
         (
@@ -127,6 +165,19 @@ fn replies_have_their_texts(rt: HostRuntime) -> Result<(), Fail> {
             true,
             "HTTP/1.1 200 OK\r\nDate: Thu, 01 Jan 1970 00:01:40 GMT\r\nContent-Type: application/json\r\nContent-Length: 35\r\nCache-Control: no-store\r\nConnection: close\r\n\r\n{\"clock\":100,\"commits\":0,\"front\":0}",
         ),
+        (
+            PLAIN,
+            Told::Memory,
+            false,
+            "HTTP/1.1 503 Service Unavailable\r\nContent-Type: application/json\r\nContent-Length: 18\r\nCache-Control: no-store\r\n\r\n{\"error\":\"memory\"}",
+        ),
+    ];
+    check_rows(rt, room, &rows);
+}
+
+/// Checks the replies to what is refused.
+fn check_refusals(rt: &impl Abort, room: &mut ReplyRoom, clock: Moment) {
+    let rows = [
         (
             PLAIN,
             Told::Refusal(Refused::BadMethod(Allow::Record), clock),
@@ -181,50 +232,65 @@ fn replies_have_their_texts(rt: HostRuntime) -> Result<(), Fail> {
             true,
             "HTTP/1.1 501 Not Implemented\r\nDate: Thu, 01 Jan 1970 00:01:40 GMT\r\nContent-Type: application/json\r\nContent-Length: 22\r\nCache-Control: no-store\r\nConnection: close\r\n\r\n{\"error\":\"bad_coding\"}",
         ),
-        (
-            PLAIN,
-            Told::Memory,
-            false,
-            "HTTP/1.1 503 Service Unavailable\r\nContent-Type: application/json\r\nContent-Length: 18\r\nCache-Control: no-store\r\n\r\n{\"error\":\"memory\"}",
-        ),
     ];
-    let mut buffer = ReplyRoom::new(rt.alloc())?;
-    for (shape, told, close, text) in &table {
-        let mut sink = EndlessSink;
-        assert!(rt; give_reply(&mut sink, &mut buffer, *shape, told, b"", *close).is_ok());
-        assert_eq!(rt; buffer.bytes(), text.as_bytes());
-    }
-    Ok(())
+    check_rows(rt, room, &rows);
 }
 
 #[test]
-fn head_is_answered_without_the_body(rt: HostRuntime) -> Result<(), Fail> {
+fn replies_have_their_texts(rt: HostRuntime) -> Result<(), Fail> {
+    let mut room = new_room(rt.alloc())?;
+    check_writes(&rt, &mut room, Moment::of(100));
+    check_other_calls(&rt, &mut room, Moment::of(100));
+    check_refusals(&rt, &mut room, Moment::of(100));
+    Ok(())
+}
+
+/// A document is told.
+fn document(alloc: Global) -> Result<Box<Told>, Memory> {
+    let text = SharedText::of(alloc, b"{\"a\":1}".to_vec(alloc)?)?;
     let told = Told::Read(Answer {
         commit: 1,
         clock: Moment::of(100),
         ttl: 3600,
         result: Outcome::Whole {
-            text: SharedText::of(rt.alloc(), b"{\"a\":1}".to_vec(rt.alloc())?)?,
+            text,
             version: Some(1),
         },
     });
-    let mut buffer = ReplyRoom::new(rt.alloc())?;
-    let mut sink = EndlessSink;
-    assert!(rt; give_reply(&mut sink, &mut buffer, HEAD, &told, b"", false).is_ok());
-    assert_eq!(rt; buffer.bytes(), READ.as_bytes());
-    assert!(rt; give_reply(&mut sink, &mut buffer, PLAIN, &told, b"", false).is_ok());
-    assert_eq!(rt; buffer.bytes().len(), READ.len() + 7);
-    assert_eq!(rt;
-        reply_text(PLAIN, &told, b"", false, &mut buffer),
-        READ.len()
-    );
-    assert_eq!(rt; buffer.bytes(), READ.as_bytes());
-    assert!(rt; write_body(PLAIN, &told, b"", &mut sink).is_ok());
-    Ok(())
+    Ok(Box::new(alloc, told)?)
+}
+
+/// Whether the reply to HEAD is the head alone.
+fn is_head_alone(room: &mut ReplyRoom, told: &Told) -> bool {
+    is_given(room, HEAD, told, false) && room.bytes() == READ.as_bytes()
+}
+
+/// Whether the reply to GET has the body of seven bytes behind it.
+fn is_with_body(room: &mut ReplyRoom, told: &Told) -> bool {
+    is_given(room, PLAIN, told, false) && room.bytes().len() == READ.len() + 7
+}
+
+/// Whether the text of a reply's head is printed without the body.
+fn is_head_printed(room: &mut ReplyRoom, told: &Told) -> bool {
+    reply_text(PLAIN, told, b"", false, room) == READ.len() && room.bytes() == READ.as_bytes()
+}
+
+/// Whether the body could be given.
+fn is_body_given(told: &Told) -> bool {
+    write_body(PLAIN, told, b"", &mut EndlessSink).is_ok()
 }
 
 #[test]
-fn a_head_of_any_status_is_printed(rt: HostRuntime) -> Result<(), Fail> {
+fn head_is_answered_without_the_body(rt: HostRuntime) -> Result<(), Fail> {
+    let mut room = new_room(rt.alloc())?;
+    let told = document(rt.alloc())?;
+    assert!(rt; is_head_alone(&mut room, &told) && is_with_body(&mut room, &told));
+    assert!(rt; is_head_printed(&mut room, &told) && is_body_given(&told));
+    Ok(())
+}
+
+/// Whether the head for an unchanged result has its text.
+fn is_unchanged_printed(room: &mut ReplyRoom) -> bool {
     let unchanged = Head {
         media: None,
         length: None,
@@ -232,22 +298,30 @@ fn a_head_of_any_status_is_printed(rt: HostRuntime) -> Result<(), Fail> {
         ttl: 60,
         ..Head::json(StatusCode::NOT_MODIFIED, 0, false)
     };
-    let mut buffer = ReplyRoom::new(rt.alloc())?;
-    buffer.write_head(&unchanged, Moment::of(100));
-    assert_eq!(rt;
-        buffer.bytes(),
-        b"HTTP/1.1 304 Not Modified\r\nDate: Thu, 01 Jan 1970 00:01:40 GMT\r\nETag: \"1\"\r\nCache-Control: max-age=60\r\n\r\n".as_slice()
-    );
-    let mut parts = Vec::new(rt.alloc());
-    parts.push(Text::of(b"{\"error\":".to_vec(rt.alloc())?))?;
-    parts.push(Text::of(b"\"origin\"}".to_vec(rt.alloc())?))?;
-    let body = Parts { parts };
+    room.write_head(&unchanged, Moment::of(100));
+    room.bytes() == UNCHANGED
+}
+
+/// A body of two parts.
+fn two_parts(alloc: Global) -> Result<Box<Parts>, Memory> {
+    let mut parts = Vec::new(alloc);
+    parts.push(Text::of(b"{\"error\":".to_vec(alloc)?))?;
+    parts.push(Text::of(b"\"origin\"}".to_vec(alloc)?))?;
+    Ok(Box::new(alloc, Parts { parts })?)
+}
+
+/// Whether a reply with a body in parts has the text of its head.
+fn is_given_in_parts(room: &mut ReplyRoom, body: &Parts) -> bool {
     let head = Head::json(StatusCode::BAD_GATEWAY, 18, true);
-    let mut sink = EndlessSink;
-    assert!(rt; give_pieces(&mut sink, &mut buffer, &head, Moment::of(100), &body, false).is_ok());
-    assert_eq!(rt;
-        buffer.bytes(),
-        b"HTTP/1.1 502 Bad Gateway\r\nDate: Thu, 01 Jan 1970 00:01:40 GMT\r\nContent-Type: application/json\r\nContent-Length: 18\r\nCache-Control: no-store\r\nConnection: close\r\n\r\n".as_slice()
-    );
+    give_pieces(&mut EndlessSink, room, &head, Moment::of(100), body, false).is_ok()
+        && room.bytes() == BAD_GATEWAY
+}
+
+#[test]
+fn a_head_of_any_status_is_printed(rt: HostRuntime) -> Result<(), Fail> {
+    let mut room = new_room(rt.alloc())?;
+    assert!(rt; is_unchanged_printed(&mut room));
+    let body = two_parts(rt.alloc())?;
+    assert!(rt; is_given_in_parts(&mut room, &body));
     Ok(())
 }

@@ -1,11 +1,13 @@
 //! Requests and what is none, in pieces of several sizes, at the limits, and where the outside fails.
 ghost use Rattle.std.specs.Prelude.{◌≡◌, ◌<◌};
 
+use crate::asks::new_room;
 use http_message::{FramingRefusal, Request, RequestRoom, Taken, next_request};
 use q_base::Memory;
-use q_outside::{ListSink, ListSource, Script};
+use q_outside::{ListSink, ListSource, Script, Sink, Source};
 use std::alloc::Global;
 use std::marker::Brand;
+use std::process::Abort;
 use std::sync::ledger::{Blank, Ledger};
 use std::test::Fail;
 
@@ -54,19 +56,39 @@ fn report_counted<L: Ledger>(
     requires parts { blank.parts ≡ L.parts }
     requires some { 0 < L.parts }
 {
-    let mut source = ListSource::of(Vec::from_slice(alloc, bytes)?, script_of(alloc, takes)?);
+    let mut source = source_of(alloc, bytes, takes)?;
+    let mut room = new_room(alloc)?;
     let mut sink = ListSink::<L>::new(alloc, 1_000, script_of(alloc, gives)?, blank)?;
-    let mut buffer = RequestRoom::new(alloc)?;
     let mut text = Vec::new(alloc);
+    report_items(alloc, &mut *source, &mut sink, &mut room, &mut text)?;
+    text.extend_from_slice(&sink.bytes)?;
+    Ok(text)
+}
+
+/// A source of these bytes.
+fn source_of(alloc: Global, bytes: &[u8], takes: Way) -> Result<Box<ListSource>, Memory> {
+    let source = ListSource::of(Vec::from_slice(alloc, bytes)?, script_of(alloc, takes)?);
+    Ok(Box::new(alloc, source)?)
+}
+
+/// Adds a line for each item of a source.
+fn report_items<S: Source, K: Sink>(
+    alloc: Global,
+    source: &mut S,
+    sink: &mut K,
+    room: &mut RequestRoom,
+    text: &mut Vec<u8>,
+) -> Result<(), Memory> {
+    room.clear();
     for _turn in 0..9_usize {
-        match next_request(&mut source, &mut sink, &mut buffer) {
-            Taken::Request { place } => report_request(alloc, &mut text, place, &buffer.request())?,
+        match next_request(source, sink, room) {
+            Taken::Request { place } => report_request(alloc, text, place, &room.request())?,
             Taken::Framing {
                 refused,
                 place,
                 head,
             } => {
-                report_refusal(alloc, &mut text, refused, place, head)?;
+                report_refusal(alloc, text, refused, place, head)?;
                 break;
             }
             Taken::InputEnd => {
@@ -87,8 +109,7 @@ fn report_counted<L: Ledger>(
             }
         }
     }
-    text.extend_from_slice(&sink.bytes)?;
-    Ok(text)
+    Ok(())
 }
 
 /// Adds the line of a request.
@@ -127,6 +148,20 @@ fn report_refusal(
         FramingRefusal::BodyTooLarge => "body_too_large",
     };
     text.extend_from_slice(format!(in alloc; "{place} {word} {head}\n")?.as_bytes())?;
+    Ok(())
+}
+
+/// Checks what these bytes are reported as, in pieces of this size.
+fn check_report(
+    rt: &impl Abort,
+    alloc: Global,
+    bytes: &[u8],
+    want: &[u8],
+    size: usize,
+) -> Result<(), Memory> {
+    let text = report(alloc, bytes, by(size), by(size))?;
+    let count = bytes.len();
+    assert_eq!(rt; text.as_slice(), want, "{count} bytes, pieces of {size}");
     Ok(())
 }
 
@@ -289,8 +324,7 @@ fn items_are_those_of_the_bytes_in_whatever_pieces(rt: HostRuntime) -> Result<()
 
     for (bytes, want) in rows {
         for size in SIZES {
-            let text = report(rt.alloc(), bytes, by(size), by(size))?;
-            assert_eq!(rt; text.as_slice(), want, "pieces of {size}");
+            check_report(&rt, rt.alloc(), bytes, want, size)?;
         }
     }
     Ok(())
@@ -338,61 +372,90 @@ fn expected_of(alloc: Global, size: usize) -> Result<Vec<u8>, Memory> {
     Ok(want)
 }
 
+/// Checks what the first bytes are reported as, in pieces of each size.
+fn check_first(rt: &impl Abort, alloc: Global, bytes: &[u8]) -> Result<(), Memory> {
+    let want = expected_of(alloc, bytes.len())?;
+    for piece in SIZES {
+        check_report(rt, alloc, bytes, &want, piece)?;
+    }
+    Ok(())
+}
+
 #[test]
 fn a_stream_ends_behind_each_of_its_bytes(rt: HostRuntime) -> Result<(), Fail> {
     let bytes = script_bytes(rt.alloc())?;
     for size in 0..=bytes.len() {
-        let want = expected_of(rt.alloc(), size)?;
-        for piece in SIZES {
-            let text = report(rt.alloc(), &bytes[..size], by(piece), by(piece))?;
-            assert_eq!(rt;
-                text.as_slice(),
-                want.as_slice(),
-                "{size} bytes, pieces of {piece}"
-            );
-        }
+        check_first(&rt, rt.alloc(), &bytes[..size])?;
     }
+    Ok(())
+}
+
+/// The lines where the source fails behind these first bytes.
+fn expected_of_taken(alloc: Global, taken: usize) -> Result<Vec<u8>, Memory> {
+    let mut want = Vec::new(alloc);
+    if taken >= FIRST.len() {
+        want.extend_from_slice(TOLD[0])?;
+    }
+    if taken >= FIRST.len() + SECOND.len() {
+        want.extend_from_slice(TOLD[1])?;
+    }
+    want.extend_from_slice(b"read fault\n")?;
+    if taken >= FIRST.len() + SECOND_HEAD {
+        want.extend_from_slice(b"HTTP/1.1 100 Continue\r\n\r\n")?;
+    }
+    Ok(want)
+}
+
+/// The lines where the call of this number fails of a source that gives byte by byte.
+fn expected_of_take(alloc: Global, bytes: &[u8], call: u64) -> Result<Vec<u8>, Memory> {
+    let taken = call as usize;
+    if taken > bytes.len() {
+        return expected_of(alloc, bytes.len());
+    }
+    expected_of_taken(alloc, taken)
+}
+
+/// Checks the lines where this call of the source fails.
+fn check_take(rt: &impl Abort, alloc: Global, bytes: &[u8], call: u64) -> Result<(), Memory> {
+    let takes = Way {
+        size: 1,
+        failing: Some(call),
+    };
+    let want = expected_of_take(alloc, bytes, call)?;
+    let text = report(alloc, bytes, takes, by(1))?;
+    assert_eq!(rt; text.as_slice(), want.as_slice(), "take {call}");
+    Ok(())
+}
+
+/// The lines where this call of the sink fails.
+fn expected_of_give(alloc: Global, call: usize) -> Result<Vec<u8>, Memory> {
+    let mut want = Vec::from_slice(alloc, TOLD[0])?;
+    want.extend_from_slice(b"write fault\n")?;
+    let whole = b"HTTP/1.1 100 Continue\r\n\r\n".as_slice();
+    want.extend_from_slice(whole.get(..call).unwrap_or(whole))?;
+    Ok(want)
+}
+
+/// Checks them.
+fn check_give(rt: &impl Abort, alloc: Global, bytes: &[u8], call: u64) -> Result<(), Memory> {
+    let gives = Way {
+        size: 1,
+        failing: Some(call),
+    };
+    let want = expected_of_give(alloc, call as usize)?;
+    let text = report(alloc, bytes, by(7), gives)?;
+    assert_eq!(rt; text.as_slice(), want.as_slice(), "give {call}");
     Ok(())
 }
 
 #[test]
 fn a_source_and_a_sink_fail_at_each_call(rt: HostRuntime) -> Result<(), Fail> {
     let bytes = script_bytes(rt.alloc())?;
-    let whole = expected_of(rt.alloc(), bytes.len())?;
     for call in 0..200 {
-        let takes = Way {
-            size: 1,
-            failing: Some(call),
-        };
-        let text = report(rt.alloc(), &bytes, takes, by(1))?;
-        let taken = call as usize;
-        if taken > bytes.len() {
-            assert_eq!(rt; text.as_slice(), whole.as_slice(), "take {call}");
-            continue;
-        }
-        let mut want = Vec::new(rt.alloc());
-        if taken >= FIRST.len() {
-            want.extend_from_slice(TOLD[0])?;
-        }
-        if taken >= FIRST.len() + SECOND.len() {
-            want.extend_from_slice(TOLD[1])?;
-        }
-        want.extend_from_slice(b"read fault\n")?;
-        if taken >= FIRST.len() + SECOND_HEAD {
-            want.extend_from_slice(b"HTTP/1.1 100 Continue\r\n\r\n")?;
-        }
-        assert_eq!(rt; text.as_slice(), want.as_slice(), "take {call}");
+        check_take(&rt, rt.alloc(), &bytes, call)?;
     }
     for call in 0..25 {
-        let gives = Way {
-            size: 1,
-            failing: Some(call),
-        };
-        let text = report(rt.alloc(), &bytes, by(7), gives)?;
-        let mut want = Vec::from_slice(rt.alloc(), TOLD[0])?;
-        want.extend_from_slice(b"write fault\n")?;
-        want.extend_from_slice(&b"HTTP/1.1 100 Continue\r\n\r\n"[..call as usize])?;
-        assert_eq!(rt; text.as_slice(), want.as_slice(), "give {call}");
+        check_give(&rt, rt.alloc(), &bytes, call)?;
     }
     Ok(())
 }
@@ -465,29 +528,74 @@ fn begins(alloc: Global, bytes: &[u8], want: &[u8]) -> Result<bool, Memory> {
     Ok(true)
 }
 
+/// Whether the lines of such a head begin with this.
+fn head_begins(alloc: Global, blank: usize, size: usize, want: &[u8]) -> Result<bool, Memory> {
+    let bytes = long_head(alloc, blank, size)?;
+    begins(alloc, &bytes, want)
+}
+
+/// The same of so many line feeds alone.
+fn blank_begins(alloc: Global, count: usize, want: &[u8]) -> Result<bool, Memory> {
+    let bytes = vec![in alloc; b'\n'; count]?;
+    begins(alloc, &bytes, want)
+}
+
+/// The same of a head with so many fields.
+fn wide_begins(alloc: Global, fields: usize, want: &[u8]) -> Result<bool, Memory> {
+    let bytes = wide_head(alloc, fields)?;
+    begins(alloc, &bytes, want)
+}
+
+/// The same of a request whose body has so many bytes as its head says.
+fn sized_begins(alloc: Global, want: &[u8]) -> Result<bool, Memory> {
+    let mut sized = Vec::from_slice(alloc, b"PUT /a HTTP/1.1\nContent-Length: 65536\n\n")?;
+    fill(&mut sized, b'x', 65_536)?;
+    begins(alloc, &sized, want)
+}
+
 #[test]
 fn limits_are_kept_at_their_edge_and_one_above(rt: HostRuntime) -> Result<(), Fail> {
     let alloc = rt.alloc();
     let request = b"0 GET /a 1 1 false: \nend\n".as_slice();
     let large = b"0 head_too_large false\n".as_slice();
-    assert!(rt; begins(alloc, &long_head(alloc, 0, 16_384)?, request)?);
-    assert!(rt; begins(alloc, &long_head(alloc, 0, 16_385)?, large)?);
-    assert!(rt; begins(alloc, &long_head(alloc, 9, 16_384)?, request)?);
-    assert!(rt; begins(alloc, &long_head(alloc, 9, 16_385)?, large)?);
-    assert!(rt; begins(alloc, &vec![in alloc; b'\n'; 16_383]?, b"end\n")?);
-    assert!(rt; begins(alloc, &vec![in alloc; b'\n'; 16_384]?, large)?);
-    assert!(rt;
-        begins(
-            alloc,
-            &wide_head(alloc, 64)?,
-            b"0 GET /a 1 64 false: \nend\n"
-        )?
-    );
-    assert!(rt; begins(alloc, &wide_head(alloc, 65)?, large)?);
-    let mut sized = Vec::from_slice(alloc, b"PUT /a HTTP/1.1\nContent-Length: 65536\n\n")?;
-    fill(&mut sized, b'x', 65_536)?;
-    assert!(rt; begins(alloc, &sized, b"0 PUT /a 1 1 false: xxx")?);
+    assert!(rt; head_begins(alloc, 0, 16_384, request)?);
+    assert!(rt; head_begins(alloc, 0, 16_385, large)?);
+    assert!(rt; head_begins(alloc, 9, 16_384, request)?);
+    assert!(rt; head_begins(alloc, 9, 16_385, large)?);
+    assert!(rt; blank_begins(alloc, 16_383, b"end\n")?);
+    assert!(rt; blank_begins(alloc, 16_384, large)?);
+    assert!(rt; wide_begins(alloc, 64, b"0 GET /a 1 64 false: \nend\n")?);
+    assert!(rt; wide_begins(alloc, 65, large)?);
+    assert!(rt; sized_begins(alloc, b"0 PUT /a 1 1 false: xxx")?);
     Ok(())
+}
+
+/// A request with two chunks, which have as many bytes as a body may have, and what comes behind them.
+fn full_chunks(alloc: Global, last: &[u8]) -> Result<Vec<u8>, Memory> {
+    let mut chunked = Vec::from_slice(alloc, CHUNKED)?;
+    chunked.extend_from_slice(b"ffff\r\n")?;
+    fill(&mut chunked, b'x', 65_535)?;
+    chunked.extend_from_slice(b"\r\n1\r\nx\r\n")?;
+    chunked.extend_from_slice(last)?;
+    Ok(chunked)
+}
+
+/// Whether its lines begin with this.
+fn chunks_begin(alloc: Global, last: &[u8], want: &[u8]) -> Result<bool, Memory> {
+    let bytes = full_chunks(alloc, last)?;
+    begins(alloc, &bytes, want)
+}
+
+/// The same of a request with chunk lines of these lengths.
+fn coding_begins(alloc: Global, lines: usize, last: usize, want: &[u8]) -> Result<bool, Memory> {
+    let bytes = long_coding(alloc, lines, last)?;
+    begins(alloc, &bytes, want)
+}
+
+/// The same of a request with trailers of this length.
+fn trailers_begin(alloc: Global, size: usize, want: &[u8]) -> Result<bool, Memory> {
+    let bytes = long_trailers(alloc, size)?;
+    begins(alloc, &bytes, want)
 }
 
 #[test]
@@ -495,38 +603,13 @@ fn limits_of_chunks_are_kept_at_their_edge_and_one_above(rt: HostRuntime) -> Res
     let alloc = rt.alloc();
     let large = b"0 body_too_large false\n".as_slice();
     let bad = b"0 bad_length false\n".as_slice();
-    let mut chunked = Vec::from_slice(alloc, CHUNKED)?;
-    chunked.extend_from_slice(b"ffff\r\n")?;
-    fill(&mut chunked, b'x', 65_535)?;
-    chunked.extend_from_slice(b"\r\n1\r\nx\r\n")?;
-    let mut above = Vec::from_slice(alloc, &chunked)?;
-    chunked.extend_from_slice(b"0\r\n\r\n")?;
-    above.extend_from_slice(b"1\r\n")?;
-    assert!(rt; begins(alloc, &chunked, b"0 PUT /a 1 1 false: xxx")?);
-    assert!(rt; begins(alloc, &above, large)?);
-    assert!(rt;
-        begins(
-            alloc,
-            &long_coding(alloc, 0, 4_096)?,
-            b"0 PUT /a 1 1 false: x\n"
-        )?
-    );
-    assert!(rt; begins(alloc, &long_coding(alloc, 0, 4_097)?, bad)?);
-    assert!(rt;
-        begins(
-            alloc,
-            &long_trailers(alloc, 4_096)?,
-            b"0 PUT /a 1 1 false: \nend\n"
-        )?
-    );
-    assert!(rt; begins(alloc, &long_trailers(alloc, 4_097)?, bad)?);
-    assert!(rt;
-        begins(
-            alloc,
-            &long_coding(alloc, 127, 3_707)?,
-            b"0 PUT /a 1 1 false: xxx"
-        )?
-    );
-    assert!(rt; begins(alloc, &long_coding(alloc, 127, 3_708)?, large)?);
+    assert!(rt; chunks_begin(alloc, b"0\r\n\r\n", b"0 PUT /a 1 1 false: xxx")?);
+    assert!(rt; chunks_begin(alloc, b"1\r\n", large)?);
+    assert!(rt; coding_begins(alloc, 0, 4_096, b"0 PUT /a 1 1 false: x\n")?);
+    assert!(rt; coding_begins(alloc, 0, 4_097, bad)?);
+    assert!(rt; trailers_begin(alloc, 4_096, b"0 PUT /a 1 1 false: \nend\n")?);
+    assert!(rt; trailers_begin(alloc, 4_097, bad)?);
+    assert!(rt; coding_begins(alloc, 127, 3_707, b"0 PUT /a 1 1 false: xxx")?);
+    assert!(rt; coding_begins(alloc, 127, 3_708, large)?);
     Ok(())
 }

@@ -1,21 +1,29 @@
 -- The steps of the hub's calls.
-use Rattle.std.proofs.Common.{◌≡◌, ℕ, ◌+◌, ◌-◌, ◌<◌, ◌≤◌, Bool, Option, max, nat_lt, List, [], ◌∷◌, ◌++◌, length, slice_index_or, All, if◌then◌else◌, refl, sym, ap, ap₂, ◌∙◌, subst, arith, inl, Some, length-append}
+use Rattle.std.proofs.Common.{◌≡◌, ℕ, ◌+◌, ◌-◌, ◌<◌, ◌≤◌, Bool, true, false, ◌&&◌, ◌||◌, Option, option_map, map, max, nat_lt, List, [], ◌∷◌, ◌++◌, length, slice_index_or, All, if◌then◌else◌, refl, sym, ap, ap₂, ◌∙◌, subst, arith, inl, Some, length-append}
 use Rattle.std.proofs.lemmas.Bool.{le-leb, lt-leb}
-use Rattle.std.specs.List.{list_any}
-use Rattle.std.specs.List.Sorted.{IsPermutation}
+use Rattle.std.specs.List.{list_any, IsDistinct}
+use Rattle.std.specs.List.Sorted.{IsPermutation, IsSorted}
 use Rattle.query_normal.specs.Bits.{flat_bits}
-use Rattle.query_normal.specs.Keys.{same_key}
+use Rattle.query_normal.specs.Keys.{key_text, same_key}
 use Rattle.query_normal.specs.declared.key.KeyShape.{KeyShape}
-use Rattle.issued_expiries.specs.Copies.{Copy, latest_where, SameCopies}
+use Rattle.issued_expiries.specs.Copies.{Copy, latest_where, is_active, SameCopies}
+use Rattle.ttl_estimator.specs.Estimates.{Entries, after_purge, is_known, kept_of}
+use Rattle.ttl_estimator.specs.Estimator.{Estimated}
+use Rattle.ttl_estimator.specs.Records.{ExtendsAll, Names, clocks_of}
+use Rattle.purge_list.specs.Purged.{text_cmp}
 use Rattle.flat_snapshot.specs.PageText.{page_with}
 use Rattle.commit_book.specs.Contents.{Contents, with_commit}
 use Rattle.commit_book.specs.Names.{AreNamesOf}
 use Rattle.commit_book.specs.declared.change.Change.{Change}
 use Rattle.hub_model.specs.Record.{is_recorded, record_of, bits_of, page_of}
 use Rattle.hub_model.specs.Setting.{Setting}
-use Rattle.hub_model.specs.State.{State, at_moment}
-use Rattle.hub_model.specs.Step.{has_read}
+use Rattle.hub_model.specs.State.{State, start, at_moment}
+use Rattle.hub_model.specs.Lifetime.{limits_of, ttl_of}
+use Rattle.hub_model.specs.Step.{has_read, has_matched, with_change}
 use Rattle.hub_model.specs.Until.{until_of_outdated}
+use Rattle.hub_model.specs.Purge.{is_purged}
+use Rattle.hub_model.proofs.Kept.{kept-matched}
+use Rattle.hub_model.proofs.Purged.{purged-texts}
 use Rattle.hub_model.proofs.Recorded.{record-permutes, bits-permute}
 use Rattle.hub_model.proofs.Untils.{recorded_until}
 use Rattle.hub_core.specs.declared.invalidations.Invalidation.{Invalidation}
@@ -23,13 +31,16 @@ use Rattle.hub_core.specs.Invalidations.{AreInvalidationsOf, invalidated_until}
 use Rattle.hub_model.specs.declared.entry.Entry.TheVariants.{Match}
 use Rattle.hub_model.specs.Legal.{most_unmatched}
 use Rattle.active_queries.specs.Following.{Following, AreFollowing}
-use Rattle.hub_core.specs.ActiveQueries.{KeepsQueries, StayKept}
-use Rattle.hub_core.specs.HubState.{HubView, IsAt, IsLeanCopies, IsSoundHub, help_of, hub_of}
+use Rattle.hub_core.specs.declared.lifetimes.Lifetimes.{Lifetimes}
+use Rattle.hub_core.specs.ActiveQueries.{is_query, KeepsQueries, StayKept}
+use Rattle.hub_core.specs.HubState.{HubView, HasCopies, HasEstimates, HasWrites, IsAt, IsLeanCopies, IsSoundHub, help_of, hub_of}
+use Rattle.hub_core.specs.Lifetimes.{Drops, KeepsLifetimes, went_idle}
+use Rattle.hub_core.proofs.LifeLemmas.{estimates-passed, lifetimes-longer, lifetimes-passed, lifetimes-records, writes-extended}
 use Rattle.hub_core.proofs.KeepLemmas.{keeps-written}
-use Rattle.hub_core.specs.CopiesView.{CopiesView, Passes, lifetime, invalidated_keys, until_in, AreInvalidated, IsInvalidationReserved, CanInvalidate}
+use Rattle.hub_core.specs.CopiesView.{CopiesView, Passes, invalidated_keys, until_in, AreInvalidated, IsInvalidationReserved, CanInvalidate}
 use Rattle.hub_core.proofs.IssueLemmas.{active-later}
 use Rattle.hub_core.proofs.MatchLemmas.{invalidations-raise}
-use Rattle.hub_core.proofs.StateLemmas.{time-moved, copies-later, invalidations-later, invalidations-written, copies-read, invalidations-read, lifetime-at}
+use Rattle.hub_core.proofs.StateLemmas.{time-moved, copies-later, invalidations-later, invalidations-written, copies-read, invalidations-read}
 
 -- the clock leaves the configuration
 pub setting-passed : (h new : CopiesView) (moment : ℕ) → Passes moment h new → new.setting ≡ h.setting
@@ -45,42 +56,74 @@ reserved-later invalidations h new moment reserved passes k d low = λ active.
 pub recorded-at : (h : HubView) (s : State) (key : KeyShape) → IsAt h s → nat_lt h.clock (until_in h.outdated key) ≡ is_recorded s key
 recorded-at h s key at = ap₂ nat_lt at.time.clock (at.invalidations key) ∙ sym (recorded_until s key)
 
+-- an active query alone has an entry for its estimate, where nothing is idle or reserved
+pub estimates-lean : (journal : List Change) (front : ℕ) (h : CopiesView) (l : Lifetimes) → h.idle ≡ [] → h.ready ≡ [] → KeepsLifetimes journal front h l → (key : KeyShape) → is_known l.estimator.keys key ≡ (is_query key && is_active h.copies key)
+estimates-lean journal front h l idle ready keeps key =
+    keeps.estimates key
+    ∙ ap₂ (λ (xs ys : List KeyShape). is_query key && ((is_active h.copies key || list_any (same_key key) xs) || list_any (same_key key) ys)) idle ready
+    ∙ ap (λ (b : Bool). is_query key && b) (or_false (is_active h.copies key || false) ∙ or_false (is_active h.copies key))
+  where
+    or_false : (b : Bool) → (b || false) ≡ b
+    or_false true = refl
+    or_false false = refl
+
 -- the parts of a hub still belong together when the clock has moved
-pub sound-passed : (book : Contents) (front : ℕ) (h new : CopiesView) (before after : List (KeyShape × Following)) (moment : ℕ) → IsSoundHub book front h before → Passes moment h new → new.idle ≡ [] → StayKept h before new after → IsSoundHub book front new after
-sound-passed book front h new before after moment sound passes idle kept = record {
-  within = sound.within;
-  capacity = sound.capacity ∙ ap (λ (x : Setting). x.capacity) (sym (setting-passed h new moment passes));
-  lean = record {
-    change = sound.lean.change;
-    names = sound.lean.names;
-    idle = idle;
-    ready = ap (λ (x : CopiesView). x.ready) passes.rest ∙ sound.lean.ready;
-    invalidatable = ap (λ (x : CopiesView). x.invalidatable) passes.rest ∙ sound.lean.invalidatable;
-  };
-  queries = kept book.journal front sound.queries;
-}
+pub sound-passed : (book : Contents) (front : ℕ) (h new : CopiesView) (before after : List (KeyShape × Following)) (l later : Lifetimes) (moment : ℕ) → IsSoundHub book front h before l → Passes moment h new → new.idle ≡ [] → StayKept h before new after → Drops (went_idle h new) l later → IsSoundHub book front new after later
+sound-passed book front h new before after l later moment sound passes idle kept drops =
+    let ready : new.ready ≡ [] = ap (λ (x : CopiesView). x.ready) passes.rest ∙ sound.lean.ready in
+    let keeps = lifetimes-passed h new moment passes sound.lean.idle book.journal front l later sound.lean.ready idle sound.lifetimes drops in
+    record {
+      within = sound.within;
+      capacity = sound.capacity ∙ ap (λ (x : Setting). x.capacity) (sym (setting-passed h new moment passes));
+      lean = record {
+        change = sound.lean.change;
+        names = sound.lean.names;
+        idle = idle;
+        ready = ready;
+        invalidatable = ap (λ (x : CopiesView). x.invalidatable) passes.rest ∙ sound.lean.invalidatable;
+        estimates = estimates-lean book.journal front new later idle ready keeps;
+      };
+      queries = kept book.journal front sound.queries;
+      lifetimes = keeps;
+    }
 
 -- and when the queries have followed
-pub sound-followed : (book : Contents) (front : ℕ) (h : CopiesView) (before after : List (KeyShape × Following)) → IsSoundHub book front h before → KeepsQueries book.journal front h.copies h.idle after → IsSoundHub book front h after
-sound-followed book front h before after sound keeps = record { within = sound.within; capacity = sound.capacity; lean = sound.lean; queries = keeps }
+pub sound-followed : (book : Contents) (front : ℕ) (h : CopiesView) (before after : List (KeyShape × Following)) (l : Lifetimes) → IsSoundHub book front h before l → KeepsQueries book.journal front h.copies h.idle after → IsSoundHub book front h after l
+sound-followed book front h before after l sound keeps = record { within = sound.within; capacity = sound.capacity; lean = sound.lean; queries = keeps; lifetimes = sound.lifetimes }
 
 -- and when a copy was issued
-pub sound-read : (book : Contents) (front : ℕ) (h new : CopiesView) (before after : List (KeyShape × Following)) → IsSoundHub book front h before → KeepsQueries book.journal front new.copies new.idle after → new.setting ≡ h.setting → new.idle ≡ [] → new.ready ≡ [] → new.invalidatable ≡ h.invalidatable → IsSoundHub book front new after
-sound-read book front h new before after sound keeps setting idle ready invalidatable = record {
+pub sound-read : (book : Contents) (front : ℕ) (h new : CopiesView) (before after : List (KeyShape × Following)) (l later : Lifetimes) → IsSoundHub book front h before l → KeepsQueries book.journal front new.copies new.idle after → KeepsLifetimes book.journal front new later → new.setting ≡ h.setting → new.idle ≡ [] → new.ready ≡ [] → new.invalidatable ≡ h.invalidatable → IsSoundHub book front new after later
+sound-read book front h new before after l later sound keeps lives setting idle ready invalidatable = record {
   within = sound.within;
   capacity = sound.capacity ∙ ap (λ (x : Setting). x.capacity) (sym setting);
-  lean = record { change = sound.lean.change; names = sound.lean.names; idle = idle; ready = ready; invalidatable = invalidatable ∙ sound.lean.invalidatable };
+  lean = record { change = sound.lean.change; names = sound.lean.names; idle = idle; ready = ready; invalidatable = invalidatable ∙ sound.lean.invalidatable; estimates = estimates-lean book.journal front new later idle ready lives };
   queries = keeps;
+  lifetimes = lives;
+}
+
+-- and when commits were matched, or could not be
+pub sound-matched : (book : Contents) (front later : ℕ) (h new : CopiesView) (before after : List (KeyShape × Following)) (l made : Lifetimes) → IsSoundHub book front h before l → later ≤ length book.journal → KeepsQueries book.journal later new.copies new.idle after → KeepsLifetimes book.journal later new made → new.setting ≡ h.setting → IsLeanCopies new → IsSoundHub book later new after made
+sound-matched book front later h new before after l made sound within keeps lives setting lean = record {
+  within = within;
+  capacity = sound.capacity ∙ ap (λ (x : Setting). x.capacity) (sym setting);
+  lean = record { change = sound.lean.change; names = sound.lean.names; idle = lean.idle; ready = lean.ready; invalidatable = lean.invalidatable; estimates = estimates-lean book.journal later new made lean.idle lean.ready lives };
+  queries = keeps;
+  lifetimes = lives;
 }
 
 -- and when a change was added
-pub sound-written : (book reserved more : Contents) (front later : ℕ) (h moved new : CopiesView) (before mid after : List (KeyShape × Following)) (change : Change) (moment : ℕ) → IsSoundHub book front h before → reserved ≡ record book { reserved = Some change } →
-    later ≤ length reserved.journal → IsLeanCopies moved → moved.setting ≡ h.setting → KeepsQueries reserved.journal later moved.copies moved.idle mid → Passes moment moved new → new.idle ≡ [] → StayKept moved mid new after →
-    more ≡ with_commit reserved change more.names → AreNamesOf more.journal more.names → ((journal longer : List Change) (entries : List (KeyShape × Following)) → AreFollowing journal entries → AreFollowing (journal ++ longer) entries) → IsSoundHub more later new after
-sound-written book reserved more front later h moved new before mid after change moment sound reserved_is within lean setting keeps passes idle kept more_is names longer =
+pub sound-written : (book reserved more : Contents) (front later : ℕ) (h moved new : CopiesView) (before mid after : List (KeyShape × Following)) (l made left : Lifetimes) (noted : Estimated) (change : Change) (moment : ℕ) → IsSoundHub book front h before l → reserved ≡ record book { reserved = Some change } →
+    later ≤ length reserved.journal → IsLeanCopies moved → moved.setting ≡ h.setting → KeepsQueries reserved.journal later moved.copies moved.idle mid → KeepsLifetimes reserved.journal later moved made → Passes moment moved new → new.idle ≡ [] → StayKept moved mid new after → Drops (went_idle moved new) made left →
+    noted ≡ record left.estimator { records = noted.records } →
+    more ≡ with_commit reserved change more.names → AreNamesOf more.journal more.names → ((journal longer : List Change) (entries : List (KeyShape × Following)) → AreFollowing journal entries → AreFollowing (journal ++ longer) entries) → IsSoundHub more later new after (record left { estimator = noted })
+sound-written book reserved more front later h moved new before mid after l made left noted change moment sound reserved_is within lean setting keeps lives passes idle kept drops noted_is more_is names longer =
     let journal : more.journal ≡ reserved.journal ++ change ∷ [] = ap (λ (b : Contents). b.journal) more_is in
     let passed = kept reserved.journal later keeps in
     let size : length more.journal ≡ length reserved.journal + 1 = ap length journal ∙ length-append reserved.journal (change ∷ []) in
+    let ready : new.ready ≡ [] = ap (λ (x : CopiesView). x.ready) passes.rest ∙ lean.ready in
+    let stayed : KeepsLifetimes reserved.journal later new left = lifetimes-passed moved new moment passes lean.idle reserved.journal later made left lean.ready idle lives drops in
+    let grown : KeepsLifetimes more.journal later new left = subst (λ (xs : List Change). KeepsLifetimes xs later new left) (sym journal) (lifetimes-longer reserved.journal (change ∷ []) later new left within stayed) in
+    let life : KeepsLifetimes more.journal later new (record left { estimator = noted }) = subst (λ (e : Estimated). KeepsLifetimes more.journal later new (record left { estimator = e })) (sym noted_is) (lifetimes-records more.journal later new left noted.records grown) in
     record {
       within = omega (arith, within, size);
       capacity =
@@ -90,11 +133,25 @@ sound-written book reserved more front later h moved new before mid after change
         change = ap (λ (b : Contents). b.reserved) more_is;
         names = names;
         idle = idle;
-        ready = ap (λ (x : CopiesView). x.ready) passes.rest ∙ lean.ready;
+        ready = ready;
         invalidatable = ap (λ (x : CopiesView). x.invalidatable) passes.rest ∙ lean.invalidatable;
+        estimates = estimates-lean more.journal later new (record left { estimator = noted }) idle ready life;
       };
       queries = keeps-written reserved.journal later new.copies new.idle after passed more.journal (subst (λ (xs : List Change). AreFollowing xs after) (sym journal) (longer reserved.journal (change ∷ []) after passed.following));
+      lifetimes = life;
     }
+
+-- a hub of nothing has come to the first state
+pub hub-begins : (book : Contents) (h : CopiesView) (l : Lifetimes) → book.journal ≡ [] → h.clock ≡ 0 → h.copies ≡ [] → h.outdated ≡ [] → l.estimator.records ≡ [] → l.estimator.keys ≡ [] → l.purges.texts ≡ [] → IsAt (hub_of book 0 h l) start
+hub-begins book h l journal clock copies outdated records keys texts = record {
+  time = record { clock = clock; front = refl };
+  book = record { commits = ap length journal; rows = journal };
+  copies = λ key test. ap (latest_where key test) copies;
+  invalidations = λ key. ap (λ (xs : List (KeyShape × ℕ)). until_in xs key) outdated;
+  writes = λ collection id. ap (λ (xs : Names). clocks_of xs collection id) records;
+  estimates = λ key query. ap (λ (xs : Entries). kept_of xs key) keys;
+  purges = texts;
+}
 
 -- as many commits come after the front as may
 pub help-full : (s : State) (moment front commits : ℕ) → front ≡ s.front → commits ≡ length s.journal → most_unmatched ≤ commits - front → help_of s moment ≡ Match moment commits ∷ []
@@ -108,39 +165,67 @@ help-none s moment front commits front_is commits_is few within =
     ap (λ (b : Bool). if b then Match moment (length s.journal) ∷ [] else []) (lt-leb (s.front + most_unmatched) (length s.journal) (omega (arith, few, front_is, commits_is, within)))
 
 -- of a hub that has come to a state
-module _ (book : Contents) (front : ℕ) (h : CopiesView) (s : State) (is : IsAt (hub_of book front h) s) where
+module _ (book : Contents) (front : ℕ) (h : CopiesView) (l : Lifetimes) (s : State) (is : IsAt (hub_of book front h l) s) where
   -- other reserved memory changes nothing
-  pub at-ready : (new : CopiesView) → new ≡ record h { ready = new.ready } → IsAt (hub_of book front new) s
+  pub at-ready : (new : CopiesView) → new ≡ record h { ready = new.ready } → IsAt (hub_of book front new l) s
   at-ready new same =
-      subst (λ (x : CopiesView). IsAt (hub_of book front x) s) (sym same) (record { time = is.time; book = is.book; copies = is.copies; invalidations = is.invalidations })
+      subst (λ (x : CopiesView). IsAt (hub_of book front x l) s) (sym same) (record { time = is.time; book = is.book; copies = is.copies; invalidations = is.invalidations; writes = is.writes; estimates = is.estimates; purges = is.purges })
 
-  pub at-invalidatable : (new : CopiesView) (keys : List KeyShape) → new ≡ record h { invalidatable = keys } → IsAt (hub_of book front new) s
+  pub at-invalidatable : (new : CopiesView) (keys : List KeyShape) → new ≡ record h { invalidatable = keys } → IsAt (hub_of book front new l) s
   at-invalidatable new keys same =
-      subst (λ (x : CopiesView). IsAt (hub_of book front x) s) (sym same) (record { time = is.time; book = is.book; copies = is.copies; invalidations = is.invalidations })
+      subst (λ (x : CopiesView). IsAt (hub_of book front x l) s) (sym same) (record { time = is.time; book = is.book; copies = is.copies; invalidations = is.invalidations; writes = is.writes; estimates = is.estimates; purges = is.purges })
 
-  pub at-idle : (new : CopiesView) (keys : List KeyShape) → new ≡ record h { idle = keys } → IsAt (hub_of book front new) s
+  pub at-idle : (new : CopiesView) (keys : List KeyShape) → new ≡ record h { idle = keys } → IsAt (hub_of book front new l) s
   at-idle new keys same =
-      subst (λ (x : CopiesView). IsAt (hub_of book front x) s) (sym same) (record { time = is.time; book = is.book; copies = is.copies; invalidations = is.invalidations })
+      subst (λ (x : CopiesView). IsAt (hub_of book front x l) s) (sym same) (record { time = is.time; book = is.book; copies = is.copies; invalidations = is.invalidations; writes = is.writes; estimates = is.estimates; purges = is.purges })
 
   -- with another change for which memory is reserved
-  pub at-reserved : (more : Contents) (change : Option Change) → more ≡ record book { reserved = change } → IsAt (hub_of more front h) s
+  pub at-reserved : (more : Contents) (change : Option Change) → more ≡ record book { reserved = change } → IsAt (hub_of more front h l) s
   at-reserved more change same =
-      subst (λ (b : Contents). IsAt (hub_of b front h) s) (sym same) (record { time = is.time; book = is.book; copies = is.copies; invalidations = is.invalidations })
+      subst (λ (b : Contents). IsAt (hub_of b front h l) s) (sym same) (record { time = is.time; book = is.book; copies = is.copies; invalidations = is.invalidations; writes = is.writes; estimates = is.estimates; purges = is.purges })
+
+  -- with further entries for writes, and as many for estimates
+  pub at-estimator : (later : Lifetimes) → ExtendsAll l.estimator.records later.estimator.records → ((key : KeyShape) → kept_of later.estimator.keys key ≡ kept_of l.estimator.keys key) → later.purges.texts ≡ l.purges.texts → IsAt (hub_of book front h later) s
+  at-estimator later records keys texts = record {
+    time = is.time;
+    book = is.book;
+    copies = is.copies;
+    invalidations = is.invalidations;
+    writes = writes-extended l.estimator.records later.estimator.records s records is.writes;
+    estimates = λ key query. keys key ∙ is.estimates key query;
+    purges = texts ∙ is.purges;
+  }
+
+  -- with an entry for an estimate more
+  pub at-estimates : (estimator : Estimated) → estimator ≡ record l.estimator { keys = estimator.keys } → ((key : KeyShape) → kept_of estimator.keys key ≡ kept_of l.estimator.keys key) → IsAt (hub_of book front h (record l { estimator = estimator })) s
+  at-estimates estimator same kept = record {
+    time = is.time;
+    book = is.book;
+    copies = is.copies;
+    invalidations = is.invalidations;
+    writes = λ collection id. ap (λ (e : Estimated). clocks_of e.records collection id) same ∙ is.writes collection id;
+    estimates = λ key query. kept key ∙ is.estimates key query;
+    purges = is.purges;
+  }
 
   -- when the clock moves
-  pub hub-passed : (new : CopiesView) (moment : ℕ) → Passes moment h new → IsAt (hub_of book front new) (at_moment s moment)
-  hub-passed new moment passes =
+  pub hub-passed : (new : CopiesView) (later : Lifetimes) (moment : ℕ) → h.idle ≡ [] → Passes moment h new → Drops (went_idle h new) l later → IsAt (hub_of book front new later) (at_moment s moment)
+  hub-passed new later moment idle passes drops =
       let now : new.clock ≡ max s.clock moment = passes.clock ∙ ap (λ (n : ℕ). max n moment) is.time.clock in
+      let copies : HasCopies new.copies (at_moment s moment) = copies-later h.copies new.copies new.clock moment s is.copies passes.copies now in
       record {
         time = time-moved h.clock front new.clock moment s is.time passes.clock;
         book = record { commits = is.book.commits; rows = is.book.rows };
-        copies = copies-later h.copies new.copies new.clock moment s is.copies passes.copies now;
+        copies = copies;
         invalidations = invalidations-later h.outdated new.outdated new.clock moment s is.invalidations passes.outdated now;
+        writes = λ collection id. ap (λ (x : Lifetimes). clocks_of x.estimator.records collection id) drops.rest ∙ is.writes collection id;
+        estimates = estimates-passed h new moment passes idle l.estimator.keys later.estimator.keys s is.copies copies is.estimates drops.kept;
+        purges = ap (λ (x : Lifetimes). x.purges.texts) drops.rest ∙ is.purges;
       }
 
   -- with a further commit
-  pub hub-written : (more : Contents) (change : Change) → front ≤ length book.journal → more.journal ≡ book.journal ++ change ∷ [] → IsAt (hub_of more front h) (record s { journal = s.journal ++ change ∷ [] })
-  hub-written more change within longer =
+  pub hub-written : (more : Contents) (change : Change) (noted : Estimated) → front ≤ length book.journal → more.journal ≡ book.journal ++ change ∷ [] → HasWrites noted.records (with_change change s) → noted.keys ≡ l.estimator.keys → IsAt (hub_of more front h (record l { estimator = noted })) (with_change change s)
+  hub-written more change noted within longer writes keys =
       let rows : more.journal ≡ s.journal ++ change ∷ [] = longer ∙ ap (λ (xs : List Change). xs ++ change ∷ []) is.book.rows in
       let low : s.front ≤ length s.journal = subst (λ (n : ℕ). n ≤ length s.journal) is.time.front (subst (λ (n : ℕ). front ≤ n) is.book.commits within) in
       record {
@@ -148,21 +233,38 @@ module _ (book : Contents) (front : ℕ) (h : CopiesView) (s : State) (is : IsAt
         book = record { commits = ap length rows; rows = rows };
         copies = is.copies;
         invalidations = invalidations-written h.outdated change s is.invalidations low;
+        writes = writes;
+        estimates = λ key query. ap (λ (es : Entries). kept_of es key) keys ∙ is.estimates key query;
+        purges = is.purges;
       }
 
-  -- with the copy of a read
-  pub hub-read : (new : CopiesView) (key : KeyShape) (g : Setting) (at ttl : ℕ) → front ≤ at → h.setting ≡ g → ttl ≡ lifetime h key → SameCopies new.copies (if nat_lt 0 ttl then (key, at, h.clock + ttl) ∷ h.copies else h.copies) → new.clock ≡ h.clock → new.outdated ≡ h.outdated → IsAt (hub_of book front new) (has_read g key at s)
-  hub-read new key g at ttl within setting ttl_is copies clock outdated = record {
-    time = record { clock = clock ∙ is.time.clock; front = is.time.front };
-    book = record { commits = is.book.commits; rows = is.book.rows };
-    copies = copies-read g h.copies new.copies key at ttl h.clock s is.copies is.time.clock (ttl_is ∙ lifetime-at h s key g at is.copies setting) copies;
-    invalidations = λ other. ap (λ (xs : List (KeyShape × ℕ)). until_in xs other) outdated ∙ invalidations-read g h.outdated key at s is.invalidations (subst (λ (n : ℕ). n ≤ at) is.time.front within) other;
-  }
+  -- with the copy of a read, when the clock has moved, and with whichever estimates the state has then
+  pub hub-read : (moved issued new : CopiesView) (later : Lifetimes) (key : KeyShape) (g : Setting) (at ttl moment : ℕ) → Passes moment h moved → front ≤ at → ttl ≡ ttl_of g (at_moment s moment) key at →
+      SameCopies issued.copies (if nat_lt 0 ttl then (key, at, moved.clock + ttl) ∷ moved.copies else moved.copies) → issued.clock ≡ moved.clock → issued.outdated ≡ moved.outdated → new ≡ record issued { idle = [] } →
+      later.estimator.records ≡ l.estimator.records → later.purges.texts ≡ l.purges.texts → HasEstimates later.estimator.keys (has_read g key at (at_moment s moment)) → IsAt (hub_of book front new later) (has_read g key at (at_moment s moment))
+  hub-read moved issued new later key g at ttl moment passes within life copies clock outdated new_is records texts estimates =
+      let now : moved.clock ≡ max s.clock moment = passes.clock ∙ ap (λ (n : ℕ). max n moment) is.time.clock in
+      let were = copies-later h.copies moved.copies moved.clock moment s is.copies passes.copies now in
+      let invalidated = invalidations-later h.outdated moved.outdated moved.clock moment s is.invalidations passes.outdated now in
+      subst (λ (x : CopiesView). IsAt (hub_of book front x later) (has_read g key at (at_moment s moment))) (sym new_is)
+      (record {
+        time = record { clock = clock ∙ now; front = is.time.front };
+        book = record { commits = is.book.commits; rows = is.book.rows };
+        copies = copies-read g moved.copies issued.copies key at ttl moved.clock (at_moment s moment) were now life copies;
+        invalidations = λ other. ap (λ (xs : List (KeyShape × ℕ)). until_in xs other) outdated ∙ invalidations-read g moved.outdated key at (at_moment s moment) invalidated (subst (λ (n : ℕ). n ≤ at) is.time.front within) other;
+        writes = λ collection id. ap (λ (xs : Names). clocks_of xs collection id) records ∙ is.writes collection id;
+        estimates = estimates;
+        purges = texts ∙ is.purges;
+      })
 
-  -- with the invalidations by the matched commits
-  pub hub-matched : (to : ℕ) (new : CopiesView) (invalidations : List Invalidation) → front ≤ to → AreInvalidationsOf book.journal front to h.copies invalidations →
-      ((key : KeyShape) → until_in new.outdated key ≡ max (until_in h.outdated key) (invalidated_until h.copies invalidations key)) → new.clock ≡ h.clock → new.copies ≡ h.copies → IsAt (hub_of book to new) (record s { front = to })
-  hub-matched to new invalidations forward are outdated clock copies = record {
+  -- with the invalidations by the matched commits, and the purges
+  pub hub-matched : (to : ℕ) (new : CopiesView) (later : Lifetimes) (g : Setting) (invalidations : List Invalidation) (keys : List KeyShape) → front ≤ to → AreInvalidationsOf book.journal front to h.copies invalidations →
+      ((key : KeyShape) → until_in new.outdated key ≡ max (until_in h.outdated key) (invalidated_until h.copies invalidations key)) → new.clock ≡ h.clock → new.copies ≡ h.copies →
+      IsDistinct same_key keys → IsSorted text_cmp keys → ((key : KeyShape) → list_any (same_key key) keys ≡ is_purged s to key) → l.estimator.limits ≡ limits_of g →
+      later.estimator.records ≡ l.estimator.records → later.purges.texts ≡ l.purges.texts ++ map key_text keys →
+      ((key : KeyShape) → kept_of later.estimator.keys key ≡ (if list_any (same_key key) keys then option_map (after_purge l.estimator.limits h.clock) (kept_of l.estimator.keys key) else kept_of l.estimator.keys key)) →
+      IsAt (hub_of book to new later) (has_matched g to s)
+  hub-matched to new later g invalidations keys forward are outdated clock copies once sorted each limits records texts kept = record {
     time = record { clock = clock ∙ is.time.clock; front = refl };
     book = record { commits = is.book.commits; rows = is.book.rows };
     copies = λ key test. ap (λ (xs : List Copy). latest_where key test xs) copies ∙ is.copies key test;
@@ -171,11 +273,18 @@ module _ (book : Contents) (front : ℕ) (h : CopiesView) (s : State) (is : IsAt
         ∙ ap (λ (n : ℕ). max n (invalidated_until h.copies invalidations key)) (is.invalidations key ∙ sym (ap (λ (n : ℕ). until_of_outdated (record s { front = n }) key) is.time.front))
         ∙ sym (invalidations-raise h.copies s front to invalidations key is.copies forward
         (subst (λ (xs : List Change). AreInvalidationsOf xs front to h.copies invalidations) is.book.rows are));
+    writes = λ collection id. ap (λ (xs : Names). clocks_of xs collection id) records ∙ is.writes collection id;
+    estimates = λ key query.
+        let was = is.estimates key query in
+        let now = is.time.clock in
+        let there = each key in
+        kept key ∙ (λ i. if there i then option_map (after_purge (limits i) (now i)) (was i) else was i) ∙ sym (kept-matched g s to key);
+    purges = texts ∙ (let before = is.purges in let own = purged-texts s to keys once each sorted in (λ i. before i ++ own i));
   }
 
   -- the invalidated keys are those of the record, each once
   pub invalidated-recorded : AreInvalidated h → IsPermutation (invalidated_keys h) (record_of s)
-  invalidated-recorded invalidated = record-permutes s (invalidated_keys h) invalidated.once (λ key. invalidated.invalidated key ∙ recorded-at (hub_of book front h) s key is)
+  invalidated-recorded invalidated = record-permutes s (invalidated_keys h) invalidated.once (λ key. invalidated.invalidated key ∙ recorded-at (hub_of book front h l) s key is)
 
   -- the page of these numbers and bits is the state's
   pub page-at : (g : Setting) (log2_bits hashes commits moment : ℕ) (bytes : List ℕ) → AreInvalidated h → h.setting ≡ g → log2_bits ≡ g.log2_bits → hashes ≡ g.hashes → commits ≡ length book.journal → moment ≡ h.clock → flat_bits bytes ≡ bits_of (invalidated_keys h) h.setting.log2_bits h.setting.hashes →

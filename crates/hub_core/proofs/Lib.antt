@@ -6,8 +6,12 @@ pub mod IssueLemmas
 pub mod SoundLemmas
 pub mod StateLemmas
 pub mod KeepLemmas
+pub mod LifeLemmas
 pub mod ReadLemmas
 pub mod MatchLemmas
+pub mod PurgeLemmas
+pub mod MatchedLemmas
+pub mod NoteLemmas
 pub mod HubLemmas
 pub mod WriteLemmas
 pub mod OutcomeLemmas

@@ -1,25 +1,22 @@
 -- Each part of a hub keeps with the state through each step.
-use Rattle.std.proofs.Common.{◌≡◌, ℕ, ◌+◌, ◌≤◌, Bool, false, true, not, ◌&&◌, ◌||◌, max, nat_lt, nat_le, List, [], ◌∷◌, ◌++◌, length, map, filter, if◌then◌else◌, refl, sym, ap, ap₂, ◌∙◌, subst, arith, inl, inr, append-nil}
-use Rattle.std.proofs.lemmas.Bool.{cases_Bool, cases_lt, lt-ltb, le-ltb, le-leb, lt-leb}
+use Rattle.std.proofs.Common.{◌≡◌, ℕ, ◌+◌, ◌≤◌, Bool, max, nat_lt, List, [], ◌∷◌, ◌++◌, length, map, filter, if◌then◌else◌, refl, sym, ap, ap₂, ◌∙◌, subst, arith, inl, inr, append-nil}
+use Rattle.std.proofs.lemmas.Bool.{cases_Bool, cases_lt, lt-ltb, le-ltb}
 use Rattle.std.proofs.lemmas.List.{map-append}
-use Rattle.std.proofs.lemmas.Map.Made.{length-from_keys}
 use Rattle.query_normal.specs.Keys.{same_key}
-use Rattle.query_normal.specs.SameKey.{same_key_equiv}
 use Rattle.query_normal.specs.declared.key.KeyShape.{KeyShape}
-use Rattle.issued_expiries.specs.Copies.{Copy, unexpired, latest_where, is_active, active_keys, SameCopies}
-use Rattle.hub_model.specs.Copies.{issues, is_live, live, active_keys as active_of, is_active as is_active_in}
+use Rattle.issued_expiries.specs.Copies.{Copy, unexpired, latest_where, is_active, SameCopies}
+use Rattle.hub_model.specs.Copies.{issues, is_live, live, is_active as is_active_in}
 use Rattle.hub_model.specs.Lifetime.{ttl_of}
 use Rattle.hub_model.specs.Record.{is_outdated_in}
 use Rattle.hub_model.specs.Setting.{Setting}
 use Rattle.hub_model.specs.State.{IssuedCopy, State, at_moment, until_of}
-use Rattle.hub_model.specs.Step.{has_read}
+use Rattle.hub_model.specs.Step.{has_read, with_change}
 use Rattle.hub_model.proofs.Issues.{live-read, outdated_until-read}
-use Rattle.hub_model.proofs.KeySets.{among-unique, distinct-unique}
 use Rattle.hub_model.proofs.Recorded.{outdated_until-longer}
 use Rattle.hub_model.proofs.Untils.{until-at_moment}
 use Rattle.commit_book.specs.declared.change.Change.{Change}
 use Rattle.hub_core.specs.HubState.{HasTime, HasCopies, HasInvalidations, copy_of, copies_of}
-use Rattle.hub_core.specs.CopiesView.{CopiesView, lifetime, while_later, until_in}
+use Rattle.hub_core.specs.CopiesView.{while_later, until_in}
 use Rattle.issued_expiries.proofs.LawLemmas.{active_alike, same_later}
 use Rattle.hub_core.proofs.CopyLemmas.{same-more}
 use Rattle.hub_core.proofs.InvalidationLemmas.{any-map}
@@ -74,7 +71,7 @@ invalidations-later outdated new clock moment s at left now = λ key.
 
 -- ---- a commit
 
-pub invalidations-written : (outdated : List (KeyShape × ℕ)) (change : Change) (s : State) → HasInvalidations outdated s → s.front ≤ length s.journal → HasInvalidations outdated (record s { journal = s.journal ++ change ∷ [] })
+pub invalidations-written : (outdated : List (KeyShape × ℕ)) (change : Change) (s : State) → HasInvalidations outdated s → s.front ≤ length s.journal → HasInvalidations outdated (with_change change s)
 invalidations-written outdated change s at within = λ key. at key ∙ sym (outdated_until-longer s (change ∷ []) key within)
 
 -- ---- a read
@@ -105,24 +102,7 @@ copies-read g copies new key at ttl clock s is now life more =
 pub invalidations-read : (g : Setting) (outdated : List (KeyShape × ℕ)) (key : KeyShape) (at : ℕ) (s : State) → HasInvalidations outdated s → s.front ≤ at → HasInvalidations outdated (has_read g key at s)
 invalidations-read g outdated key at s is low = λ other. is other ∙ sym (outdated_until-read g s key at other low)
 
--- ---- the lifetime of a read
+-- ---- the active keys
 
-active-copies : (copies : List Copy) (s : State) → HasCopies copies s → (key : KeyShape) → is_active copies key ≡ is_active_in s key
+pub active-copies : (copies : List Copy) (s : State) → HasCopies copies s → (key : KeyShape) → is_active copies key ≡ is_active_in s key
 active-copies copies s is key = active_alike copies (copies_of s) key is ∙ any-map copy_of (λ (c : Copy). same_key key c.0) (live s)
-
-pub lifetime-at : (h : CopiesView) (s : State) (key : KeyShape) (g : Setting) (at : ℕ) → HasCopies h.copies s → h.setting ≡ g → lifetime h key ≡ ttl_of g s key at
-lifetime-at h s key g at is setting =
-    let number : length (active_of s) ≡ active_keys h.copies =
-    length-from_keys same_key_equiv (active_of s) (map (λ (c : Copy). c.0) h.copies) (distinct-unique (map (λ (r : IssuedCopy). r.key) (live s)))
-    (λ k.
-    among-unique (map (λ (r : IssuedCopy). r.key) (live s)) k
-    ∙ any-map (λ (r : IssuedCopy). r.key) (same_key k) (live s)
-    ∙ sym (active-copies h.copies s is k)
-    ∙ sym (any-map (λ (c : Copy). c.0) (same_key k) h.copies)) in
-    turned (is_active h.copies key) (active_keys h.copies) h.setting.active h.setting.ttl_high
-    ∙ ap₂ (λ (b : Bool) (n : ℕ). if not b && nat_le h.setting.active n then 0 else h.setting.ttl_high) (active-copies h.copies s is key) (sym number)
-    ∙ ap (λ (x : Setting). ttl_of x s key at) setting
-  where
-    turned : (a : Bool) (n limit high : ℕ) → (if a || nat_lt n limit then high else 0) ≡ (if not a && nat_le limit n then 0 else high)
-    turned true n limit high = refl
-    turned false n limit high = elim (cases_lt n limit) [ inl low ↦ rw (lt-ltb n limit low, lt-leb limit n low) refl | inr full ↦ rw (le-ltb n limit full, le-leb limit n full) refl ]

@@ -15,7 +15,7 @@ use Rattle.hub_model.specs.Helps.{helps_of}
 use Rattle.hub_model.specs.Legal.{most_unmatched}
 use Rattle.hub_model.specs.Reply.{wrote as wrote_reply, written, reply_in}
 use Rattle.hub_model.specs.State.{State, at_moment}
-use Rattle.hub_model.specs.Step.{found_of, found_now, is_accepted, is_met, wrote, after_all}
+use Rattle.hub_model.specs.Step.{found_of, found_now, is_accepted, is_met, wrote, after_all, with_change}
 use Rattle.hub_core.specs.HubState.{help_of}
 
 -- ---- what the book answers
@@ -104,7 +104,7 @@ module _ (g : Setting) (s : State) (moment : ℕ) (change : Change) (condition :
 
 -- the state behind a write, by whether it is accepted
 left : Change → State → Bool → State
-left change s b = if b then record s { journal = s.journal ++ change ∷ [] } else s
+left change s b = if b then with_change change s else s
 
 -- of a book whose journal is the state's
 module _ (g : Setting) (book : Contents) (s : State) (change : Change) (condition : Condition) (found : Found) (commits : ℕ) (same : book.journal ≡ s.journal)
@@ -149,6 +149,6 @@ module _ (g : Setting) (book : Contents) (s : State) (change : Change) (conditio
     unfolding left
     leaves-full full = sym (ap (left change s) (accepted-now false full))
 
-    pub leaves-done : nat_le (kept_with book.journal change) book.capacity ≡ true → record s { journal = s.journal ++ change ∷ [] } ≡ wrote g change condition s
+    pub leaves-done : nat_le (kept_with book.journal change) book.capacity ≡ true → with_change change s ≡ wrote g change condition s
     unfolding left
     leaves-done fits = sym (ap (left change s) (accepted-now true fits))

@@ -56,10 +56,6 @@ pub record Passes (moment : ℕ) (old new : CopiesView) : Type 0 where
 abbrev pub may_issue : CopiesView → KeyShape → Bool
 may_issue h key = is_active h.copies key || nat_lt (active_keys h.copies) h.setting.active
 
--- for how long a copy is issued: not at all where a further key would be active beyond the limit
-abbrev pub lifetime : CopiesView → KeyShape → ℕ
-lifetime h key = if may_issue h key then h.setting.ttl_high else 0
-
 -- a copy of this key can be issued without memory, and of no other
 pub record IsReadyFor (h : CopiesView) (key : KeyShape) : Type 0 where
   pub own : IsTrue (list_any (same_key key) h.ready)

@@ -1,9 +1,14 @@
 -- Internal. What contracts see of a hub, and the history that it represents.
-use Rattle.std.specs.Prelude.{◌≡◌, ℕ, ◌+◌, ◌≤◌, nat_le, if◌then◌else◌, List, [], ◌∷◌, Option, None, length, map}
-use Rattle.issued_expiries.specs.Copies.{Copy, SameCopies}
+use Rattle.std.specs.Prelude.{◌≡◌, ℕ, ◌+◌, ◌≤◌, ◌&&◌, true, nat_le, if◌then◌else◌, List, [], ◌∷◌, Option, None, length, map}
+use Rattle.issued_expiries.specs.Copies.{Copy, SameCopies, is_active}
+use Rattle.ttl_estimator.specs.Estimates.{Entries, is_known, kept_of}
+use Rattle.ttl_estimator.specs.Rates.{last_eight}
+use Rattle.ttl_estimator.specs.Records.{Names as Writes, clocks_of}
 use Rattle.query_normal.specs.declared.key.KeyShape.{KeyShape}
 use Rattle.hub_model.specs.Copies.{live}
+use Rattle.hub_model.specs.Kept.{kept_in}
 use Rattle.hub_model.specs.Legal.{IsLegal, most_unmatched}
+use Rattle.hub_model.specs.Lifetime.{write_clocks}
 use Rattle.hub_model.specs.Setting.{Setting}
 use Rattle.hub_model.specs.State.{IssuedCopy, State, until_of}
 use Rattle.hub_model.specs.Step.{state_of}
@@ -14,8 +19,10 @@ use Rattle.commit_book.specs.Names.{Names, AreNamesOf}
 use Rattle.hub_model.specs.declared.entry.Entry.{Entry}
 use Rattle.hub_model.specs.declared.entry.Entry.TheVariants.{Match}
 use Rattle.active_queries.specs.Following.{Following}
+use Rattle.hub_core.specs.declared.lifetimes.Lifetimes.{Lifetimes}
 use Rattle.hub_core.specs.CopiesView.{CopiesView, until_in}
-use Rattle.hub_core.specs.ActiveQueries.{KeepsQueries}
+use Rattle.hub_core.specs.ActiveQueries.{is_query, KeepsQueries}
+use Rattle.hub_core.specs.Lifetimes.{KeepsLifetimes}
 
 -- what a hub keeps
 pub record HubView : Type 0 where
@@ -40,10 +47,16 @@ pub record HubView : Type 0 where
   pub ready : List KeyShape
   -- the keys that can be invalidated without memory
   pub invalidatable : List KeyShape
+  -- the records that were written, each with the clocks of its last writes
+  pub writes : Writes
+  -- the keys of active queries, each with its estimate
+  pub estimates : Entries
+  -- the texts of the purged keys, in the order of their numbers
+  pub purges : List (List ℕ)
 
 -- the hub of these parts
-abbrev pub hub_of : Contents → ℕ → CopiesView → HubView
-hub_of book front h = record {
+abbrev pub hub_of : Contents → ℕ → CopiesView → Lifetimes → HubView
+hub_of book front h l = record {
   setting = h.setting;
   clock = h.clock;
   commits = length book.journal;
@@ -56,15 +69,19 @@ hub_of book front h = record {
   idle = h.idle;
   ready = h.ready;
   invalidatable = h.invalidatable;
+  writes = l.estimator.records;
+  estimates = l.estimator.keys;
+  purges = l.purges.texts;
 }
 
--- Nothing is kept but what the history needs: no memory is reserved, no key is idle, and the index has the names of the rows alone.
+-- Nothing is kept but what the history needs: no memory is reserved, no key is idle, the index has the names of the rows alone, and estimates are kept of active queries alone.
 pub record IsLean (h : HubView) : Type 0 where
   pub change : h.change ≡ None
   pub names : AreNamesOf h.rows h.names
   pub idle : h.idle ≡ []
   pub ready : h.ready ≡ []
   pub invalidatable : h.invalidatable ≡ []
+  pub estimates : (key : KeyShape) → is_known h.estimates key ≡ (is_query key && is_active h.copies key)
 
 -- the same of the copies alone
 pub record IsLeanCopies (h : CopiesView) : Type 0 where
@@ -76,12 +93,13 @@ pub record IsLeanCopies (h : CopiesView) : Type 0 where
 abbrev pub help_of : State → ℕ → List Entry
 help_of s moment = if nat_le (s.front + most_unmatched) (length s.journal) then Match moment (length s.journal) ∷ [] else []
 
--- The parts of a hub belong together: the front is a commit, the book has the configured capacity, nothing is kept but what the history needs, and each active query key has its query.
-pub record IsSoundHub (book : Contents) (front : ℕ) (h : CopiesView) (entries : List (KeyShape × Following)) : Type 0 where
+-- The parts of a hub belong together: the front is a commit, the book has the configured capacity, nothing is kept but what the history needs, and each active query key has its query and its estimate.
+pub record IsSoundHub (book : Contents) (front : ℕ) (h : CopiesView) (entries : List (KeyShape × Following)) (l : Lifetimes) : Type 0 where
   pub within : front ≤ length book.journal
   pub capacity : book.capacity ≡ h.setting.capacity
-  pub lean : IsLean (hub_of book front h)
+  pub lean : IsLean (hub_of book front h l)
   pub queries : KeepsQueries book.journal front h.copies h.idle entries
+  pub lifetimes : KeepsLifetimes book.journal front h l
 
 -- an issued copy, with its until
 abbrev pub copy_of : IssuedCopy → Copy
@@ -113,12 +131,23 @@ HasCopies copies s = SameCopies copies (copies_of s)
 abbrev pub HasInvalidations : List (KeyShape × ℕ) → State → Type 0
 HasInvalidations outdated s = (key : KeyShape) → until_in outdated key ≡ until_of_outdated s key
 
+-- the clocks of the last eight writes of each record
+abbrev pub HasWrites : Writes → State → Type 0
+HasWrites writes s = (collection id : List ℕ) → clocks_of writes collection id ≡ last_eight (write_clocks s collection id)
+
+-- of each query's key what is kept while it is active
+abbrev pub HasEstimates : Entries → State → Type 0
+HasEstimates estimates s = (key : KeyShape) → is_query key ≡ true → kept_of estimates key ≡ kept_in s key
+
 -- The hub has come to this state.
 pub record IsAt (h : HubView) (s : State) : Type 0 where
   pub time : HasTime h.clock h.front s
   pub book : HasBook h.commits h.rows s
   pub copies : HasCopies h.copies s
   pub invalidations : HasInvalidations h.outdated s
+  pub writes : HasWrites h.writes s
+  pub estimates : HasEstimates h.estimates s
+  pub purges : h.purges ≡ s.purges
 
 -- the hub has come to the state of the history, which is legal
 pub record Represents (h : HubView) (history : List Entry) : Type 0 where

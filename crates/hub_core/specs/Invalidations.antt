@@ -1,10 +1,11 @@
 -- Internal. The keys that the commits of a match invalidate.
-use Rattle.std.specs.Prelude.{◌≡◌, ℕ, ◌<◌, ◌==◌, Bool, false, not, ◌&&◌, List, map, filter, Option, Some, None, nat_le, nat_lt, option_map}
+use Rattle.std.specs.Prelude.{◌≡◌, ℕ, ◌<◌, ◌==◌, Bool, false, not, ◌&&◌, List, map, filter, All, IsTrue, Option, Some, None, nat_le, nat_lt, option_map, unwrap_or}
 use Rattle.std.specs.List.{list_any}
 use Rattle.query_normal.specs.Keys.{same_key}
 use Rattle.query_normal.specs.declared.key.KeyShape.{KeyShape}
 use Rattle.query_normal.specs.declared.key.KeyShape.TheVariants.{Record}
-use Rattle.issued_expiries.specs.Copies.{Copy}
+use Rattle.issued_expiries.specs.Copies.{Copy, is_active, latest_of}
+use Rattle.purge_list.specs.LastChanges.{Changes, change_of, is_known}
 use Rattle.hub_model.specs.Outdated.{is_changed}
 use Rattle.hub_model.specs.Until.{greatest}
 use Rattle.commit_book.specs.declared.change.Change.{Change}
@@ -46,6 +47,22 @@ altered_key journal commit = option_map key_of (alteration journal commit)
 abbrev pub is_key : KeyShape → Option KeyShape → Bool
 is_key key None = false
 is_key key (Some own) = same_key key own
+
+-- it is of an active key only where that key has an entry for its last change
+abbrev pub HasEntry : List Copy → Changes → Invalidation → Type 0
+HasEntry copies changes m = IsTrue (is_active copies m.key) → IsTrue (is_known changes m.key)
+
+-- each of them
+abbrev pub HaveEntries : List Copy → Changes → List Invalidation → Type 0
+HaveEntries copies changes invalidations = All (HasEntry copies changes) invalidations
+
+-- it is of the key, and outdates a copy that is unexpired at a second: a copy from the last change of the key on
+abbrev pub purges_at : List Copy → Changes → ℕ → KeyShape → Invalidation → Bool
+purges_at copies changes second key m = same_key key m.key && nat_lt second (unwrap_or (latest_of copies m.key (change_of changes m.key) m.commit) 0)
+
+-- the greatest commit that invalidates the key, or 0 without one
+abbrev pub raised_by : KeyShape → List Invalidation → ℕ
+raised_by key invalidations = greatest (map (λ m. m.commit) (filter (λ m. same_key key m.key) invalidations))
 
 -- until when the last copy of a key that these invalidations outdate may be kept, or 0 without one
 abbrev pub invalidated_until : List Copy → List Invalidation → KeyShape → ℕ

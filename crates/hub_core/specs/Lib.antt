@@ -4,6 +4,7 @@ pub mod ConfigRefusal
 pub mod CopiesView
 pub mod HubState
 pub mod Invalidations
+pub mod Lifetimes
 pub mod PageRoom
 pub mod QueryRows
 pub use Rattle.flat_snapshot.specs.PageText

@@ -176,6 +176,13 @@ impl Config {
         self.hashes
     }
 
+    /// The least lifetime, in seconds.
+    pub fn ttl_low(&self) -> u32
+        ensures { result ≡ self.now.ttl_low }
+    {
+        self.ttl_low
+    }
+
     /// The greatest lifetime, in seconds.
     pub fn ttl_high(&self) -> u32
         ensures { result ≡ self.now.ttl_high }

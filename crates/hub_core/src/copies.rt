@@ -1,6 +1,6 @@
 //! The issued copies, and the keys of those that are outdated.
-ghost use Rattle.std.specs.Prelude.{◌≡◌, ◌+◌, ◌*◌, ◌^◌, ◌<◌, max, ◌∷◌, [], not, ◌&&◌, ◌||◌, if◌then◌else◌, nat_lt, length, IsTrue, false, IfSome, IfNone, IfOk, OnOk, OnErr};
-ghost use Rattle.issued_expiries.specs.Copies.{SameCopies, is_active};
+ghost use Rattle.std.specs.Prelude.{◌≡◌, ◌+◌, ◌*◌, ◌^◌, ◌<◌, max, ◌∷◌, [], not, ◌&&◌, ◌||◌, if◌then◌else◌, nat_lt, length, IsTrue, false, unwrap_or, IfSome, IfNone, IfOk, OnOk, OnErr};
+ghost use Rattle.issued_expiries.specs.Copies.{SameCopies, active_keys, is_active, latest_of};
 ghost use Rattle.query_normal.specs.Bits.{flat_bits};
 ghost use Rattle.query_normal.specs.Keys.{same_key};
 ghost use Rattle.query_normal.specs.declared.key.KeyShape.{KeyShape as AKey};
@@ -108,11 +108,26 @@ impl Copies {
         self.issued.reserve(key)
     }
 
-    /// Whether a copy of a key may be issued: it is active, or one key more may be.
-    pub fn may_issue(&self, key: &Key) -> bool
-        ensures { result ≡ may_issue self.now key.now }
+    /// Whether a key has an unexpired copy.
+    pub fn is_active(&self, key: &Key) -> bool
+        ensures { result ≡ is_active self.now.copies key.now }
     {
-        self.issued.active_count() < self.config.active() || self.issued.active(key)
+        self.issued.active(key)
+    }
+
+    /// The number of keys that have an unexpired copy.
+    pub fn active_count(&self) -> u32
+        ensures { result ≡ active_keys self.now.copies }
+    {
+        self.issued.active_count()
+    }
+
+    /// Until when the last copy of a key of a commit from one on and below another may be kept, or 0 without
+    /// one.
+    pub fn latest_until(&self, key: &Key, from: Commit, below: Commit) -> u64
+        ensures { result ≡ unwrap_or (latest_of self.now.copies key.now from below) 0 }
+    {
+        self.issued.latest(key, from, below).unwrap_or(0)
     }
 
     /// Issues a copy of a key for a lifetime, and none where that is 0. The key is not ready any
@@ -131,6 +146,13 @@ impl Copies {
         }
         let until = self.issued.clock().seconds() + ttl as u64;
         self.issued.issue(key, commit, until);
+    }
+
+    /// Gives back what was reserved for a copy that is not issued.
+    pub fn forget_reserved(&mut self)
+        ensures { self.new ≡ record self.old { ready = [] } }
+    {
+        self.issued.forget_reserved();
     }
 
     /// Reserves memory to invalidate a key.

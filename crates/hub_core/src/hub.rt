@@ -1,9 +1,9 @@
 //! The hub.
 ghost use Rattle.std.specs.Prelude.{◌≡◌, ◌<◌, ◌≤◌, ◌++◌, ◌∷◌, [], length, option_map, Some, true, IfOk, OnOk, OnErr};
-ghost use Rattle.hub_model.specs.declared.entry.Entry.TheVariants.{Write, Read, Match, Fetch, Tick};
+ghost use Rattle.hub_model.specs.declared.entry.Entry.TheVariants.{Write, Read, Match, Fetch, Purges, Tick};
 ghost use Rattle.commit_book.specs.Journal.{document_at};
 ghost use Rattle.hub_model.specs.Record.{is_recorded, page_of, record_of};
-ghost use Rattle.hub_model.specs.Reply.{wrote, read, matched, fetched, counted, reply_in};
+ghost use Rattle.hub_model.specs.Reply.{wrote, read, matched, fetched, purged, counted, reply_in, told_of};
 ghost use Rattle.hub_model.specs.State.{State, start};
 ghost use Rattle.hub_model.specs.Step.{found_of, is_accepted, after, after_all};
 ghost use Rattle.hub_model.specs.Helps.{helps_of};
@@ -12,14 +12,15 @@ ghost use Rattle.hub_core.specs.HubState.{IsAt, IsLean};
 
 use crate::config::Config;
 use crate::copies::Copies;
-use crate::matching::{match_commits, match_if_full};
+use crate::lifetimes::Lifetimes;
+use crate::matching::{make_way, match_commits};
 use crate::page_room::{Numbers, PageRoom};
 use crate::passing::pass;
-use crate::reading::{follow_or_start, issue_copy, outcome_at};
+use crate::reading::{follow_or_start, issue_copy, outcome_at, reserve_copy};
 use active_queries::ActiveQueries;
 use active_queries::laws::queries_follow_longer_journals;
 use commit_book::{Book, BookRefusal};
-use hub_model::{Answer, Change, Condition, Found, Matched, Stats, Tags, Written};
+use hub_model::{Answer, Change, Condition, Found, Matched, PurgeReply, Stats, Tags, Written};
 use q_base::{Commit, Memory, Moment};
 use query_normal::Key;
 use std::alloc::Global;
@@ -35,7 +36,11 @@ pub struct Hub {
     copies: Copies,
     /// The queries of the active keys that are queries'.
     queries: ActiveQueries,
+    life: Lifetimes,
 }
+
+/// The greatest number of purges that one reply tells.
+const MOST_PURGES: u32 = 1_000;
 
 impl Model for Hub {
     ghost use Rattle.std.specs.Coded.{codes};
@@ -47,9 +52,9 @@ impl Model for Hub {
 
     ghost coded = { Prim.hlevel (codes, tree_code, filter_code) };
 
-    ghost view = { λ h. hub_of h.book h.front h.copies };
+    ghost view = { λ h. hub_of h.book h.front h.copies h.life };
 
-    ghost invariant = { λ h. IsSoundHub h.book h.front h.copies h.queries.entries };
+    ghost invariant = { λ h. IsSoundHub h.book h.front h.copies h.queries.entries h.life };
 }
 
 impl Hub {
@@ -59,12 +64,14 @@ impl Hub {
         ensures begins { IfOk result (λ hub. IsAt hub start) }
         ensures lean { IfOk result (λ hub. IsLean hub) }
     {
+        let life = Lifetimes::new(alloc, &config);
         Ok(Hub {
             alloc,
             book: Book::new(alloc, config.capacity())?,
             front: 0,
             copies: Copies::new(alloc, config)?,
             queries: ActiveQueries::new(alloc),
+            life,
         })
     }
 
@@ -90,27 +97,33 @@ impl Hub {
         queries_follow_longer_journals();
         let before = found(&self.book, change);
         if !condition.is_met(before, self.book.count()) {
-            pass(&mut self.copies, &mut self.queries, moment);
+            pass(&mut self.copies, &mut self.queries, &mut self.life, moment);
             return Ok(Written::Precondition {
                 found: before,
                 clock: self.copies.clock(),
             });
         }
         match self.book.reserve(change) {
-            Ok(()) => match match_if_full(
+            Ok(()) => match make_way(
                 self.alloc,
                 &self.book,
                 &mut self.copies,
                 &mut self.queries,
+                &mut self.life,
                 &mut self.front,
                 moment,
+                change,
             ) {
                 Ok(()) => {
-                    pass(&mut self.copies, &mut self.queries, moment);
+                    pass(&mut self.copies, &mut self.queries, &mut self.life, moment);
+                    let clock = self.copies.clock();
+                    self.life
+                        .estimator
+                        .note_write(&change.collection, &change.id, clock);
                     Ok(Written::Done {
                         commit: self.book.add_reserved(),
                         before,
-                        clock: self.copies.clock(),
+                        clock,
                     })
                 }
                 Err(Memory) => {
@@ -119,7 +132,7 @@ impl Hub {
                 }
             },
             Err(BookRefusal::Full { bytes }) => {
-                pass(&mut self.copies, &mut self.queries, moment);
+                pass(&mut self.copies, &mut self.queries, &mut self.life, moment);
                 Ok(Written::Full {
                     bytes,
                     clock: self.copies.clock(),
@@ -144,11 +157,12 @@ impl Hub {
     {
         let started = follow_or_start(self.alloc, &self.book, &mut self.queries, key)?;
         let result = outcome_at(self.alloc, &self.book, &self.queries, &started, key, tags)?;
-        self.copies.reserve(key)?;
+        reserve_copy(&mut self.copies, &mut self.life.estimator, key)?;
         let ttl = issue_copy(
             &self.book,
             &mut self.copies,
             &mut self.queries,
+            &mut self.life,
             moment,
             key,
             started,
@@ -181,9 +195,11 @@ impl Hub {
             &self.book,
             &mut self.copies,
             &mut self.queries,
+            &mut self.life,
             self.front,
             to,
             moment,
+            None,
         )?;
         self.front = to;
         Ok(Matched {
@@ -202,7 +218,7 @@ impl Hub {
         ensures sizes { IsRoomFor self.old.setting room.new }
         ensures lean { IsLean self.new }
     {
-        pass(&mut self.copies, &mut self.queries, moment);
+        pass(&mut self.copies, &mut self.queries, &mut self.life, moment);
         let front = self.front;
         let commits = self.book.count();
         let moment = self.copies.clock();
@@ -214,6 +230,29 @@ impl Hub {
         room.write(numbers, self.copies.bits());
     }
 
+    /// Tells the purged keys from a number on, as one entry: at most 1,000 of them. The first has number 1,
+    /// and 0 counts as 1.
+    pub fn purges(&mut self, moment: Moment, from: u64) -> Result<PurgeReply, Memory>
+        // What Ok means.
+        ensures told { IfOk result (λ p. (s : State) → IsAt self.old s → purged (told_of p) ≡ reply_in self.old.setting s (Purges moment from)) }
+        ensures after { OnOk result ((s : State) → IsAt self.old s → IsAt self.new (after self.old.setting s (Purges moment from))) }
+
+        // What stays.
+        ensures setting { self.new.setting ≡ self.old.setting }
+        ensures memory { OnErr result (self.new ≡ self.old) }
+        ensures lean { IsLean self.new }
+    {
+        let keys = self.life.purges.after(self.alloc, from, MOST_PURGES)?;
+        pass(&mut self.copies, &mut self.queries, &mut self.life, moment);
+        Ok(PurgeReply {
+            from,
+            last: self.life.purges.last(),
+            front: self.front,
+            clock: self.copies.clock(),
+            keys,
+        })
+    }
+
     /// Lets time pass, as one entry. It takes no memory.
     pub fn tick(&mut self, moment: Moment) -> Stats
         ensures told { (s : State) → IsAt self.old s → counted result ≡ reply_in self.old.setting s (Tick moment) }
@@ -221,7 +260,7 @@ impl Hub {
         ensures setting { self.new.setting ≡ self.old.setting }
         ensures lean { IsLean self.new }
     {
-        pass(&mut self.copies, &mut self.queries, moment);
+        pass(&mut self.copies, &mut self.queries, &mut self.life, moment);
         Stats {
             front: self.front,
             commits: self.book.count(),

@@ -39,6 +39,7 @@ pub fn reserve_invalidations(
     requires kept { KeepsQueries book.now.journal front copies.old.copies copies.old.idle queries.old.entries }
     ensures invalidations { IfOk result (λ invalidations. AreInvalidationsOf book.now.journal front to copies.old.copies invalidations.items) }
     ensures reserved { IfOk result (λ invalidations. All (λ m. IsInvalidationReserved copies.new m.key) invalidations.items) }
+    ensures within { IfOk result (λ invalidations. All (λ m. m.commit ≤ to) invalidations.items) }
     ensures seen { OnOk result (HaveSeen to queries.new.entries) }
     ensures kept { KeepsQueries book.now.journal front copies.old.copies copies.old.idle queries.new.entries }
     ensures rest { copies.new ≡ record copies.old { invalidatable = copies.new.invalidatable } }
@@ -62,6 +63,7 @@ fn record_invalidations(
     requires within { to ≤ length book.now.journal }
     ensures invalidations { IfOk result (λ invalidations. AreRecordInvalidationsOf book.now.journal front to invalidations.items) }
     ensures reserved { IfOk result (λ invalidations. All (λ m. IsInvalidationReserved copies.new m.key) invalidations.items) }
+    ensures within { IfOk result (λ invalidations. All (λ m. m.commit ≤ to) invalidations.items) }
     ensures rest { copies.new ≡ record copies.old { invalidatable = copies.new.invalidatable } }
 {
     let mut invalidations = Vec::new(alloc);
@@ -81,6 +83,7 @@ fn push_invalidation(
 ) -> Result<(), Memory>
     ensures invalidations { OnOk result ((key : AKey) (n : ℕ) → list_any (is_invalidation key n) invalidations.new.items ≡ (list_any (is_invalidation key n) invalidations.old.items || (is_key key (altered_key book.now.journal commit) && (commit == n)))) }
     ensures reserved { OnOk result (All (λ m. IsInvalidationReserved copies.old m.key) invalidations.old.items → All (λ m. IsInvalidationReserved copies.new m.key) invalidations.new.items) }
+    ensures within { OnOk result ((to : ℕ) → commit ≤ to → All (λ m. m.commit ≤ to) invalidations.old.items → All (λ m. m.commit ≤ to) invalidations.new.items) }
     ensures rest { copies.new ≡ record copies.old { invalidatable = copies.new.invalidatable } }
 {
     if let Some(change) = book.altered(commit) {
@@ -101,6 +104,7 @@ fn push_query_invalidations(
 ) -> Result<(), Memory>
     ensures invalidations { OnOk result ((key : AKey) (n : ℕ) → list_any (is_invalidation key n) invalidations.new.items ≡ (list_any (is_invalidation key n) invalidations.old.items || list_any (invalidates front to key n) queries.now.entries)) }
     ensures reserved { OnOk result (All (λ m. IsInvalidationReserved copies.old m.key) invalidations.old.items → All (λ m. IsInvalidationReserved copies.new m.key) invalidations.new.items) }
+    ensures within { OnOk result (All (λ m. m.commit ≤ to) invalidations.old.items → All (λ m. m.commit ≤ to) invalidations.new.items) }
     ensures rest { copies.new ≡ record copies.old { invalidatable = copies.new.invalidatable } }
 {
     for index in 0..queries.len() {
@@ -121,6 +125,7 @@ fn push_changes_at(
     requires { index < length queries.now.entries }
     ensures invalidations { OnOk result ((entry : AKey × AFollowing) (key : AKey) (n : ℕ) → slice_get queries.now.entries index ≡ Some entry → list_any (is_invalidation key n) invalidations.new.items ≡ (list_any (is_invalidation key n) invalidations.old.items || invalidates front to key n entry)) }
     ensures reserved { OnOk result (All (λ m. IsInvalidationReserved copies.old m.key) invalidations.old.items → All (λ m. IsInvalidationReserved copies.new m.key) invalidations.new.items) }
+    ensures within { OnOk result (All (λ m. m.commit ≤ to) invalidations.old.items → All (λ m. m.commit ≤ to) invalidations.new.items) }
     ensures rest { copies.new ≡ record copies.old { invalidatable = copies.new.invalidatable } }
 {
     match queries.at(index) {
@@ -140,6 +145,7 @@ fn push_changes(
 ) -> Result<(), Memory>
     ensures invalidations { OnOk result ((other : AKey) (n : ℕ) → list_any (is_invalidation other n) invalidations.new.items ≡ (list_any (is_invalidation other n) invalidations.old.items || (same_key other key.now && list_any (λ m. is_after front to m && (m == n)) changed.now))) }
     ensures reserved { OnOk result (All (λ m. IsInvalidationReserved copies.old m.key) invalidations.old.items → All (λ m. IsInvalidationReserved copies.new m.key) invalidations.new.items) }
+    ensures within { OnOk result (All (λ m. m.commit ≤ to) invalidations.old.items → All (λ m. m.commit ≤ to) invalidations.new.items) }
     ensures rest { copies.new ≡ record copies.old { invalidatable = copies.new.invalidatable } }
 {
     for commit in changed {
@@ -159,6 +165,7 @@ fn push_where_after(
 ) -> Result<(), Memory>
     ensures invalidations { OnOk result ((other : AKey) (n : ℕ) → list_any (is_invalidation other n) invalidations.new.items ≡ (list_any (is_invalidation other n) invalidations.old.items || (same_key other key.now && (is_after front to commit && (commit == n))))) }
     ensures reserved { OnOk result (All (λ m. IsInvalidationReserved copies.old m.key) invalidations.old.items → All (λ m. IsInvalidationReserved copies.new m.key) invalidations.new.items) }
+    ensures within { OnOk result (All (λ m. m.commit ≤ to) invalidations.old.items → All (λ m. m.commit ≤ to) invalidations.new.items) }
     ensures rest { copies.new ≡ record copies.old { invalidatable = copies.new.invalidatable } }
 {
     if commit <= front || to < commit {

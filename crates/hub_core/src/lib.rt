@@ -6,9 +6,11 @@ mod copies;
 mod hub;
 mod invalidations;
 mod laws;
+mod lifetimes;
 mod matching;
 mod page_room;
 mod passing;
+mod purging;
 mod query_outcome;
 mod reading;
 
@@ -16,6 +18,3 @@ pub use config::{Config, ConfigRefusal};
 pub use hub::Hub;
 pub use laws::hubs_represent_histories;
 pub use page_room::PageRoom;
-
-#[cfg(test)]
-mod tests;

@@ -1,23 +1,29 @@
 //! A read: its outcome, and the copy that it issues.
-ghost use Rattle.std.specs.Prelude.{◌≡◌, ◌≤◌, ◌<◌, ℕ, max, List, [], length, IfOk, IfSome, None, option_copied};
+ghost use Rattle.std.specs.Prelude.{◌≡◌, ◌≤◌, ◌<◌, ℕ, max, true, List, [], length, false, ◌&&◌, IfOk, OnOk, OnErr, IsTrue, IfSome, None, option_copied};
 ghost use Rattle.std.specs.Map.{lookup};
 ghost use Rattle.query_core.specs.Limits.{IsQuery};
+ghost use Rattle.query_core.specs.Window.{window};
+ghost use Rattle.commit_book.specs.Documents.{docs};
 ghost use Rattle.query_normal.specs.Keys.{same_key};
 ghost use Rattle.query_normal.specs.declared.key.KeyShape.{KeyShape as AKey};
 ghost use Rattle.query_normal.specs.declared.key.KeyShape.TheVariants.{Record, Query as QueryKey};
-ghost use Rattle.issued_expiries.specs.Copies.{Copy};
+ghost use Rattle.issued_expiries.specs.Copies.{Copy, active_keys, is_active};
+ghost use Rattle.ttl_estimator.specs.Estimates.{is_known, kept_of};
+ghost use Rattle.ttl_estimator.specs.Estimator.{lifetime};
 ghost use Rattle.hub_model.specs.Journal.{result_at};
 ghost use Rattle.hub_model.specs.Known.{known_at};
-ghost use Rattle.hub_model.specs.Lifetime.{ttl_of};
+ghost use Rattle.hub_model.specs.Lifetime.{limits_of, ttl_of};
 ghost use Rattle.hub_model.specs.Reply.{outcome_of};
 ghost use Rattle.hub_model.specs.State.{State, at_moment};
 ghost use Rattle.hub_model.specs.Step.{has_read};
 ghost use Rattle.active_queries.specs.Following.{Follows, AreFollowing};
-ghost use Rattle.hub_core.specs.ActiveQueries.{IsAtHand, IsStarted, KeepsQueries, query_at_hand, with_started};
-ghost use Rattle.hub_core.specs.CopiesView.{lifetime, IsReadyFor};
+ghost use Rattle.hub_core.specs.ActiveQueries.{is_query, IsAtHand, IsStarted, KeepsQueries, query_at_hand, with_started};
+ghost use Rattle.hub_core.specs.CopiesView.{IsReadyFor};
 ghost use Rattle.hub_core.specs.HubState.{IsAt, hub_of};
+ghost use Rattle.hub_core.specs.Lifetimes.{KeepsLifetimes, ids_at};
 
 use crate::copies::Copies;
+use crate::lifetimes::{Lifetimes, note_read};
 use crate::passing::drop_idle;
 use crate::query_outcome::query_outcome;
 use active_queries::laws::rows_are_those_of_the_last_commit_seen;
@@ -25,9 +31,10 @@ use active_queries::{ActiveQueries, ActiveQuery};
 use commit_book::Book;
 use hub_model::{Outcome, Tags};
 use q_base::{Commit, Memory, Moment, Name};
-use query_core::{Kind, Query};
+use query_core::{Kind, Query, Row};
 use query_normal::{Key, KeyShape};
 use std::alloc::Global;
+use ttl_estimator::Estimator;
 
 /// Lets the query of a key see the last commit, or starts it there. The key of a record has none.
 pub fn follow_or_start(
@@ -168,21 +175,62 @@ fn record_outcome(
     }
 }
 
+/// Makes an entry for the estimate of a query's key.
+fn reserve_estimate(estimator: &mut Estimator, key: &Key) -> Result<(), Memory>
+    ensures known { OnOk result (is_query key.now ≡ true → IsTrue (is_known estimator.new.keys key.now)) }
+    ensures others { (other : AKey) → (is_query key.now && same_key key.now other) ≡ false → is_known estimator.new.keys other ≡ is_known estimator.old.keys other }
+    ensures kept { (other : AKey) → kept_of estimator.new.keys other ≡ kept_of estimator.old.keys other }
+    ensures err { OnErr result (estimator.new ≡ estimator.old) }
+    ensures rest { estimator.new ≡ record estimator.old { keys = estimator.new.keys } }
+{
+    match key.shape() {
+        KeyShape::Record { .. } => Ok(()),
+        KeyShape::Query { .. } => estimator.reserve(key),
+    }
+}
+
+/// Reserves memory for a copy of a key, and for the estimate of a query's key.
+pub fn reserve_copy(copies: &mut Copies, estimator: &mut Estimator, key: &Key) -> Result<(), Memory>
+    requires { copies.old.ready ≡ [] }
+    ensures ready { OnOk result (IsReadyFor copies.new key.now) }
+    ensures known { OnOk result (is_query key.now ≡ true → IsTrue (is_known estimator.new.keys key.now)) }
+    ensures others { (other : AKey) → (is_query key.now && same_key key.now other) ≡ false → is_known estimator.new.keys other ≡ is_known estimator.old.keys other }
+    ensures kept { (other : AKey) → kept_of estimator.new.keys other ≡ kept_of estimator.old.keys other }
+    ensures err { OnErr result (copies.new ≡ copies.old) }
+    ensures estimator { OnErr result (estimator.new ≡ estimator.old) }
+    ensures rest { copies.new ≡ record copies.old { ready = copies.new.ready } }
+    ensures estimates { estimator.new ≡ record estimator.old { keys = estimator.new.keys } }
+{
+    copies.reserve(key)?;
+    match reserve_estimate(estimator, key) {
+        Ok(()) => Ok(()),
+        Err(Memory) => {
+            copies.forget_reserved();
+            Err(Memory)
+        }
+    }
+}
+
 /// Issues the copy of a read at the last commit, at a moment, for which memory is ready; for how many
 /// seconds it may be kept. The query that the read started is kept with it. It takes no memory.
 pub fn issue_copy(
     book: &Book,
     copies: &mut Copies,
     queries: &mut ActiveQueries,
+    life: &mut Lifetimes,
     moment: Moment,
     key: &Key,
     started: Option<(Key, ActiveQuery)>,
 ) -> u32
     requires ready { IsReadyFor copies.old key.now }
     requires at_hand { IsAtHand book.now.journal key.now started queries.old }
-    ensures ttl { (front : ℕ) (s : State) → IsAt (hub_of book.now front copies.old) s → result ≡ ttl_of copies.old.setting (at_moment s moment) key.now (length book.now.journal) }
-    ensures issued { (front : ℕ) (s : State) → front ≤ length book.now.journal → IsAt (hub_of book.now front copies.old) s → IsAt (hub_of book.now front copies.new) (has_read copies.old.setting key.now (length book.now.journal) (at_moment s moment)) }
+    requires following { AreFollowing book.now.journal queries.old.entries }
+    requires known { is_query key.now ≡ true → IsTrue (is_known life.old.estimator.keys key.now) }
+    requires limits { life.old.estimator.limits ≡ limits_of copies.old.setting }
+    ensures ttl { (front : ℕ) (s : State) → IsAt (hub_of book.now front copies.old life.old) s → result ≡ ttl_of copies.old.setting (at_moment s moment) key.now (length book.now.journal) }
+    ensures issued { (front : ℕ) (s : State) → front ≤ length book.now.journal → copies.old.idle ≡ [] → IsAt (hub_of book.now front copies.old life.old) s → IsAt (hub_of book.now front copies.new life.new) (has_read copies.old.setting key.now (length book.now.journal) (at_moment s moment)) }
     ensures kept { (front : ℕ) → front ≤ length book.now.journal → KeepsQueries book.now.journal front copies.old.copies copies.old.idle queries.old.entries → KeepsQueries book.now.journal front copies.new.copies copies.new.idle queries.new.entries }
+    ensures lifetimes { (front : ℕ) → front ≤ length book.now.journal → copies.old.idle ≡ [] → KeepsLifetimes book.now.journal front copies.old life.old → KeepsLifetimes book.now.journal front copies.new life.new }
     ensures clock { copies.new.clock ≡ max copies.old.clock moment }
     ensures setting { copies.new.setting ≡ copies.old.setting }
     ensures idle { copies.new.idle ≡ [] }
@@ -190,23 +238,60 @@ pub fn issue_copy(
     ensures invalidatable { copies.new.invalidatable ≡ copies.old.invalidatable }
 {
     copies.advance(moment);
-    let ttl = lifetime(copies, key);
+    let active = copies.is_active(key);
+    let ttl = lifetime(
+        book,
+        copies,
+        queries,
+        &life.estimator,
+        &started,
+        key,
+        active,
+    );
     copies.issue(key, book.count(), ttl);
+    note_read(&mut life.estimator, key, active, ttl, copies.clock());
     add_started(queries, started, ttl);
-    drop_idle(copies, queries);
+    drop_idle(copies, queries, life);
     ttl
 }
 
-/// For how many seconds a copy of a key may be kept: not at all where a further key would be active
-/// beyond the limit.
-fn lifetime(copies: &Copies, key: &Key) -> u32
-    ensures { result ≡ lifetime copies.now key.now }
+/// For how many seconds a copy of a key may be kept at the clock: by the writes of the records that its
+/// result is of, or by the estimate of an active query.
+fn lifetime(
+    book: &Book,
+    copies: &Copies,
+    queries: &ActiveQueries,
+    estimator: &Estimator,
+    started: &Option<(Key, ActiveQuery)>,
+    key: &Key,
+    active: bool,
+) -> u32
+    requires at_hand { IsAtHand book.now.journal key.now started.now queries.now }
+    requires following { AreFollowing book.now.journal queries.now.entries }
+    ensures { result ≡ lifetime estimator.now key.now (ids_at key.now book.now.journal) copies.now.clock active (active_keys copies.now.copies) }
 {
-    if copies.may_issue(key) {
-        copies.config().ttl_high()
-    } else {
-        0
+    let count = copies.active_count();
+    let clock = copies.clock();
+    match key.shape() {
+        KeyShape::Record { .. } => estimator.ttl(key, &[], clock, active, count),
+        KeyShape::Query { kind, normal } => match query_at_hand(queries, started, key) {
+            Some(query) => {
+                let rows = last_rows(book, query, *kind, normal.query());
+                estimator.ttl(key, rows, clock, active, count)
+            }
+            None => unreachable!(),
+        },
     }
+}
+
+/// The rows of a query that has seen the last commit.
+fn last_rows<'a>(book: &Book, active: &'a ActiveQuery, kind: Kind, query: &Query) -> &'a [Row]
+    requires follows { Follows kind query.now active.now book.now.journal }
+    requires seen { active.now.seen ≡ length book.now.journal }
+    ensures { result.now ≡ window query.now (docs book.now.journal (length book.now.journal) query.now.collection) }
+{
+    rows_are_those_of_the_last_commit_seen();
+    active.rows()
 }
 
 /// Adds the query that a read started, where a copy of its result may be kept.

@@ -2,15 +2,15 @@
 ghost use Rattle.std.specs.Prelude.{◌≡◌, ℕ, ◌≤◌, true, List, length, IfOk, OnOk, OnErr};
 ghost use Rattle.hub_core.specs.PageRoom.{IsRoomFor};
 ghost use Rattle.hub_model.specs.declared.entry.Entry.{Entry as AnEntry};
-ghost use Rattle.hub_model.specs.declared.entry.Entry.TheVariants.{Write, Read, Tick};
+ghost use Rattle.hub_model.specs.declared.entry.Entry.TheVariants.{Write, Read, Purges, Tick};
 ghost use Rattle.hub_model.specs.Desk.{Makes, Learns};
-ghost use Rattle.hub_model.specs.Reply.{wrote, read, counted};
+ghost use Rattle.hub_model.specs.Reply.{wrote, read, purged, counted, told_of};
 ghost use Rattle.hub_model.specs.Setting.{Setting};
 ghost use Rattle.hub_model.specs.Step.{is_accepted, state_of};
 ghost use Rattle.hub_desk.specs.Desk.{MatchesAll, Fetches, IsBehind};
 
 use hub_core::PageRoom;
-use hub_model::{Answer, Change, Condition, Matched, Stats, Tags, Written};
+use hub_model::{Answer, Change, Condition, Matched, PurgeReply, Stats, Tags, Written};
 use q_base::{Memory, Moment};
 use query_normal::Key;
 
@@ -90,6 +90,15 @@ pub trait Desk {
         requires room { IsRoomFor (setting self.old) room.old }
         ensures made { Fetches (setting self.old) (seen self.old) (seen self.new) (mine self.old) (mine self.new) moment room.new }
         ensures room { IsRoomFor (setting self.old) room.new }
+        ensures anchor { anchor self.new ≡ anchor self.old }
+        ensures setting { setting self.new ≡ setting self.old };
+
+    /// Tells the purged keys from a number on: one entry.
+    fn purges(&mut self, moment: Moment, from: u64) -> Result<PurgeReply, Memory>
+        requires { is_ready self.old }
+        ensures made { IfOk result (λ p. Makes (setting self.old) (seen self.old) (seen self.new) (mine self.old) (mine self.new) (Purges moment from) (purged (told_of p))) }
+        ensures memory { OnErr result (Learns (setting self.old) (seen self.old) (seen self.new) (mine self.old) (mine self.new)) }
+        ensures again { OnErr result (is_ready self.new) }
         ensures anchor { anchor self.new ≡ anchor self.old }
         ensures setting { setting self.new ≡ setting self.old };
 

@@ -2,15 +2,15 @@
 ghost use Rattle.std.specs.Prelude.{◌≡◌, ◌+◌, ◌<◌, ◌≤◌, ◌^◌, [], List, length, true, nat_lt, if◌then◌else◌, IfOk, OnErr};
 ghost use Rattle.hub_core.specs.PageRoom.{IsRoomFor};
 ghost use Rattle.hub_model.specs.declared.entry.Entry.{Entry as AnEntry};
-ghost use Rattle.hub_model.specs.declared.entry.Entry.TheVariants.{Write, Read, Match, Tick};
-ghost use Rattle.hub_model.specs.Reply.{wrote, read, matched, counted};
+ghost use Rattle.hub_model.specs.declared.entry.Entry.TheVariants.{Write, Read, Match, Purges, Tick};
+ghost use Rattle.hub_model.specs.Reply.{wrote, read, matched, purged, counted, told_of};
 ghost use Rattle.hub_model.specs.Step.{is_accepted, state_of};
 ghost use Rattle.hub_desk.specs.HubValue.{hub_setting, StandsFor, Adds, AddsPage};
 
 use crate::laws::calls_make_entries;
 use hub_core::{Config, Hub, PageRoom, hubs_represent_histories};
 use hub_model::laws::{front_is_within, helps_are_told_by_the_front};
-use hub_model::{Answer, Change, Condition, Entry, Matched, Stats, Tags, Written};
+use hub_model::{Answer, Change, Condition, Entry, Matched, PurgeReply, Stats, Tags, Written};
 use q_base::{Commit, Memory, Moment};
 use query_normal::Key;
 use std::alloc::Global;
@@ -164,6 +164,19 @@ impl HubValue {
         calls_make_entries();
         self.hub.fetch(moment, room);
         self.count += 1;
+    }
+
+    /// Tells the purged keys from a number on, as one entry.
+    pub(crate) fn purges(&mut self, moment: Moment, from: u64) -> Result<PurgeReply, Memory>
+        requires { self.old.count + 1 < 2 ^ 64 }
+        ensures made { IfOk result (λ p. Adds self.old self.new (Purges moment from) (purged (told_of p))) }
+        ensures memory { OnErr result (self.new ≡ self.old) }
+        ensures setting { hub_setting self.new ≡ hub_setting self.old }
+    {
+        calls_make_entries();
+        let reply = self.hub.purges(moment, from)?;
+        self.count += 1;
+        Ok(reply)
     }
 
     /// Lets time pass, as one entry. It takes no memory.

@@ -10,7 +10,7 @@ mod seated;
 pub use desk::Desk;
 pub use hub_core::{Config, ConfigRefusal, Hub, PageRoom};
 pub use hub_model::{
-    Answer, Change, Condition, Entry, Found, Matched, Outcome, Stats, Tags, Written,
+    Answer, Change, Condition, Entry, Found, Matched, Outcome, PurgeReply, Stats, Tags, Written,
 };
 pub use hub_value::{HubValue, Noted};
 pub use owned::Owned;

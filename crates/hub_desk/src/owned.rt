@@ -9,7 +9,7 @@ use crate::desk::Desk;
 use crate::laws::calls_make_entries;
 use hub_core::{Config, Hub, PageRoom};
 use hub_model::laws::{front_is_within, helps_are_told_by_the_front, no_entry_is_legal};
-use hub_model::{Answer, Change, Condition, Entry, Matched, Stats, Tags, Written};
+use hub_model::{Answer, Change, Condition, Entry, Matched, PurgeReply, Stats, Tags, Written};
 use q_base::{Commit, Memory, Moment};
 use query_normal::Key;
 use std::alloc::Global;
@@ -173,6 +173,13 @@ impl Desk for Owned {
         calls_make_entries();
         self.hub.fetch(moment, room);
         note(&mut self.entries, Entry::Fetch { moment });
+    }
+
+    fn purges(&mut self, moment: Moment, from: u64) -> Result<PurgeReply, Memory> {
+        calls_make_entries();
+        let reply = self.hub.purges(moment, from)?;
+        note(&mut self.entries, Entry::Purges { moment, from });
+        Ok(reply)
     }
 
     fn tick(&mut self, moment: Moment) -> Stats {

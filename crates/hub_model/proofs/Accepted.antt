@@ -16,7 +16,7 @@ use Rattle.hub_model.specs.declared.entry.Tags.TheVariants.{Any, Listed}
 use Rattle.hub_model.specs.Direct.{found_behind, IsMet, IsAccepted, IsEqualAtOne, IsJournalFrom, IsJournalOf}
 use Rattle.hub_model.specs.Setting.{Setting}
 use Rattle.hub_model.specs.State.{State, start, at_moment}
-use Rattle.hub_model.specs.Step.{found_of, found_now, is_met, is_accepted, wrote, after, state_of}
+use Rattle.hub_model.specs.Step.{found_of, found_now, is_met, is_accepted, wrote, after, state_of, with_change}
 use Rattle.hub_model.proofs.Changes.{version_at}
 use Rattle.hub_model.proofs.Copies.{any_from, found_by}
 
@@ -72,14 +72,14 @@ module _ (g : Setting) (s : State) (change : Change) (condition : Condition) whe
       )
 
   -- a write leaves a state or adds its change
-  pub wrote-keeps : (P : State → Type 0) → P (record s { journal = s.journal ++ change ∷ [] }) → P s → P (wrote g change condition s)
-  wrote-keeps P p q = kept_by P (is_accepted g s change condition) (record s { journal = s.journal ++ change ∷ [] }) s p q
+  pub wrote-keeps : (P : State → Type 0) → P (with_change change s) → P s → P (wrote g change condition s)
+  wrote-keeps P p q = kept_by P (is_accepted g s change condition) (with_change change s) s p q
 
   wrote-accepted : is_accepted g s change condition ≡ true → (wrote g change condition s).journal ≡ s.journal ++ change ∷ []
-  wrote-accepted h = ap (λ (t : State). t.journal) (chosen (is_accepted g s change condition) (record s { journal = s.journal ++ change ∷ [] }) s h)
+  wrote-accepted h = ap (λ (t : State). t.journal) (chosen (is_accepted g s change condition) (with_change change s) s h)
 
   wrote-refused : is_accepted g s change condition ≡ false → (wrote g change condition s).journal ≡ s.journal
-  wrote-refused h = ap (λ (t : State). t.journal) (left (is_accepted g s change condition) (record s { journal = s.journal ++ change ∷ [] }) s h)
+  wrote-refused h = ap (λ (t : State). t.journal) (left (is_accepted g s change condition) (with_change change s) s h)
 
   refuses : is_accepted g s change condition ≡ false → IsAccepted g s.journal change condition → ⊥
   refuses h a = both_ways (is_accepted g s change condition) h (accepted-Decides.1 a)

@@ -1,7 +1,7 @@
 -- What a match leaves, commit by commit.
 use Rattle.std.proofs.Common.{◌≡◌, ◌≢◌, ℕ, suc, ◌-◌, ◌<◌, ◌≤◌, max, Bool, true, false, cond, ◌&&◌, List, [], ◌∷◌, map, filter, refl, sym, ap, ◌∙◌, subst, inl, inr, arith}
 use Rattle.std.specs.Prelude.{nat_le, nat_lt, if◌then◌else◌}
-use Rattle.std.proofs.lemmas.Bool.{cases_lt, cases_eq, both_ways, and_parts, and_from, lt-ltb, le-ltb, le-leb, not-true, not-false}
+use Rattle.std.proofs.lemmas.Bool.{cases_Bool, cases_lt, cases_eq, both_ways, and_parts, and_from, lt-ltb, le-ltb, le-leb, not-true, not-false}
 use Rattle.std.proofs.lemmas.List.Elements.{filter_agree}
 use Rattle.query_normal.specs.declared.key.KeyShape.{KeyShape}
 use Rattle.query_normal.specs.Keys.{same_key}
@@ -33,6 +33,12 @@ changed_differs key journal n h e = both_ways (same_finding (result_at key journ
 unchanged_same : (key : KeyShape) (journal : List Change) (n : ℕ) → is_changed key journal n ≡ false → result_at key journal n ≡ result_at key journal (n - 1)
 unchanged_same key journal n h = (same_finding-Decides (result_at key journal n) (result_at key journal (n - 1))).0 (not-false (same_finding (result_at key journal n) (result_at key journal (n - 1))) h)
 
+differs_changed : (key : KeyShape) (journal : List Change) (n : ℕ) → result_at key journal n ≢ result_at key journal (n - 1) → is_changed key journal n ≡ true
+differs_changed key journal n h = elim (cases_Bool (same_finding (result_at key journal n) (result_at key journal (n - 1)))) [
+  | inl same ↦ absurd (h ((same_finding-Decides (result_at key journal n) (result_at key journal (n - 1))).0 same))
+  | inr other ↦ rw (other) refl
+]
+
 -- of the copies of a key of one commit
 module _ (key : KeyShape) (c : ℕ) (journal : List Change) where
   pub outdated-by_steps : (front : ℕ) → IsOutdated key c journal front → IsChangedAfter key c journal front
@@ -58,6 +64,29 @@ module _ (key : KeyShape) (c : ℕ) (journal : List Change) where
         | inr earlier ↦ (let upto = m.2 in test-from_outdated key c journal n (steps-outdated n (m.0, m.1, omega (arith, upto, earlier), m.3)))
       ]))
       (λ t. (let d = outdated-from_test key c journal n t in let upto = d.2 in test-from_outdated key c journal (suc n) (d.0, d.1, omega (arith, upto), d.3)))
+
+  -- what is outdated at a commit is so at each later one
+  pub is_outdated-later : (front later : ℕ) → front ≤ later → is_outdated key c journal front ≡ true → is_outdated key c journal later ≡ true
+  is_outdated-later front later order t = (let d = outdated-from_test key c journal front t in let upto = d.2 in test-from_outdated key c journal later (d.0, d.1, omega (arith, upto, order), d.3))
+
+  -- a commit behind that of a copy that changes the result outdates it
+  pub is_outdated-by : (front m : ℕ) → c < m → m ≤ front → is_changed key journal m ≡ true → is_outdated key c journal front ≡ true
+  is_outdated-by front m after upto h = test-from_outdated key c journal front (steps-outdated front (m, after, upto, changed_differs key journal m h))
+
+  -- what was not outdated at a front and is so later was outdated by a commit between
+  pub newly-changed : (front later : ℕ) → is_outdated key c journal front ≡ false → is_outdated key c journal later ≡ true → (m : ℕ) × (front < m) × (m ≤ later) × (c < m) × (is_changed key journal m ≡ true)
+  newly-changed front later was is =
+      let step = outdated-by_steps later (outdated-from_test key c journal later is) in
+      let after = step.1 in (
+        step.0,
+        elim (cases_lt front step.0) [
+          | inl above ↦ above
+          | inr within ↦ absurd (both_ways (is_outdated key c journal front) was (test-from_outdated key c journal front (steps-outdated front (step.0, step.1, within, step.3))))
+        ],
+        step.2,
+        step.1,
+        differs_changed key journal step.0 step.3,
+      )
 
   -- what is outdated at a commit is of a commit before it
   outdated_before : (front : ℕ) → is_outdated key c journal front ≡ true → c < front

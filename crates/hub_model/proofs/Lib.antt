@@ -5,11 +5,13 @@ mod Copies
 pub mod Covered
 pub mod Issues
 mod Histories
+pub mod Kept
 pub mod KeySets
 pub mod Known
 mod LaterStates
 mod Moves
 mod CopiesOfReads
+pub mod Purged
 pub mod Queries
 pub mod Recorded
 pub mod Results

@@ -11,6 +11,7 @@ use Rattle.query_core.specs.declared.query.Kind.{Kind}
 use Rattle.query_core.specs.declared.query.Kind.TheVariants.{Objects, Ids}
 use Rattle.query_core.specs.Filters.{constant, compared}
 use Rattle.query_normal.specs.declared.key.KeyShape.TheVariants.{Record, Query}
+use Rattle.query_normal.specs.Keys.{key_text}
 use Rattle.query_normal.specs.Pages.{Page}
 use Rattle.result_kinds.specs.Results.{ids}
 use Rattle.commit_book.specs.declared.change.Change.{Change}
@@ -18,7 +19,7 @@ use Rattle.commit_book.specs.Journal.{cost_of}
 use Rattle.hub_model.specs.declared.entry.Condition.{Condition}
 use Rattle.hub_model.specs.declared.entry.Condition.TheVariants.{Always, Present, Absent, Unchanged}
 use Rattle.hub_model.specs.declared.entry.Entry.{Entry}
-use Rattle.hub_model.specs.declared.entry.Entry.TheVariants.{Write, Read, Match, Fetch, Tick}
+use Rattle.hub_model.specs.declared.entry.Entry.TheVariants.{Write, Read, Match, Fetch, Purges, Tick}
 use Rattle.hub_model.specs.declared.entry.Found.TheVariants.{Missing, At}
 use Rattle.hub_model.specs.declared.entry.Outcome.TheVariants.{Whole, Same, Absent as Nothing}
 use Rattle.hub_model.specs.declared.entry.Outcome.{Outcome}
@@ -32,7 +33,7 @@ use Rattle.hub_model.specs.Step.{after_all, state_of}
 use Rattle.hub_model.specs.State.{IssuedCopy, State, start, at_moment}
 use Rattle.hub_model.specs.Copies.{active_keys}
 use Rattle.hub_model.specs.Legal.{IsLegal}
-use Rattle.hub_model.specs.Reply.{Replied, reply, reply_in, wrote, read, matched, fetched, counted}
+use Rattle.hub_model.specs.Reply.{Replied, reply, reply_in, wrote, read, matched, fetched, purged, counted}
 use Rattle.hub_model.specs.Journal.{absent, present, queried, result_at, same_finding}
 use Rattle.hub_model.specs.Lifetime.{ttl_of}
 use Rattle.hub_model.specs.Outdated.{is_outdated, is_changed}
@@ -163,16 +164,17 @@ undone_between : (record_of (state_of sixty back_again) ≡ p1 ∷ [])
 unfolding state_of cost_of digits escape_byte
 undone_between = (refl, refl, refl)
 
--- ---- of a least and a greatest lifetime the greatest is given
+-- ---- a record that was never written has the greatest lifetime, and one that was just written the least
 
 abbrev ten_to_ninety : Setting
 ten_to_ninety = record default_setting { ttl_low = 10; ttl_high = 90 }
 
 lifetimes : (reply ten_to_ninety [] (Read 100 p1 (Listed []) 0) ≡ read (record { commit = 0; clock = 100; ttl = 90; result = Nothing }))
-    × (record_of (state_of ten_to_ninety (covered ++ Fetch 189 ∷ [])) ≡ p1 ∷ [])
-    × (record_of (state_of ten_to_ninety (covered ++ Fetch 190 ∷ [])) ≡ [])
+    × (record_of (state_of ten_to_ninety (covered ++ Fetch 109 ∷ [])) ≡ [])
+    × (record_of (state_of ten_to_ninety (Write 100 (put_p1 1) Always ∷ Read 100 p1 (Listed []) 1 ∷ Write 105 (put_p1 2) Always ∷ Match 105 2 ∷ Fetch 109 ∷ [])) ≡ p1 ∷ [])
+    × (record_of (state_of ten_to_ninety (Write 100 (put_p1 1) Always ∷ Read 100 p1 (Listed []) 1 ∷ Write 105 (put_p1 2) Always ∷ Match 105 2 ∷ Fetch 110 ∷ [])) ≡ [])
 unfolding state_of reply cost_of digits escape_byte
-lifetimes = (refl, refl, refl)
+lifetimes = (refl, refl, refl, refl)
 
 -- ---- with one key at most, another key's reply may not be kept; with none, no reply may
 
@@ -398,7 +400,7 @@ query_undone = (refl, refl, refl, refl, refl)
 
 -- a state after n puts of p1, of which none is matched
 abbrev after_puts : ℕ → State
-after_puts n = record { clock = 100; journal = replicate n (put_p1 1); front = 0; copies = [] }
+after_puts n = record { clock = 100; journal = replicate n (put_p1 1); writes = []; front = 0; copies = []; estimates = []; purges = [] }
 
 abbrev put_more : Entry
 put_more = Write 100 (put_p1 2) Always
@@ -415,3 +417,99 @@ not_helped : (helps_of sixty (after_puts 1023) put_more ≡ [])
     × (helps_of (few_bytes 78848) (after_puts 1024) put_more ≡ [])
 unfolding cost_of digits escape_byte
 not_helped = (refl, refl, refl)
+
+-- ---- lifetimes by the rates of writes, from one second to an hour
+
+abbrev hour : Setting
+hour = record default_setting { ttl_low = 1; ttl_high = 3600 }
+
+abbrev p3 : KeyShape
+p3 = Record (codes "shop") (codes "p3")
+
+-- p1 is written at 100, 200 and 300, and p2 at 100
+abbrev written_thrice : List Entry
+written_thrice =
+    Write 100 (put_p1 1) Always
+    ∷ Write 100 (put_p2 1) Always
+    ∷ Write 200 (put_p1 2) Always
+    ∷ Write 300 delete_p1 Always
+    ∷ []
+
+-- at a second before any other entry
+abbrev at_second : ℕ → List Entry → State
+at_second moment history = at_moment (state_of hour history) moment
+
+-- a record that was just written, one that was written three times, one that was written once, and one that never was
+record_lifetimes : (ttl_of hour (at_second 100 (Write 100 (put_p1 1) Always ∷ [])) p1 1 ≡ 1)
+    × (ttl_of hour (at_second 400 written_thrice) p1 4 ≡ 69)
+    × (ttl_of hour (at_second 400 written_thrice) p2 4 ≡ 207)
+    × (ttl_of hour (at_second 400 written_thrice) p3 4 ≡ 3600)
+unfolding state_of cost_of digits escape_byte
+record_lifetimes = (refl, refl, refl, refl)
+
+-- ---- the lifetime of a query, and its estimate
+
+-- all documents of the collection shop, in the order of `a`, at most two
+abbrev first_two : KeyShape
+first_two = Query Objects (record { collection = codes "shop"; filter = constant true; order = (codes "a" ∷ [], false) ∷ []; skip = 0; take = 2 })
+
+abbrev put_again : List Entry
+put_again =
+    Write 100 (put_p1 1) Always
+    ∷ Write 100 (put_p2 2) Always
+    ∷ Write 200 (put_p1 1) Always
+    ∷ Write 300 (put_p1 1) Always
+    ∷ []
+
+-- the query is read at 400, and outdated 20 seconds later
+abbrev read_at_400 : List Entry
+read_at_400 = put_again ++ Read 400 first_two (Listed []) 4 ∷ []
+
+abbrev outdated_at_420 : List Entry
+outdated_at_420 = read_at_400 ++ Write 420 (put_p2 3) Always ∷ Match 420 5 ∷ []
+
+-- the sum of the rates gives 51; the estimate learns from the purge, and is gone when the copy expires
+query_estimates : (ttl_of hour (at_second 400 put_again) first_two 4 ≡ 51)
+    × (ttl_of hour (at_second 401 read_at_400) first_two 4 ≡ 51)
+    × (ttl_of hour (at_second 420 outdated_at_420) first_two 5 ≡ 41)
+    × (ttl_of hour (at_second 450 outdated_at_420) first_two 5 ≡ 41)
+    × (active_keys (at_second 451 outdated_at_420) ≡ [])
+unfolding state_of cost_of digits escape_byte
+query_estimates = (refl, refl, refl, refl, refl)
+
+-- ---- purges
+
+-- p1, p2 and p3 have 1, 2 and 3; the query finds the first two; then p1 is deleted
+abbrev put_p3 : ℕ → Change
+put_p3 n = record { collection = codes "shop"; id = codes "p3"; document = Some (a_is n) }
+
+abbrev slid : List Entry
+slid =
+    Write 100 (put_p1 1) Always
+    ∷ Write 100 (put_p2 2) Always
+    ∷ Write 100 (put_p3 3) Always
+    ∷ Read 100 first_two (Listed []) 3
+    ∷ Write 100 delete_p1 Always
+    ∷ Match 100 4
+    ∷ []
+
+abbrev first_two_text : List ℕ
+first_two_text = key_text first_two
+
+-- the key is in the record, and it is the first purge
+slid_purge : (record_of (state_of sixty slid) ≡ first_two ∷ [])
+    × (reply sixty slid (Purges 100 1) ≡ purged (record { from = 1; last = 1; front = 4; clock = 100; texts = first_two_text ∷ [] }))
+    × (reply sixty slid (Purges 100 2) ≡ purged (record { from = 2; last = 1; front = 4; clock = 100; texts = [] }))
+unfolding state_of reply cost_of digits escape_byte
+slid_purge = (refl, refl, refl)
+
+-- a further change of the same copies is no purge; a copy that was issued since is
+purged_once : (reply sixty (slid ++ Write 100 (put_p2 5) Always ∷ Match 100 5 ∷ []) (Purges 100 0) ≡ purged (record { from = 0; last = 1; front = 5; clock = 100; texts = first_two_text ∷ [] }))
+    × (reply sixty (slid ++ Read 100 first_two (Listed []) 4 ∷ Write 100 (put_p2 5) Always ∷ Match 100 5 ∷ []) (Purges 100 1) ≡ purged (record { from = 1; last = 2; front = 5; clock = 100; texts = first_two_text ∷ first_two_text ∷ [] }))
+unfolding state_of reply cost_of digits escape_byte
+purged_once = (refl, refl)
+
+-- the keys of one match are numbered in the byte order of their texts, whichever was read first
+purges_in_order : reply sixty (Read 100 p2 (Listed []) 0 ∷ Read 100 p1 (Listed []) 0 ∷ Write 100 (put_p2 1) Always ∷ Write 100 (put_p1 1) Always ∷ Match 100 2 ∷ []) (Purges 100 1) ≡ purged (record { from = 1; last = 2; front = 2; clock = 100; texts = codes "r/shop/p1" ∷ codes "r/shop/p2" ∷ [] })
+unfolding state_of reply cost_of digits escape_byte key_text
+purges_in_order = refl

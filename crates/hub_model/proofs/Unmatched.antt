@@ -5,12 +5,12 @@ use Rattle.std.proofs.lemmas.Bool.{and_parts, leb-true, leb-false, lt-ltb, le-lt
 use Rattle.commit_book.specs.declared.change.Change.{Change}
 use Rattle.hub_model.specs.declared.entry.Condition.{Condition}
 use Rattle.hub_model.specs.declared.entry.Entry.{Entry}
-use Rattle.hub_model.specs.declared.entry.Entry.TheVariants.{Write, Read, Match, Fetch, Tick}
+use Rattle.hub_model.specs.declared.entry.Entry.TheVariants.{Write, Read, Match, Fetch, Purges, Tick}
 use Rattle.hub_model.specs.Helps.{helps_of, match_between}
 use Rattle.hub_model.specs.Legal.{most_unmatched, HasFewUnmatched, Admits, IsLegalFrom, IsLegal}
 use Rattle.hub_model.specs.Setting.{Setting}
 use Rattle.hub_model.specs.State.{State, start, at_moment}
-use Rattle.hub_model.specs.Step.{is_accepted, after, after_all, state_of}
+use Rattle.hub_model.specs.Step.{is_accepted, with_change, after, after_all, state_of}
 use Rattle.hub_model.proofs.Accepted.{wrote-keeps}
 use Rattle.hub_model.proofs.Histories.{front-within}
 
@@ -33,7 +33,7 @@ module _ (g : Setting) (s : State) (moment : ℕ) (change : Change) (condition :
   -- an accepted write adds one commit
   few-write : HasFewUnmatched s → is_helped ≡ false → HasFewUnmatched (after g s (Write moment change condition))
   few-write few room =
-      few-chosen (is_accepted g s change condition) (at_moment s moment) (record (at_moment s moment) { journal = s.journal ++ change ∷ [] })
+      few-chosen (is_accepted g s change condition) (at_moment s moment) (with_change change (at_moment s moment))
       (λ accepts.
       let size = length-append s.journal (change ∷ []) in
       let below : length s.journal < s.front + 1024 = leb-false (s.front + most_unmatched) (length s.journal) (second-false (is_accepted g s change condition) (nat_le (s.front + most_unmatched) (length s.journal)) accepts room) in
@@ -81,6 +81,7 @@ admitted-follows g s (Write moment change condition) within few admits = helped_
 admitted-follows g s (Read moment key tags at) within few admits = ((admits, few), tt)
 admitted-follows g s (Match moment to) within few admits = ((admits, (let up = admits.0 in omega (arith, up, few))), tt)
 admitted-follows g s (Fetch moment) within few admits = ((tt, few), tt)
+admitted-follows g s (Purges moment from) within few admits = ((tt, few), tt)
 admitted-follows g s (Tick moment) within few admits = ((tt, few), tt)
 
 -- ---- every legal history

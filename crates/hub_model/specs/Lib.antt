@@ -5,10 +5,12 @@ pub mod Helps
 pub mod Journal
 pub mod Known
 pub mod KnownSince
+pub mod Kept
 pub mod Later
 pub mod Legal
 pub mod Lifetime
 pub mod Outdated
+pub mod Purge
 pub mod Record
 pub mod Reply
 pub mod Setting

@@ -1,5 +1,5 @@
 -- Believed. A history is a list of entries, the newest last; its state is what the entries leave, one after another.
-use Rattle.std.specs.Prelude.{ℕ, Bool, true, false, ◌&&◌, if◌then◌else◌, nat_le, List, [], ◌∷◌, ◌++◌, length, fold, Option, Some, None}
+use Rattle.std.specs.Prelude.{ℕ, Bool, true, false, not, ◌&&◌, if◌then◌else◌, nat_le, nat_lt, List, [], ◌∷◌, ◌++◌, length, map, fold, Option, Some, None}
 use Rattle.std.specs.List.{list_any}
 use Rattle.q_doc.specs.Tree.{Tree}
 use Rattle.query_normal.specs.declared.key.KeyShape.{KeyShape}
@@ -7,12 +7,14 @@ use Rattle.commit_book.specs.declared.change.Change.{Change}
 use Rattle.hub_model.specs.declared.entry.Condition.{Condition}
 use Rattle.hub_model.specs.declared.entry.Condition.TheVariants.{Always, Present, Absent, Unchanged}
 use Rattle.hub_model.specs.declared.entry.Entry.{Entry}
-use Rattle.hub_model.specs.declared.entry.Entry.TheVariants.{Write, Read, Match, Fetch, Tick}
+use Rattle.hub_model.specs.declared.entry.Entry.TheVariants.{Write, Read, Match, Fetch, Purges, Tick}
 use Rattle.hub_model.specs.declared.entry.Found.{Found}
 use Rattle.hub_model.specs.declared.entry.Found.TheVariants.{Missing, At}
 use Rattle.hub_model.specs.declared.entry.Tags.TheVariants.{Any, Listed}
 use Rattle.commit_book.specs.Journal.{document_at, kept_with}
-use Rattle.hub_model.specs.Lifetime.{ttl_of}
+use Rattle.hub_model.specs.Copies.{is_active}
+use Rattle.hub_model.specs.Lifetime.{ttl_of, estimate_after}
+use Rattle.hub_model.specs.Purge.{purged_keys, purged_texts}
 use Rattle.hub_model.specs.Setting.{Setting}
 use Rattle.hub_model.specs.State.{State, start, at_moment}
 
@@ -40,17 +42,33 @@ is_met (Unchanged (Listed tags)) (At version) commits = list_any (λ t. nat_le v
 abbrev pub is_accepted : Setting → State → Change → Condition → Bool
 is_accepted g s change condition = is_met condition (found_now s change) (length s.journal) && nat_le (kept_with s.journal change) g.capacity
 
+-- each in a state whose clock is that of the entry
+
+-- with one accepted change more, which is the next commit
+abbrev pub with_change : Change → State → State
+with_change change s = record s {
+  journal = s.journal ++ change ∷ [];
+  writes = s.writes ++ record { collection = change.collection; id = change.id; clock = s.clock } ∷ [];
+}
+
 -- an accepted change is the next commit
 abbrev pub wrote : Setting → Change → Condition → State → State
-wrote g change condition s = if is_accepted g s change condition then record s { journal = s.journal ++ change ∷ [] } else s
+wrote g change condition s = if is_accepted g s change condition then with_change change s else s
 
--- a read issues a copy, for a lifetime that may be 0
+-- a read issues a copy, for a lifetime that may be 0; if the key was not active, the lifetime becomes its estimate
 abbrev pub has_read : Setting → KeyShape → ℕ → State → State
-has_read g key at s = record s { copies = s.copies ++ record { key = key; at = at; clock = s.clock; ttl = ttl_of g s key at } ∷ [] }
+has_read g key at s = record s {
+  copies = s.copies ++ record { key = key; at = at; clock = s.clock; ttl = ttl_of g s key at } ∷ [];
+  estimates = if nat_lt 0 (ttl_of g s key at) && not (is_active s key) then (key, ttl_of g s key at) ∷ s.estimates else s.estimates;
+}
 
--- a match moves the front
+-- a match moves the front, and purges keys, of which it makes new estimates
 abbrev pub has_matched : Setting → ℕ → State → State
-has_matched g to s = record s { front = to }
+has_matched g to s = record s {
+  front = to;
+  purges = s.purges ++ purged_texts s to;
+  estimates = map (λ key. (key, estimate_after g s key)) (purged_keys s to) ++ s.estimates;
+}
 
 -- the moment of an entry
 abbrev pub moment_of : Entry → ℕ
@@ -58,6 +76,7 @@ moment_of (Write moment change condition) = moment
 moment_of (Read moment key tags at) = moment
 moment_of (Match moment to) = moment
 moment_of (Fetch moment) = moment
+moment_of (Purges moment from) = moment
 moment_of (Tick moment) = moment
 
 -- what an entry makes of a state: each moves the clock, and a write, a read and a match do more

@@ -52,6 +52,11 @@ pub enum Entry {
     Fetch {
         moment: Moment,
     },
+    /// The purges from a number on were asked for.
+    Purges {
+        moment: Moment,
+        from: u64,
+    },
     /// Time passed.
     Tick {
         moment: Moment,
@@ -128,6 +133,22 @@ pub struct Matched {
     pub front: Commit,
     /// The clock after the match.
     pub clock: Moment,
+}
+
+/// The reply to a caller who asks for the purges from a number on. A cache that can be purged drops its
+/// replies for these keys, and then asks from the number after the last of them on.
+#[derive(Debug, Drop)]
+pub struct PurgeReply {
+    /// The number from which on keys were asked for; 0 counts as 1.
+    pub from: u64,
+    /// The number of the last purge, which is the number of all purges.
+    pub last: u64,
+    /// The last commit that was matched.
+    pub front: Commit,
+    /// The clock after the request.
+    pub clock: Moment,
+    /// The purged keys from that number on, in the order of their numbers, at most 1,000 of them.
+    pub keys: Vec<Key>,
 }
 
 /// The reply to a tick.

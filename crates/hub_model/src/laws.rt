@@ -1,6 +1,6 @@
 //! What follows of histories from the definitions alone. Each function states one law, and does
 //! nothing.
-ghost use Rattle.std.specs.Prelude.{◌≡◌, ◌≢◌, ◌↔◌, ◌+◌, ◌<◌, ◌≤◌, ℕ, Bool, true, suc, max, List, [], ◌∷◌, ◌++◌, length, Option, Some, None, IsTrue, Contains, slice_get, is_some, nat_lt, ◌&&◌, ◌||◌, if◌then◌else◌};
+ghost use Rattle.std.specs.Prelude.{◌≡◌, ◌≢◌, ◌↔◌, ◌+◌, ◌<◌, ◌≤◌, ℕ, Bool, true, false, suc, max, List, [], ◌∷◌, ◌++◌, length, Option, Some, None, IsTrue, Contains, slice_get, is_some, nat_lt, ◌&&◌, ◌||◌, if◌then◌else◌};
 ghost use Rattle.std.specs.Bool.{Decides};
 ghost use Rattle.std.specs.List.{list_any, IsDistinct};
 ghost use Rattle.std.specs.List.Sorted.{IsPermutation};
@@ -32,10 +32,11 @@ ghost use Rattle.hub_model.specs.Helps.{helps_of, match_between};
 ghost use Rattle.hub_model.specs.Legal.{most_unmatched, Admits, MayFollow, IsLegalFrom, IsLegal};
 ghost use Rattle.hub_model.specs.Lifetime.{ttl_of};
 ghost use Rattle.hub_model.specs.Outdated.{IsOutdated, IsChangedAfter, is_outdated, is_changed};
+ghost use Rattle.hub_model.specs.Purge.{is_newly_outdated};
 ghost use Rattle.hub_model.specs.Record.{IsRecorded, is_recorded, record_of, outdated_copies, bits_of, page_of};
 ghost use Rattle.hub_model.specs.Setting.{Setting};
 ghost use Rattle.hub_model.specs.State.{IssuedCopy, State, start, at_moment};
-ghost use Rattle.hub_model.specs.Step.{is_accepted, after, after_all, has_read, state_of};
+ghost use Rattle.hub_model.specs.Step.{is_accepted, after, after_all, has_matched, has_read, state_of};
 ghost use Rattle.hub_model.specs.Until.{until_among, latest_until, until_of_outdated};
 
 // What the tests of the definitions decide.
@@ -226,6 +227,12 @@ pub fn read_outdates_nothing()
 /// A write changes the record by its clock alone, as a tick at its moment does.
 pub fn write_records_nothing()
     ensures { (g : Setting) (history : List AnEntry) (moment : ℕ) (change : AChange) (condition : ACondition) → IsLegal g history → record_of (state_of g (history ++ Write moment change condition ∷ [])) ≡ record_of (state_of g (history ++ Tick moment ∷ [])) }
+{}
+
+/// A copy that a match outdates is newly outdated by no later match: a key is purged once for the same
+/// copies.
+pub fn a_copy_purges_its_key_once()
+    ensures { (g : Setting) (s t : State) (to later : ℕ) (r : IssuedCopy) → to ≤ length s.journal → IsLater (has_matched g to s) t → IsTrue (is_newly_outdated s to r) → is_newly_outdated t later r ≡ false }
 {}
 
 // By what a store may keep the record, without the definitions' lists.

@@ -9,7 +9,9 @@ mod tags;
 
 pub use commit_book::Change;
 pub use commits::Commits;
-pub use entry::{Answer, Condition, Entry, Found, Matched, Outcome, Stats, Tags, Written};
+pub use entry::{
+    Answer, Condition, Entry, Found, Matched, Outcome, PurgeReply, Stats, Tags, Written,
+};
 
 #[cfg(test)]
 mod tests;

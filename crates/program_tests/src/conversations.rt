@@ -66,7 +66,7 @@ fn requests_of_one_connection_have_their_replies(rt: HostRuntime) -> Result<(), 
         (
             b"HEAD /v1/d/shop/p1 HTTP/1.1\r\nHost: a\r\n\r\n",
             b"HTTP/1.1 200 OK",
-            b"ETag: \"4\"\r\nCache-Control: max-age=3600\r\nQuaestor-Commit: 4\r\nQuaestor-Version: 4\r\nQuaestor-Until: 3700\r\n",
+            b"ETag: \"4\"\r\nCache-Control: max-age=1\r\nQuaestor-Commit: 4\r\nQuaestor-Version: 4\r\nQuaestor-Until: 101\r\n",
             b"{\"a\":6}",
         ),
         (
@@ -78,7 +78,7 @@ fn requests_of_one_connection_have_their_replies(rt: HostRuntime) -> Result<(), 
         (
             b"GET /v1/d/sh%6fp/p1 HTTP/1.1\r\nHost: a\r\n\r\n",
             b"HTTP/1.1 404 Not Found",
-            b"Cache-Control: max-age=3600\r\nQuaestor-Commit: 5\r\nQuaestor-Until: 3700\r\n",
+            b"Cache-Control: max-age=1\r\nQuaestor-Commit: 5\r\nQuaestor-Until: 101\r\n",
             b"{\"error\":\"absent\"}",
         ),
         (
@@ -90,7 +90,7 @@ fn requests_of_one_connection_have_their_replies(rt: HostRuntime) -> Result<(), 
         (
             b"GET /v1/d/shop/p1 HTTP/1.1\r\nHost: a\r\nAccept: */*\r\nIf-Match: \"7\"\r\n\r\n",
             b"HTTP/1.1 200 OK",
-            b"ETag: \"6\"\r\nCache-Control: max-age=3600\r\nQuaestor-Commit: 6\r\nQuaestor-Version: 6\r\nQuaestor-Until: 3700\r\n",
+            b"ETag: \"6\"\r\nCache-Control: max-age=1\r\nQuaestor-Commit: 6\r\nQuaestor-Version: 6\r\nQuaestor-Until: 101\r\n",
             b"{\"a\":2}",
         ),
         (
@@ -197,9 +197,9 @@ fn requests_of_one_connection_have_their_replies(rt: HostRuntime) -> Result<(), 
         ),
         (
             b"GET /v1/purges HTTP/1.1\r\nHost: a\r\n\r\n",
-            b"HTTP/1.1 501 Not Implemented",
+            b"HTTP/1.1 200 OK",
             NO_STORE,
-            b"{\"error\":\"not_built\"}",
+            b"{\"from\":1,\"front\":0,\"keys\":[],\"last\":0}",
         ),
         (
             b"GET /v1/d/shop/p1 HTTP/1.1\r\nHost: a\r\nIf-None-Match: 1\r\n\r\n",

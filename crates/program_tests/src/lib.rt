@@ -14,6 +14,8 @@ mod faults;
 #[cfg(test)]
 mod helped;
 #[cfg(test)]
+mod purges;
+#[cfg(test)]
 mod serving;
 #[cfg(test)]
 mod tagged;

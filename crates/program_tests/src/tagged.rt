@@ -26,7 +26,7 @@ const OK: &[u8] =
 
 /// Behind the tag of a read at commit 4 of the document that commit 3 put.
 const READ: &[u8] =
-    b"\"\r\nCache-Control: max-age=3600\r\nQuaestor-Commit: 4\r\nQuaestor-Version: 3\r\nQuaestor-Until: 3700\r\n\r\n";
+    b"\"\r\nCache-Control: max-age=1\r\nQuaestor-Commit: 4\r\nQuaestor-Version: 3\r\nQuaestor-Until: 101\r\n\r\n";
 
 /// The reply to a read of a record without a document.
 const ABSENT: &[u8] =

@@ -1,7 +1,7 @@
 //! The words of a command line: which are taken, and what the others are answered.
 
 use crate::calls::{AMPLE, Outcome, WHOLE, assert_run, calls_of, run_over, words_of};
-use crate::texts::joined;
+use crate::texts::{all_of, joined};
 use crate::worked::{FOUND, GET, LAST, PUT, STORED, USAGE};
 use q_base::Memory;
 use quaestor_prog::{Status, refusal_of};
@@ -101,6 +101,74 @@ fn options_are_numbers_within_their_limits(rt: HostRuntime) -> Result<(), Fail> 
         if status == Status::Words {
             assert_eq!(rt; outcome.written.as_slice(), USAGE, "at {at}");
         }
+    }
+    Ok(())
+}
+
+/// A record that is never written is read.
+const GET_ELSEWHERE: &[u8] = b"GET /v1/d/shop/p2 HTTP/1.1\r\nHost: a\r\n\r\n";
+
+/// Ahead of what the reply to the read of a document says of its lifetime, at the moment 100.
+const BEFORE_LIFETIME: &[u8] =
+    b"HTTP/1.1 200 OK\r\nDate: Thu, 01 Jan 1970 00:01:40 GMT\r\nContent-Type: application/json\r\nContent-Length: 7\r\nETag: \"1\"\r\nCache-Control: ";
+
+/// The same of the read of a record that is never written.
+const BEFORE_OTHER: &[u8] =
+    b"HTTP/1.1 404 Not Found\r\nDate: Thu, 01 Jan 1970 00:01:40 GMT\r\nContent-Type: application/json\r\nContent-Length: 18\r\nCache-Control: ";
+
+/// A record that is read in the second of its write has the least lifetime, and one that is never
+/// written the greatest; where no key may be active, there is none.
+#[test]
+fn lifetimes_are_within_their_limits(rt: HostRuntime) -> Result<(), Fail> {
+    // The line, and twice the lifetime and its end.
+    let rows: [(&[&str], &[u8], &[u8], &[u8], &[u8]); 5] = [
+        (&[], b"max-age=1", b"101", b"max-age=3600", b"3700"),
+        (
+            &["--ttl-low", "60"],
+            b"max-age=60",
+            b"160",
+            b"max-age=3600",
+            b"3700",
+        ),
+        (
+            &["--ttl-high", "600"],
+            b"max-age=1",
+            b"101",
+            b"max-age=600",
+            b"700",
+        ),
+        (
+            &["--ttl-low=30", "--ttl-high=30"],
+            b"max-age=30",
+            b"130",
+            b"max-age=30",
+            b"130",
+        ),
+        (&["--active", "0"], b"no-store", b"100", b"no-store", b"100"),
+    ];
+    let alloc = rt.alloc();
+    let input = all_of(alloc, &[PUT, GET, GET_ELSEWHERE])?;
+    for (at, (options, age, until, other_age, other_until)) in rows.into_iter().enumerate() {
+        let mut line = Vec::from_slice(alloc, &["pipe", "--clock", "100"])?;
+        line.extend_from_slice(options)?;
+        let written = all_of(
+            alloc,
+            &[
+                STORED,
+                BEFORE_LIFETIME,
+                age,
+                b"\r\nQuaestor-Commit: 1\r\nQuaestor-Version: 1\r\nQuaestor-Until: ",
+                until,
+                b"\r\n\r\n{\"a\":1}",
+                BEFORE_OTHER,
+                other_age,
+                b"\r\nQuaestor-Commit: 1\r\nQuaestor-Until: ",
+                other_until,
+                b"\r\n\r\n{\"error\":\"absent\"}",
+            ],
+        )?;
+        let outcome = run_over(&rt, &line, &input, calls_of(WHOLE), AMPLE, calls_of(WHOLE))?;
+        assert_run(&rt, &outcome, Status::Done, &written, at);
     }
     Ok(())
 }

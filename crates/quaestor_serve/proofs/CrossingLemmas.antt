@@ -49,6 +49,12 @@ use Rattle.expiring_filter.specs.contracts.filter.CountingFilter as CountingFilt
 use Rattle.expiring_map.specs.contracts.reserved.ReservedKeys as ReservedKeys
 use Rattle.issued_expiries.proofs.key_copies.KeyCopies.TheSendSync as TheKeyCopies
 use Rattle.issued_expiries.specs.contracts.expiries.Expiries as Expiries
+use Rattle.purge_list.specs.contracts.last_changes.LastChanges as LastChanges
+use Rattle.purge_list.specs.contracts.purges.Purges as Purges
+use Rattle.ttl_estimator.proofs.estimates.Kept.TheSendSync as TheKept
+use Rattle.ttl_estimator.proofs.records.Records.TheSendSync as TheRecords
+use Rattle.ttl_estimator.specs.contracts.estimates.Estimates as Estimates
+use Rattle.ttl_estimator.specs.contracts.estimator.Estimator as Estimator
 use Rattle.http_message.proofs.room.RequestRoom.TheSendSync as TheRequests
 use Rattle.http_front.proofs.reply.ReplyRoom.TheSendSync as TheReply
 use Rattle.http_front.proofs.routes.Route.TheSendSync as TheTarget
@@ -66,6 +72,8 @@ use Rattle.hub_core.proofs.page_room.PageRoom.TheSendSync as ThePages
 use Rattle.hub_core.specs.contracts.config.Config as Config
 use Rattle.hub_core.specs.contracts.copies.Copies as Copies
 use Rattle.hub_core.specs.contracts.hub.Hub as Hub
+use Rattle.hub_core.specs.contracts.hub.Hub.TheInside as HubInside
+use Rattle.hub_core.specs.contracts.lifetimes.Lifetimes as Lifetimes
 use Rattle.turnstile.proofs.gate.Turnstile.TheSendSync as TheTurnstile
 use Rattle.turnstile.specs.contracts.gate.Turnstile as Turnstile
 use Rattle.turnstile.specs.contracts.view.View as View
@@ -171,8 +179,27 @@ followed_send = search (followed_inside_send, crosses, sendable) depth 60 fits 2
 pub queries_send : IsSend ActiveQueries.the_row
 queries_send = search (key_send, followed_send, TheMap.the_send, crosses, sendable) depth 60 fits 20000
 
+-- what it keeps for the lifetimes of replies and for purges
+pub estimates_send : IsSend Estimates.the_row
+estimates_send = search (key_send, TheKept.the_send, TheMap.the_send, crosses, sendable) depth 60 fits 20000
+
+pub estimator_send : IsSend Estimator.the_row
+estimator_send = search (estimates_send, TheRecords.the_send, crosses, sendable) depth 60 fits 20000
+
+pub changes_send : IsSend LastChanges.the_row
+changes_send = search (key_send, TheMap.the_send, crosses, sendable) depth 60 fits 20000
+
+pub purges_send : IsSend Purges.the_row
+purges_send = search (key_send, crosses, sendable) depth 60 fits 20000
+
+pub lifetimes_send : IsSend Lifetimes.the_row
+lifetimes_send = search (estimator_send, changes_send, purges_send, crosses, sendable) depth 60 fits 20000
+
+pub hub_inside_send : IsSend HubInside.the_row
+hub_inside_send = declared_send HubInside.the_type (search (crosses, sendable), (book_send, (search (crosses, sendable), (copies_send, (queries_send, (lifetimes_send, tt))))))
+
 pub hub_send : IsSend Hub.the_row
-hub_send = search (book_send, copies_send, queries_send, crosses, sendable) depth 60 fits 20000
+hub_send = search (hub_inside_send, crosses, sendable) depth 60 fits 20000
 
 pub value_send : IsSend HubValue.the_row
 value_send = search (hub_send, crosses, sendable) depth 60 fits 20000

@@ -50,6 +50,18 @@ pub none_of : {X : Type 0} (size : ℕ) (xs : List X) → size ≡ length xs →
 none_of size [] is none = refl
 none_of size (x ∷ xs) is none = absurd (omega (arith, is, none))
 
+module _ {C : Type 0} where
+  -- one matcher more works at the turnstile
+  pub work_more : (turnstile : HubTurnstile) (old new : List (Matcher C)) (last : Matcher C) → new ≡ old ++ last ∷ [] → AllOf (λ (m : Matcher C). WorksAt turnstile m) old → WorksAt turnstile last → AllOf (λ (m : Matcher C). WorksAt turnstile m) new
+  work_more turnstile old new last items work works =
+      subst (λ (ms : List (Matcher C)). AllOf (λ (m : Matcher C). WorksAt turnstile m) ms) (sym items) (all_append (λ (m : Matcher C). WorksAt turnstile m) old (last ∷ []) work (works, tt))
+
+  -- the first had its turn, and is behind the others
+  pub work_turned : (turnstile : HubTurnstile) (old left new : List (Matcher C)) (first last : Matcher C) → old ≡ first ∷ left → new ≡ left ++ last ∷ [] → AllOf (λ (m : Matcher C). WorksAt turnstile m) old → WorksAt turnstile last → AllOf (λ (m : Matcher C). WorksAt turnstile m) new
+  work_turned turnstile old left new first last taken items work works =
+      let all : AllOf (λ (m : Matcher C). WorksAt turnstile m) (first ∷ left) = subst (λ (ms : List (Matcher C)). AllOf (λ (m : Matcher C). WorksAt turnstile m) ms) taken work in
+      work_more turnstile left new last items all.1 works
+
 module _ {S K C : Type 0} where
   -- the matchers that are left still work in the hall, once the first has ended
   pub work_rest : (h l : Hall S K C) (old new : List (Matcher C)) (first : Matcher C) → old ≡ first ∷ new → arc_value l.turnstile ≡ arc_value h.turnstile → WorkIn h old → WorkIn l new

@@ -1,21 +1,24 @@
 -- A desk is made ready, and then answers.
-use Rattle.std.proofs.Common.{◌≡◌, ℕ, List, ◌++◌, length, nat_lt, Result, Ok, IfOk, refl, sym, subst, inl, inr}
+use Rattle.std.proofs.Common.{◌≡◌, ℕ, Bool, List, ◌++◌, length, nat_lt, Result, Ok, IfOk, refl, sym, subst, inl, inr}
 use Rattle.std.proofs.lemmas.Bool.{cases_Bool}
 use Rattle.http_front.specs.Asks.{ask_of}
 use Rattle.http_front.specs.Routes.{all_routes}
 use Rattle.http_front.specs.declared.ask.Ask.{Ask}
-use Rattle.http_front.specs.declared.ask.Ask.TheVariants.{MatchAll}
+use Rattle.http_front.specs.declared.ask.Ask.TheVariants as asks
 use Rattle.http_front.specs.declared.refused.Refused.{Refused}
 use Rattle.http_front.specs.declared.routes.Served.{Served}
 use Rattle.http_front.specs.declared.told.Told.{Told}
-use Rattle.http_front.specs.declared.told.Told.TheVariants.{Match}
+use Rattle.http_front.specs.declared.told.Told.TheVariants as answers
 use Rattle.http_message.specs.Message.{Message}
 use Rattle.hub_core.specs.PageRoom.{PageRoomView, IsRoomFor}
 use Rattle.hub_desk.specs.Desk.{matching, MatchesAll}
 use Rattle.hub_model.specs.declared.entry.Entry.{Entry}
+use Rattle.hub_model.specs.declared.entry.Entry.TheVariants.{Purges}
 use Rattle.hub_model.specs.declared.entry.Matched.{Matched}
-use Rattle.hub_model.specs.Desk.{Learns}
+use Rattle.hub_model.specs.declared.entry.PurgeReply.{PurgeReply}
+use Rattle.hub_model.specs.Desk.{Makes, Learns}
 use Rattle.hub_model.specs.Legal.{IsLegal}
+use Rattle.hub_model.specs.Reply.{purged, told_of}
 use Rattle.hub_model.specs.Setting.{Setting}
 use Rattle.hub_model.specs.State.{State}
 use Rattle.hub_model.specs.Step.{state_of}
@@ -64,13 +67,25 @@ fresh_matching g old s moment e is = subst (λ (x : Entry). IsFresh g old x) (sy
 ])
 
 -- a desk that matched all commits served that ask
-pub made_match : (g : Setting) (old new : List Entry) (mine mine_new : List (ℕ × Entry)) (moment : ℕ) (asked : Result Ask Refused) (match : Matched) (page : List ℕ) → asked ≡ Ok MatchAll → MatchesAll g old new mine mine_new moment match → IsMade g old new mine mine_new moment asked (Match match) page
+pub made_match : (g : Setting) (old new : List Entry) (mine mine_new : List (ℕ × Entry)) (moment : ℕ) (asked : Result Ask Refused) (match : Matched) (page : List ℕ) → asked ≡ Ok asks.MatchAll → MatchesAll g old new mine mine_new moment match → IsMade g old new mine mine_new moment asked (answers.Match match) page
 made_match g old new mine mine_new moment asked match page asked_is m =
-    subst (λ (a : Result Ask Refused). IsMade g old new mine mine_new moment a (Match match) page) (sym asked_is) (made (record {
+    subst (λ (a : Result Ask Refused). IsMade g old new mine mine_new moment a (answers.Match match) page) (sym asked_is) (made (record {
       entry = m.entry;
       replied = m.replied;
       made = m.made;
       is_of = m.entry_is;
       fresh = fresh_matching g old (state_of g (m.made.before ++ m.made.helps)) moment m.entry m.entry_is;
       told_is = (match, m.told_is, refl);
+    }))
+
+-- a desk that told purges served that ask
+pub made_purges : (g : Setting) (old new : List Entry) (mine mine_new : List (ℕ × Entry)) (moment from : ℕ) (head : Bool) (asked : Result Ask Refused) (reply : PurgeReply) (page : List ℕ) → asked ≡ Ok (asks.Purges from head) → Makes g old new mine mine_new (Purges moment from) (purged (told_of reply)) → IsMade g old new mine mine_new moment asked (answers.Purges reply) page
+made_purges g old new mine mine_new moment from head asked reply page asked_is m =
+    subst (λ (a : Result Ask Refused). IsMade g old new mine mine_new moment a (answers.Purges reply) page) (sym asked_is) (made (record {
+      entry = Purges moment from;
+      replied = purged (told_of reply);
+      made = m;
+      is_of = refl;
+      fresh = tt;
+      told_is = (reply, refl, refl);
     }))

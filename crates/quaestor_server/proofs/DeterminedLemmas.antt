@@ -6,11 +6,9 @@ use Rattle.std.proofs.lemmas.List.{append_cancel_left}
 use Rattle.dialogue.specs.Dialogue.{Sides, Exchange, Answered, Dialogue, pieces, is_last}
 use Rattle.dialogue.specs.EndLaw.{SameItems}
 use Rattle.http_front.specs.ReadBack.{RepliesHaveOneText}
-use Rattle.http_front.specs.ReplyText.{body_of}
 use Rattle.http_front.specs.declared.ask.Ask.{Ask}
 use Rattle.http_front.specs.declared.ask.Ask.TheVariants as asks
 use Rattle.http_front.specs.declared.refused.Refused.{Refused}
-use Rattle.http_front.specs.declared.refused.Refused.TheVariants.{NotBuilt}
 use Rattle.http_front.specs.declared.told.Told.{Told}
 use Rattle.http_front.specs.declared.told.Told.TheVariants as answers
 use Rattle.http_message.specs.Item.{Item}
@@ -22,7 +20,7 @@ use Rattle.hub_model.specs.declared.entry.Tags.{Tags}
 use Rattle.hub_model.specs.Desk.{IsPrefix, Makes, Learns}
 use Rattle.hub_model.specs.Helps.{helps_of}
 use Rattle.hub_model.specs.Legal.{MayFollow, IsLegal, IsLegalFrom}
-use Rattle.hub_model.specs.Reply.{Replied, reply, wrote, read, matched, fetched, counted}
+use Rattle.hub_model.specs.Reply.{Replied, reply, wrote, read, matched, fetched, purged, counted}
 use Rattle.hub_model.specs.Setting.{Setting}
 use Rattle.hub_model.specs.State.{State, start}
 use Rattle.hub_model.specs.Step.{after, after_all, state_of}
@@ -32,7 +30,7 @@ use Rattle.quaestor_server.specs.Answer.{Serves, Fails, IsAnswer, serves, fails,
 use Rattle.quaestor_server.specs.Ask.{asked_by, shape_by, IsEntryOf, IsToldOf, IsFresh}
 use Rattle.quaestor_server.specs.Conversation.{RepliesAt, ConnectionState, Replies}
 use Rattle.quaestor_server.specs.TextsAreDetermined.{IsAlone}
-use Rattle.quaestor_server.proofs.TextLemmas.{same_text}
+use Rattle.quaestor_server.proofs.TextLemmas.{AreAlike, alike, purges_alike, same_text}
 
 -- a list is as long as its numbered elements
 length_numbered : (n : ℕ) (es : List Entry) → length (enumerate_from n es) ≡ length es
@@ -157,7 +155,7 @@ same_entry g known (Ok (asks.Read key tags head)) moment e f p q fresh again may
     p.1 ∙ ap (λ (n : ℕ). Read moment key tags n) (first ∙ sym second) ∙ sym q.1
 same_entry g known (Ok asks.MatchAll) moment e f p q fresh again may might = match_at g known e moment p ∙ sym (match_at g known f moment q)
 same_entry g known (Ok (asks.Fetch head)) moment e f p q fresh again may might = p ∙ sym q
-same_entry g known (Ok (asks.Purges fields head)) moment e f p q fresh again may might = p ∙ sym q
+same_entry g known (Ok (asks.Purges from head)) moment e f p q fresh again may might = p ∙ sym q
 same_entry g known (Ok (asks.Stats head)) moment e f p q fresh again may might = p ∙ sym q
 same_entry g known (Err refused) moment e f p q fresh again may might = p ∙ sym q
 
@@ -167,34 +165,25 @@ same_front (wrote written) m n p q = absurd p
 same_front (read answer) m n p q = absurd p
 same_front (matched match) m n p q = p ∙ sym q
 same_front (fetched page) m n p q = absurd p
+same_front (purged list) m n p q = absurd p
 same_front (counted stats) m n p q = p ∙ sym q
 
--- two replies to one entry are equal, and so are their bodies
-record IsSame (told again : Told) (page other : List ℕ) : Type 0 where
-  told_is : told ≡ again
-  body_is : body_of told page ≡ body_of told other
-
--- a body that is no page has no page in it
-same_body : (told is : Told) (page other : List ℕ) → told ≡ is → body_of is page ≡ body_of is other → body_of told page ≡ body_of told other
-same_body told is page other e h = subst (λ (t : Told). body_of t page ≡ body_of t other) (sym e) h
-
--- an entry has one reply
-same_told : (asked : Result Ask Refused) (replied : Replied) (told again : Told) (page other : List ℕ) → IsToldOf asked replied told page → IsToldOf asked replied again other → IsSame told again page other
-same_told (Ok (asks.Write change condition)) (wrote written) told again page other p q = record { told_is = p ∙ sym q; body_is = same_body told (answers.Write written) page other p refl }
-same_told (Ok (asks.Read key tags head)) (read answer) told again page other p q = record { told_is = p ∙ sym q; body_is = same_body told (answers.Read answer) page other p refl }
-same_told (Ok asks.MatchAll) replied told again page other p q =
-    record { told_is = p.2 ∙ ap answers.Match (same_front replied p.0 q.0 p.1 q.1) ∙ sym q.2; body_is = same_body told (answers.Match p.0) page other p.2 refl }
-same_told (Ok (asks.Fetch head)) (fetched stored) told again page other p q = record { told_is = p.0 ∙ sym q.0; body_is = same_body told (answers.Page stored.moment) page other p.0 (p.1 ∙ sym q.1) }
-same_told (Ok (asks.Purges fields head)) (counted stats) told again page other p q = record { told_is = p ∙ sym q; body_is = same_body told (answers.Refusal NotBuilt stats.clock) page other p refl }
-same_told (Ok (asks.Stats head)) (counted stats) told again page other p q = record { told_is = p ∙ sym q; body_is = same_body told (answers.Count stats) page other p refl }
-same_told (Err refused) (counted stats) told again page other p q = record { told_is = p ∙ sym q; body_is = same_body told (answers.Refusal refused stats.clock) page other p refl }
+-- an entry has one reply, but for how a list of purges is kept
+same_told : (asked : Result Ask Refused) (replied : Replied) (told again : Told) (page other : List ℕ) → IsToldOf asked replied told page → IsToldOf asked replied again other → AreAlike told again page other
+same_told (Ok (asks.Write change condition)) (wrote written) told again page other p q = alike told again (answers.Write written) page other p q refl
+same_told (Ok (asks.Read key tags head)) (read answer) told again page other p q = alike told again (answers.Read answer) page other p q refl
+same_told (Ok asks.MatchAll) replied told again page other p q = alike told again (answers.Match p.0) page other p.2 (q.2 ∙ ap answers.Match (same_front replied q.0 p.0 q.1 p.1)) refl
+same_told (Ok (asks.Fetch head)) (fetched stored) told again page other p q = alike told again (answers.Page stored.moment) page other p.0 q.0 (p.1 ∙ sym q.1)
+same_told (Ok (asks.Purges from head)) (purged list) told again page other p q = purges_alike told again page other p.0 q.0 p.2 q.2 (sym p.1 ∙ q.1)
+same_told (Ok (asks.Stats head)) (counted stats) told again page other p q = alike told again (answers.Count stats) page other p q refl
+same_told (Err refused) (counted stats) told again page other p q = alike told again (answers.Refusal refused stats.clock) page other p q refl
 same_told _ _ told again page other p q = absurd p
 
 -- the same entry, or none, and its reply
 record IsOne (new other : List Entry) (mine again : List (ℕ × Entry)) (told once : Told) (page pages : List ℕ) : Type 0 where
   seen_is : new ≡ other
   mine_is : mine ≡ again
-  told_is : IsSame told once page pages
+  told_alike : AreAlike told once page pages
 
 -- Two calls at the same desk and the same moment, among no others' entries.
 module _ (g : Setting) (old new other : List Entry) (mine mine_new again : List (ℕ × Entry)) (moment : ℕ) (asked : Result Ask Refused) (told once : Told) (page pages : List ℕ) (alone : length new + length mine ≡ length old + length mine_new) (lone : length other + length mine ≡ length old + length again) where
@@ -208,7 +197,7 @@ module _ (g : Setting) (old new other : List Entry) (mine mine_new again : List 
       record {
         seen_is = p.seen_is ∙ ap (λ (x : Entry). helped g old x ++ x ∷ []) e ∙ sym q.seen_is;
         mine_is = p.mine_is ∙ ap (λ (x : Entry). mine ++ enumerate_from (length old) (helps_of g (state_of g old) x ++ x ∷ [])) e ∙ sym q.mine_is;
-        told_is = same_told asked s.replied told once page pages s.told_is (subst (λ (r : Replied). IsToldOf asked r once pages) replied t.told_is);
+        told_alike = same_told asked s.replied told once page pages s.told_is (subst (λ (r : Replied). IsToldOf asked r once pages) replied t.told_is);
       }
 
   -- they failed alike
@@ -221,7 +210,7 @@ module _ (g : Setting) (old new other : List Entry) (mine mine_new again : List 
       record {
         seen_is = here ∙ sym there;
         mine_is = f.learns.mine ∙ sym h.learns.mine;
-        told_is = record { told_is = f.told_is ∙ sym h.told_is; body_is = same_body told answers.Memory page pages f.told_is refl };
+        told_alike = alike told once answers.Memory page pages f.told_is h.told_is refl;
       }
 
   -- so they answered alike
@@ -262,7 +251,7 @@ same_at texts g a b c item close text more m n e alone lone x y h =
     record {
       seen_is = one.seen_is;
       mine_is = one.mine_is;
-      text_is = same_text texts (shape_by item) x.told z.told x.page z.page close text more one.told_is.told_is one.told_is.body_is x.text_is z.text_is;
+      text_is = same_text texts (shape_by item) x.told z.told x.page z.page close text more one.told_alike x.text_is z.text_is;
     } in
     (subst P e here) y h
 

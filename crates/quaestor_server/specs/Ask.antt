@@ -6,7 +6,7 @@ use Rattle.http_front.specs.Routes.{all_routes}
 use Rattle.http_front.specs.declared.ask.Ask.{Ask}
 use Rattle.http_front.specs.declared.ask.Ask.TheVariants.{Write, Read, Purges, MatchAll, Fetch, Stats}
 use Rattle.http_front.specs.declared.refused.Refused.{Refused}
-use Rattle.http_front.specs.declared.refused.Refused.TheVariants.{Framing, NotBuilt}
+use Rattle.http_front.specs.declared.refused.Refused.TheVariants.{Framing}
 use Rattle.http_front.specs.declared.shape.Shape.{Shape}
 use Rattle.http_front.specs.declared.told.Told.{Told}
 use Rattle.http_front.specs.declared.told.Told.TheVariants as answers
@@ -15,7 +15,8 @@ use Rattle.hub_desk.specs.Desk.{matching, IsFrontOf, IsBehind}
 use Rattle.hub_model.specs.declared.entry.Entry.{Entry}
 use Rattle.hub_model.specs.declared.entry.Entry.TheVariants as entries
 use Rattle.hub_model.specs.declared.entry.Matched.{Matched}
-use Rattle.hub_model.specs.Reply.{Replied, wrote, read, fetched, counted}
+use Rattle.hub_model.specs.declared.entry.PurgeReply.{PurgeReply}
+use Rattle.hub_model.specs.Reply.{Replied, wrote, read, fetched, purged, counted, told_of}
 use Rattle.hub_model.specs.Setting.{Setting}
 use Rattle.hub_model.specs.State.{State}
 use Rattle.hub_model.specs.Step.{is_accepted, state_of}
@@ -30,14 +31,13 @@ abbrev pub shape_by : Item → Shape
 shape_by (request m) = shape_of m
 shape_by (unframed refused called head) = record { put = false; head = head }
 
--- the entry is the one that is asked for, at this moment, after a state; a refusal asks for a tick, and so
--- does a list of purges, which is answered as not built
+-- the entry is the one that is asked for, at this moment, after a state; a refusal asks for a tick
 abbrev pub IsEntryOf : Result Ask Refused → ℕ → State → Entry → Type 0
 IsEntryOf (Ok (Write change condition)) moment s e = e ≡ entries.Write moment change condition
 IsEntryOf (Ok (Read key tags head)) moment s e = (at : ℕ) × (e ≡ entries.Read moment key tags at)
 IsEntryOf (Ok MatchAll) moment s e = e ≡ matching s moment
 IsEntryOf (Ok (Fetch head)) moment s e = e ≡ entries.Fetch moment
-IsEntryOf (Ok (Purges fields head)) moment s e = e ≡ entries.Tick moment
+IsEntryOf (Ok (Purges from head)) moment s e = e ≡ entries.Purges moment from
 IsEntryOf (Ok (Stats head)) moment s e = e ≡ entries.Tick moment
 IsEntryOf (Err refused) moment s e = e ≡ entries.Tick moment
 
@@ -47,7 +47,7 @@ IsToldOf (Ok (Write change condition)) (wrote written) told page = told ≡ answ
 IsToldOf (Ok (Read key tags head)) (read answer) told page = told ≡ answers.Read answer
 IsToldOf (Ok MatchAll) replied told page = (match : Matched) × IsFrontOf replied match × (told ≡ answers.Match match)
 IsToldOf (Ok (Fetch head)) (fetched p) told page = (told ≡ answers.Page p.moment) × (page ≡ page_text p)
-IsToldOf (Ok (Purges fields head)) (counted stats) told page = told ≡ answers.Refusal NotBuilt stats.clock
+IsToldOf (Ok (Purges from head)) (purged list) told page = (reply : PurgeReply) × (list ≡ told_of reply) × (told ≡ answers.Purges reply)
 IsToldOf (Ok (Stats head)) (counted stats) told page = told ≡ answers.Count stats
 IsToldOf (Err refused) (counted stats) told page = told ≡ answers.Refusal refused stats.clock
 IsToldOf _ _ told page = ⊥
@@ -57,12 +57,12 @@ abbrev pub IsFresh : Setting → List Entry → Entry → Type 0
 IsFresh g known (entries.Read moment key tags at) = length (state_of g known).journal ≤ at
 IsFresh g known e = Unit {0}
 
--- the entry of this request may run out of memory after a history: that of a write that would be accepted, of a read, or of a match where there are commits to match, and no other
+-- the entry of this request may run out of memory after a history: that of a write that would be accepted, of a read, of a list of purges, or of a match where there are commits to match, and no other
 abbrev pub MayRunOut : Setting → List Entry → Result Ask Refused → Type 0
 MayRunOut g known (Ok (Write change condition)) = is_accepted g (state_of g known) change condition ≡ true
 MayRunOut g known (Ok (Read key tags head)) = Unit {0}
 MayRunOut g known (Ok MatchAll) = IsBehind (state_of g known)
 MayRunOut g known (Ok (Fetch head)) = ⊥
-MayRunOut g known (Ok (Purges fields head)) = ⊥
+MayRunOut g known (Ok (Purges from head)) = Unit {0}
 MayRunOut g known (Ok (Stats head)) = ⊥
 MayRunOut g known (Err refused) = ⊥

@@ -65,7 +65,10 @@ fn make<D: Desk>(
             desk.fetch(moment, pages);
             Told::Page(pages.moment())
         }
-        Ok(Ask::Purges { .. }) => Told::Refusal(Refused::NotBuilt, desk.tick(moment).clock),
+        Ok(Ask::Purges { from, .. }) => match desk.purges(moment, from) {
+            Ok(reply) => Told::Purges(reply),
+            Err(_) => Told::Memory,
+        },
         Ok(Ask::Stats { .. }) => Told::Count(desk.tick(moment)),
         Err(refused) => Told::Refusal(refused, desk.tick(moment).clock),
     }

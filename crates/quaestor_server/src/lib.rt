@@ -15,7 +15,7 @@ pub use http_message::FramingRefusal;
 pub use hub_core::{Config, ConfigRefusal, Hub, PageRoom};
 pub use hub_desk::{Desk, Owned};
 pub use hub_model::{
-    Answer, Change, Condition, Entry, Found, Matched, Outcome, Stats, Tags, Written,
+    Answer, Change, Condition, Entry, Found, Matched, Outcome, PurgeReply, Stats, Tags, Written,
 };
 pub use laws::{
     bytes_and_moments_determine_the_texts, own_entries_are_in_place, owned_histories_are_alone,

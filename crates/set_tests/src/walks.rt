@@ -1,7 +1,8 @@
 //! Random commits: what a set shows and tells is compared with windows made from scratch.
+ghost use Rattle.query_core.specs.Limits.{IsQuery};
 
 use crate::slow::{is_step, shows};
-use crate::store::{go, last_row, new_book, query, set_now, window_now, write};
+use crate::store::{go, go_and_back, last_row, new_book, query, set_now, window_now, write};
 use commit_book::{Book, CommitRow};
 use match_sets::{MatchSet, MatchStep, Notice};
 use query_core::{Query, Rows};
@@ -44,29 +45,69 @@ struct Habit {
     deletions: u64,
 }
 
-/// A random write: of twenty one is in another collection.
+/// The collection of a write: of twenty one is in another.
+fn collection(number: u64) -> &'static [u8] {
+    if number % 20 == 0 { b"home" } else { b"shop" }
+}
+
+/// Which record a write is of.
+fn record(number: u64, habit: &Habit) -> u64 {
+    if habit.ids == 0 {
+        0
+    } else {
+        number % habit.ids
+    }
+}
+
+/// What is written: a document, or no text, which deletes.
+fn text(alloc: Global, number: u64, deletes: bool) -> Result<Vec<u8>, Fail> {
+    if deletes {
+        Ok(Vec::new(alloc))
+    } else {
+        document(alloc, number)
+    }
+}
+
+/// A random write.
 fn write_one(alloc: Global, book: &mut Book, number: u64, habit: &Habit) -> Result<u64, Fail> {
     let second = next(number);
     let third = next(second);
-    let collection: &[u8] = if third % 20 == 0 { b"home" } else { b"shop" };
-    let id = id(
-        alloc,
-        if habit.ids == 0 {
-            0
-        } else {
-            number % habit.ids
-        },
-    )?;
-    if second % 100 < habit.deletions {
-        write(alloc, book, collection, &id, b"")?;
-    } else {
-        write(alloc, book, collection, &id, &document(alloc, third)?)?;
-    }
+    let id = id(alloc, record(number, habit))?;
+    let text = text(alloc, third, second % 100 < habit.deletions)?;
+    write(alloc, book, collection(third), &id, &text)?;
     Ok(next(third))
 }
 
-/// Writes, and takes the set along: over the commit, back, and over it again. Whether all that it
-/// shows and tells is right.
+/// Takes the set over the commit and back. Whether it is as it was.
+fn is_back(
+    alloc: Global,
+    book: &Book,
+    query: &Query,
+    set: &mut MatchSet,
+    before: &Rows,
+    row: &CommitRow,
+) -> Result<bool, Fail> {
+    let kept = set.kept();
+    go_and_back(alloc, book, query, set, row)?;
+    Ok(set.kept() == kept && shows(set, before))
+}
+
+/// Takes the set over the commit. Whether all that it shows and tells is right.
+fn is_over(
+    alloc: Global,
+    book: &Book,
+    query: &Query,
+    set: &mut MatchSet,
+    before: &Rows,
+    row: &CommitRow,
+) -> Result<bool, Fail> {
+    let step = go(alloc, book, query, set, row)?;
+    let after = window_now(alloc, book, query)?;
+    Ok(shows(set, &after) && is_step_of(row, query, before, &after, &step))
+}
+
+/// Takes the set along the last commit: over it, back, and over it again. Whether all that it shows
+/// and tells is right.
 fn is_right(
     alloc: Global,
     book: &Book,
@@ -74,14 +115,10 @@ fn is_right(
     set: &mut MatchSet,
     before: &Rows,
 ) -> Result<bool, Fail> {
-    let row = last_row(book)?;
-    let kept = set.kept();
-    let (_, undo) = go(alloc, book, query, set)?;
-    set.back(undo);
-    let is_back = set.kept() == kept && shows(set, before);
-    let (step, _) = go(alloc, book, query, set)?;
-    let after = window_now(alloc, book, query)?;
-    Ok(is_back && shows(set, &after) && is_step_of(&row, query, before, &after, &step))
+    let row = last_row(alloc, book)?;
+    let is_back = is_back(alloc, book, query, set, before, &row)?;
+    let is_over = is_over(alloc, book, query, set, before, &row)?;
+    Ok(is_back && is_over)
 }
 
 /// Whether the step is right: of a row of another collection that nothing happened.
@@ -103,6 +140,20 @@ fn is_step_of(
     }
 }
 
+/// Writes, and takes the set along. The next number, or none where something is not right.
+fn step(
+    alloc: Global,
+    book: &mut Book,
+    query: &Query,
+    set: &mut MatchSet,
+    number: u64,
+    habit: &Habit,
+) -> Result<Option<u64>, Fail> {
+    let before = window_now(alloc, book, query)?;
+    let next = write_one(alloc, book, number, habit)?;
+    Ok(is_right(alloc, book, query, set, &before)?.then_some(next))
+}
+
 /// Whether a set is right over so many random writes.
 fn walk(
     alloc: Global,
@@ -114,30 +165,48 @@ fn walk(
 ) -> Result<bool, Fail> {
     let mut number = seed;
     for _ in 0..150u32 {
-        let before = window_now(alloc, book, query)?;
-        number = write_one(alloc, book, number, habit)?;
-        if !is_right(alloc, book, query, set, &before)? {
-            return Ok(false);
+        match step(alloc, book, query, set, number, habit)? {
+            Some(next) => number = next,
+            None => return Ok(false),
         }
     }
     Ok(true)
 }
 
-/// Whether a set of the query is right while records are put, and while they are deleted.
-fn holds_for(alloc: Global, texts: [&str; 4], ids: u64, seed: u64) -> Result<bool, Fail> {
-    let query = query(alloc, texts)?;
-    let mut book = new_book(alloc, 10_000_000)?;
+/// Puts records. Returns the next number.
+fn fill(alloc: Global, book: &mut Book, ids: u64, seed: u64) -> Result<u64, Fail> {
     let mut number = seed;
     let filling = Habit { ids, deletions: 0 };
     for _ in 0..ids % 500 * 2 {
-        number = write_one(alloc, &mut book, number, &filling)?;
+        number = write_one(alloc, book, number, &filling)?;
     }
-    let mut set = Box::new(alloc, set_now(alloc, &book, &query)?)?;
+    Ok(number)
+}
+
+/// Whether a set of the query is right while records are put, and while they are deleted.
+fn holds_over(
+    alloc: Global,
+    book: &mut Book,
+    query: &Query,
+    ids: u64,
+    number: u64,
+) -> Result<bool, Fail>
+    requires { IsQuery query.now }
+{
+    let mut set = set_now(alloc, book, query)?;
     let (puts, deletions) = (Habit { ids, deletions: 20 }, Habit { ids, deletions: 90 });
     Ok(
-        walk(alloc, &mut book, &query, &mut set, number, &puts)?
-            && walk(alloc, &mut book, &query, &mut set, number, &deletions)?,
+        walk(alloc, book, query, &mut set, number, &puts)?
+            && walk(alloc, book, query, &mut set, number, &deletions)?,
     )
+}
+
+/// The same over a new book.
+fn holds_for(alloc: Global, texts: [&str; 4], ids: u64, seed: u64) -> Result<bool, Fail> {
+    let query = query(alloc, texts)?;
+    let mut book = new_book(alloc, 10_000_000)?;
+    let number = fill(alloc, &mut book, ids, seed)?;
+    holds_over(alloc, &mut book, &query, ids, number)
 }
 
 #[test]

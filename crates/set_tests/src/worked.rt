@@ -1,9 +1,9 @@
 //! Worked cases.
 
 use crate::slow::shows;
-use crate::store::{go, new_book, query, set_now, window_now, write};
+use crate::store::{go, last_row, new_book, query, set_now, window_now, write};
 use commit_book::Book;
-use match_sets::{MatchSet, Notice};
+use match_sets::{MatchSet, MatchStep, Notice};
 use q_base::Name;
 use query_core::Query;
 use std::alloc::Global;
@@ -19,13 +19,30 @@ fn id(alloc: Global, number: u64) -> Result<Vec<u8>, Fail> {
     Ok(id)
 }
 
-/// A book with a document for each of the ids below this number.
+/// Puts a document for each of the ids below this number.
+fn fill(alloc: Global, book: &mut Book, count: u64) -> Result<(), Fail> {
+    for number in 0..count {
+        write(alloc, book, b"shop", &id(alloc, number)?, b"{\"a\":1}")?;
+    }
+    Ok(())
+}
+
+/// A book with those documents.
 fn filled(alloc: Global, count: u64) -> Result<Box<Book>, Fail> {
     let mut book = new_book(alloc, 1_000_000)?;
-    for number in 0..count {
-        write(alloc, &mut book, b"shop", &id(alloc, number)?, b"{\"a\":1}")?;
-    }
+    fill(alloc, &mut book, count)?;
     Ok(book)
+}
+
+/// Takes the set over the last commit.
+fn follow(
+    alloc: Global,
+    book: &Book,
+    query: &Query,
+    set: &mut MatchSet,
+) -> Result<Box<MatchStep>, Fail> {
+    let row = last_row(alloc, book)?;
+    go(alloc, book, query, set, &row)
 }
 
 /// Deletes the first rows one by one, and takes the set along.
@@ -38,7 +55,7 @@ fn delete_first(
 ) -> Result<(), Fail> {
     for number in 0..count {
         write(alloc, book, b"shop", &id(alloc, number)?, b"")?;
-        go(alloc, book, query, set)?;
+        follow(alloc, book, query, set)?;
     }
     Ok(())
 }
@@ -58,6 +75,11 @@ fn lasts(alloc: Global, book: &mut Book, query: &Query, set: &mut MatchSet) -> R
     Ok(first && set.kept() == 2)
 }
 
+/// Whether the last row has slid into the place of the removed one.
+fn has_slid_in(step: &MatchStep) -> bool {
+    step.notice == Notice::Removed && is_name(&step.slid_in, b"p102") && step.slid_out.is_none()
+}
+
 /// Whether the next deletion, for which the set is short, lets the last row slide in.
 fn is_renewed(
     alloc: Global,
@@ -66,13 +88,8 @@ fn is_renewed(
     set: &mut MatchSet,
 ) -> Result<bool, Fail> {
     write(alloc, book, b"shop", b"p100", b"")?;
-    let (step, _) = go(alloc, book, query, set)?;
-    Ok(
-        step.notice == Notice::Removed
-            && is_name(&step.slid_in, b"p102")
-            && step.slid_out.is_none()
-            && set.kept() == 2,
-    )
+    let step = follow(alloc, book, query, set)?;
+    Ok(has_slid_in(&step) && set.kept() == 2)
 }
 
 /// Whether the set shows the window made from scratch.
@@ -85,7 +102,7 @@ fn rows_beyond_the_window_last_for_a_hundred_deletions(rt: HostRuntime) -> Resul
     let alloc = rt.alloc();
     let query = query(alloc, ["true", "", "0", "2"])?;
     let mut book = filled(alloc, 103)?;
-    let mut set = Box::new(alloc, set_now(alloc, &book, &query)?)?;
+    let mut set = set_now(alloc, &book, &query)?;
     assert!(rt; lasts(alloc, &mut book, &query, &mut set)?);
     assert!(rt; is_renewed(alloc, &mut book, &query, &mut set)?);
     assert!(rt; is_window(alloc, &book, &query, &set)?);

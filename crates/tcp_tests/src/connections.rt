@@ -17,7 +17,7 @@ const GET: &[u8] = b"GET /v1/d/shop/p1 HTTP/1.1\r\nHost: a\r\n\r\n";
 
 /// The answer to the read.
 const GET_REPLY: &[u8] =
-    b"HTTP/1.1 200 OK\r\nDate: Thu, 01 Jan 1970 00:01:40 GMT\r\nContent-Type: application/json\r\nContent-Length: 7\r\nETag: \"1\"\r\nCache-Control: max-age=3600\r\nQuaestor-Commit: 1\r\nQuaestor-Version: 1\r\nQuaestor-Until: 3700\r\n\r\n{\"a\":1}";
+    b"HTTP/1.1 200 OK\r\nDate: Thu, 01 Jan 1970 00:01:40 GMT\r\nContent-Type: application/json\r\nContent-Length: 7\r\nETag: \"1\"\r\nCache-Control: max-age=1\r\nQuaestor-Commit: 1\r\nQuaestor-Version: 1\r\nQuaestor-Until: 101\r\n\r\n{\"a\":1}";
 
 /// A read that asks to close.
 const LAST: &[u8] = b"GET /v1/d/shop/p1 HTTP/1.1\r\nHost: a\r\nConnection: close\r\n\r\n";

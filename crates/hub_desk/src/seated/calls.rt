@@ -10,7 +10,7 @@ use crate::desk::Desk;
 use crate::hub_value::{HubValue, Noted};
 use hub_core::PageRoom;
 use hub_model::laws::longer_histories_are_later;
-use hub_model::{Answer, Change, Condition, Entry, Matched, Stats, Tags, Written};
+use hub_model::{Answer, Change, Condition, Entry, Matched, PurgeReply, Stats, Tags, Written};
 use q_base::{Memory, Moment};
 use query_normal::Key;
 use std::collections::LinkedList;
@@ -124,6 +124,21 @@ impl<R: Wait> Desk for Seated<'_, R> {
         let mut value = turn.value();
         value.fetch(moment, room);
         give_with(turn, value, Entry::Fetch { moment });
+    }
+
+    fn purges(&mut self, moment: Moment, from: u64) -> Result<PurgeReply, Memory> {
+        let mut turn = self.turnstile.take(self.rt, &mut self.seat);
+        let mut value = turn.value();
+        match value.purges(moment, from) {
+            Ok(reply) => {
+                give_with(turn, value, Entry::Purges { moment, from });
+                Ok(reply)
+            }
+            Err(Memory) => {
+                give_unchanged(turn, value);
+                Err(Memory)
+            }
+        }
     }
 
     fn tick(&mut self, moment: Moment) -> Stats {

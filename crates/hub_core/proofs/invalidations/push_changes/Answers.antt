@@ -12,5 +12,6 @@ loop-commit-preserved c = record {
       changes-next (λ (m : ℕ). is_after c.args.front c.args.to m && (m == n)) (same_key other c.args.key.now) c.args.changed.now c.loop-commit.commit-index _ (list_any (is_invalidation other n) c.args.invalidations.now.items)
       (list_any (is_invalidation other n) c.loop-commit.invalidations.items) _ c.loop-commit-test.true refl (c.loop-commit.invariant.invalidations other n) (c.in_ok-push_where_after.ensures.invalidations other n);
   reserved = λ was. c.in_ok-push_where_after.ensures.reserved (c.loop-commit.invariant.reserved was);
+  within = λ was. c.in_ok-push_where_after.ensures.within (c.loop-commit.invariant.within was);
   rest = search rules;
 }

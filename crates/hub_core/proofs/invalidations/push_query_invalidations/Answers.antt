@@ -12,5 +12,6 @@ loop-index-preserved c = record {
       (list_any (is_invalidation key n) c.loop-index.invalidations.items) _ (omega (arith, c.loop-index-test.true, c.len-index-end.ensures.len)) (c.loop-index.invariant.invalidations key n)
       (λ entry there. c.in_ok-push_changes_at.ensures.invalidations entry key n there);
   reserved = λ was. c.in_ok-push_changes_at.ensures.reserved (c.loop-index.invariant.reserved was);
+  within = λ was. c.in_ok-push_changes_at.ensures.within (c.loop-index.invariant.within was);
   rest = search rules;
 }

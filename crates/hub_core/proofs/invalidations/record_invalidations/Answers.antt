@@ -1,5 +1,5 @@
 -- the loop goes commit by commit
-use Rattle.std.proofs.Common.{◌≡◌, ℕ, List, sym, subst, rules, arith}
+use Rattle.std.proofs.Common.{◌≡◌, ℕ, ◌+◌, List, sym, subst, rules, arith}
 use Rattle.hub_core.specs.declared.invalidations.Invalidation.{Invalidation}
 use Rattle.hub_core.specs.Invalidations.{AreRecordInvalidationsOf}
 use Rattle.hub_core.proofs.MatchLemmas.{invalidations-none, invalidations-next}
@@ -9,6 +9,7 @@ pub loop-commit-init : goal.loop-commit-init
 loop-commit-init c = record {
   invalidations = subst (λ (ms : List Invalidation). AreRecordInvalidationsOf c.args.book.now.journal c.args.front c.args.front ms) (sym c.new-invalidations.ensures.items) (invalidations-none c.args.book.now.journal c.args.front);
   reserved = search rules;
+  within = search rules;
   rest = search rules;
 }
 
@@ -17,6 +18,7 @@ loop-commit-preserved c =
     record {
       invalidations = invalidations-next c.args.book.now.journal c.args.front c.loop-commit.commit _ _ c.loop-commit.invariant.invalidations c.in_ok-push_invalidation.ensures.invalidations c.loop-commit.auto.commit (omega arith);
       reserved = c.in_ok-push_invalidation.ensures.reserved c.loop-commit.invariant.reserved;
+      within = c.in_ok-push_invalidation.ensures.within (c.loop-commit.commit + 1) (omega arith) (λ k d low. (let h = c.loop-commit.invariant.within k d low in omega (arith, h)));
       rest = search rules;
     }
 

@@ -1,38 +1,73 @@
--- the copy is issued at the moment's clock, and the query that was started is kept with it
-use Rattle.std.proofs.Common.{◌≡◌, ℕ, List, [], length, ap, sym, ◌∙◌, subst, arith}
+-- the copy is issued at the moment's clock, and what the read started is kept with it
+use Rattle.std.proofs.Common.{◌≡◌, ◌<◌, ◌+◌, ◌∷◌, nat_lt, if◌then◌else◌, ℕ, Bool, List, [], length, max, ap, sym, ◌∙◌, subst}
 use Rattle.query_normal.specs.declared.key.KeyShape.{KeyShape}
+use Rattle.ttl_estimator.specs.Estimator.{Estimated, lifetime}
+use Rattle.issued_expiries.specs.Copies.{SameCopies, active_keys}
+use Rattle.hub_model.specs.Lifetime.{limits_of, ttl_of}
 use Rattle.hub_model.specs.State.{State, at_moment}
 use Rattle.hub_model.specs.Step.{has_read}
 use Rattle.active_queries.specs.Following.{Following}
-use Rattle.hub_core.specs.HubState.{IsAt, hub_of}
+use Rattle.hub_core.specs.declared.lifetimes.Lifetimes.{Lifetimes}
+use Rattle.hub_core.specs.HubState.{HasCopies, HasEstimates, IsAt, hub_of}
 use Rattle.hub_core.specs.CopiesView.{CopiesView}
 use Rattle.hub_core.specs.ActiveQueries.{KeepsQueries}
-use Rattle.hub_core.proofs.HubLemmas.{hub-passed, hub-read, setting-passed, at-idle}
-use Rattle.hub_core.proofs.StateLemmas.{lifetime-at}
+use Rattle.hub_core.specs.Lifetimes.{ids_at}
+use Rattle.hub_core.proofs.HubLemmas.{setting-passed, hub-read}
+use Rattle.hub_core.proofs.LifeLemmas.{estimates-read, lifetime-at, lifetimes-read, may-issue, noted-as}
 use Rattle.hub_core.proofs.ReadLemmas.{kept-passed, kept-issued}
+use Rattle.hub_core.proofs.StateLemmas.{copies-later}
 use Rattle.hub_core.proofs.reading.issue_copy.Goals as goal
-
--- the hub when its clock has moved
-moved : (c : goal.After-drop_idle) (front : ℕ) (s : State) → IsAt (hub_of c.args.book.now front c.args.copies.now) s → IsAt (hub_of c.args.book.now front c.advance.new.self) (at_moment s c.args.moment)
-moved c front s at = hub-passed c.args.book.now front c.args.copies.now s at c.advance.new.self c.args.moment c.advance.ensures.passes
 
 setting : (c : goal.After-drop_idle) → c.advance.new.self.setting ≡ c.args.copies.now.setting
 setting c = setting-passed c.args.copies.now c.advance.new.self c.args.moment c.advance.ensures.passes
 
+now : (c : goal.After-drop_idle) (front : ℕ) (s : State) → IsAt (hub_of c.args.book.now front c.args.copies.now c.args.life.now) s → c.advance.new.self.clock ≡ (at_moment s c.args.moment).clock
+now c front s at = c.advance.ensures.passes.clock ∙ ap (λ (n : ℕ). max n c.args.moment) at.time.clock
+
+-- the copies when their clock has moved are those of the state then
+moved : (c : goal.After-drop_idle) (front : ℕ) (s : State) → IsAt (hub_of c.args.book.now front c.args.copies.now c.args.life.now) s → HasCopies c.advance.new.self.copies (at_moment s c.args.moment)
+moved c front s at = copies-later c.args.copies.now.copies c.advance.new.self.copies c.advance.new.self.clock c.args.moment s at.copies c.advance.ensures.passes.copies (now c front s at)
+
+-- the lifetime is that of the state
+ttl : (c : goal.After-drop_idle) (front : ℕ) (s : State) → IsAt (hub_of c.args.book.now front c.args.copies.now c.args.life.now) s → c.lifetime-ttl.result ≡ ttl_of c.args.copies.now.setting (at_moment s c.args.moment) c.args.key.now (length c.args.book.now.journal)
+ttl c front s at =
+    c.lifetime-ttl.ensures
+    ∙ ap (λ (active : Bool). lifetime c.args.life.now.estimator c.args.key.now (ids_at c.args.key.now c.args.book.now.journal) c.advance.new.self.clock active (active_keys c.advance.new.self.copies)) c.is_active-active.ensures
+    ∙ lifetime-at c.advance.new.self c.args.life.now.estimator s c.args.moment c.args.key.now c.args.copies.now.setting c.args.book.now.journal (moved c front s at) (now c front s at) at.book.rows c.requires.limits at.writes at.estimates
+
 pub returns-clause-ttl : goal.returns-clause-ttl
-returns-clause-ttl c = λ front s at.
-    c.lifetime-ttl.ensures ∙ lifetime-at c.advance.new.self (at_moment s c.args.moment) c.args.key.now c.args.copies.now.setting (length c.args.book.now.journal) (moved c front s at).copies (setting c)
+returns-clause-ttl c = ttl c
+
+-- what is kept of estimates is that of the state
+estimates : (c : goal.After-drop_idle) (front : ℕ) (s : State) → c.args.copies.now.idle ≡ [] → IsAt (hub_of c.args.book.now front c.args.copies.now c.args.life.now) s → HasEstimates c.drop_idle.new.life.estimator.keys (has_read c.args.copies.now.setting c.args.key.now (length c.args.book.now.journal) (at_moment s c.args.moment))
+estimates c front s idle at =
+    estimates-read c.args.copies.now c.advance.new.self c.issue.new.self c.args.moment c.advance.ensures.passes idle c.args.key.now (length c.args.book.now.journal) c.lifetime-ttl.result c.advance.ensures.idle c.issue.ensures.idle
+    c.args.copies.now.setting s c.args.life.now.estimator.keys c.note_read.new.estimator.keys c.drop_idle.new.life.estimator.keys at.copies (moved c front s at) (now c front s at) (ttl c front s at) at.estimates
+    (noted-as c.args.life.now.estimator.keys c.note_read.new.estimator.keys c.args.key.now c.lifetime-ttl.result c.is_active-active.result _ c.clock.result c.advance.new.self.clock c.is_active-active.ensures
+    (c.clock.ensures ∙ ap (λ (h : CopiesView). h.clock) c.issue.ensures.rest) c.note_read.ensures.kept)
+    c.drop_idle.ensures.dropped.kept
 
 pub returns-clause-issued : goal.returns-clause-issued
-returns-clause-issued c = λ front s within at.
-    let last : c.count.result ≡ length c.args.book.now.journal = c.count.ensures.count in
-    let state = has_read c.args.copies.now.setting c.args.key.now c.count.result (at_moment s c.args.moment) in
-    let issued : IsAt (hub_of c.args.book.now front c.issue.new.self) state =
-    hub-read c.args.book.now front c.advance.new.self (at_moment s c.args.moment) (moved c front s at) c.issue.new.self c.args.key.now c.args.copies.now.setting c.count.result c.lifetime-ttl.result
-    (omega (arith, within, last)) (setting c) c.lifetime-ttl.ensures c.issue.ensures.copies
-    (ap (λ (h : CopiesView). h.clock) c.issue.ensures.rest) (ap (λ (h : CopiesView). h.outdated) c.issue.ensures.rest) in
-    subst (λ (n : ℕ). IsAt (hub_of c.args.book.now front c.drop_idle.new.copies) (has_read c.args.copies.now.setting c.args.key.now n (at_moment s c.args.moment))) last
-    (at-idle c.args.book.now front c.issue.new.self state issued c.drop_idle.new.copies [] c.drop_idle.ensures.rest)
+returns-clause-issued c = λ front s within idle at.
+    hub-read c.args.book.now front c.args.copies.now c.args.life.now s at c.advance.new.self c.issue.new.self c.drop_idle.new.copies c.drop_idle.new.life c.args.key.now c.args.copies.now.setting (length c.args.book.now.journal) c.lifetime-ttl.result c.args.moment
+    c.advance.ensures.passes within (ttl c front s at)
+    (subst (λ (n : ℕ). SameCopies c.issue.new.self.copies (if nat_lt 0 c.lifetime-ttl.result then (c.args.key.now, n, c.advance.new.self.clock + c.lifetime-ttl.result) ∷ c.advance.new.self.copies else c.advance.new.self.copies)) c.count.ensures.count c.issue.ensures.copies)
+    (ap (λ (h : CopiesView). h.clock) c.issue.ensures.rest) (ap (λ (h : CopiesView). h.outdated) c.issue.ensures.rest) c.drop_idle.ensures.rest
+    (ap (λ (l : Lifetimes). l.estimator.records) c.drop_idle.ensures.dropped.rest ∙ ap (λ (e : Estimated). e.records) c.note_read.ensures.rest)
+    (ap (λ (l : Lifetimes). l.purges.texts) c.drop_idle.ensures.dropped.rest)
+    (estimates c front s idle at)
+
+pub returns-clause-lifetimes : goal.returns-clause-lifetimes
+returns-clause-lifetimes c = λ front within idle keeps.
+    lifetimes-read c.args.copies.now c.advance.new.self c.issue.new.self c.drop_idle.new.copies c.args.moment c.advance.ensures.passes idle c.args.key.now (length c.args.book.now.journal) c.lifetime-ttl.result c.advance.ensures.idle c.issue.ensures.idle
+    (subst (λ (n : ℕ). SameCopies c.issue.new.self.copies (if nat_lt 0 c.lifetime-ttl.result then (c.args.key.now, n, c.advance.new.self.clock + c.lifetime-ttl.result) ∷ c.advance.new.self.copies else c.advance.new.self.copies)) c.count.ensures.count c.issue.ensures.copies)
+    c.args.book.now.journal front c.args.life.now (record c.args.life.now { estimator = c.note_read.new.estimator }) c.drop_idle.new.life within c.requires.ready.alone
+    (ap (λ (e : Estimated). record c.args.life.now { estimator = e }) c.note_read.ensures.rest)
+    (noted-as c.args.life.now.estimator.keys c.note_read.new.estimator.keys c.args.key.now c.lifetime-ttl.result c.is_active-active.result _ c.clock.result c.advance.new.self.clock c.is_active-active.ensures
+    (c.clock.ensures ∙ ap (λ (h : CopiesView). h.clock) c.issue.ensures.rest) c.note_read.ensures.kept)
+    c.note_read.ensures.known c.drop_idle.ensures.dropped c.drop_idle.ensures.rest
+    (ap (λ (h : CopiesView). h.setting) c.drop_idle.ensures.rest ∙ ap (λ (h : CopiesView). h.setting) c.issue.ensures.rest ∙ setting c)
+    c.issue.ensures.ready keeps
 
 pub returns-clause-kept : goal.returns-clause-kept
 returns-clause-kept c = λ front within keeps.
@@ -41,3 +76,10 @@ returns-clause-kept c = λ front within keeps.
     (kept-issued c.args.book.now.journal front c.advance.new.self c.issue.new.self c.args.key.now c.count.result c.lifetime-ttl.result c.args.queries.now
     (kept-passed c.args.moment c.args.copies.now c.advance.new.self c.args.queries.now.entries c.advance.ensures.passes c.advance.ensures.idle c.args.book.now.journal front keeps)
     within c.count.ensures.count c.issue.ensures.copies c.issue.ensures.idle c.args.started c.requires.at_hand))
+
+-- a copy with a lifetime may be issued
+pub issue-requires-clause-allowed : goal.issue-requires-clause-allowed
+issue-requires-clause-allowed c = λ some.
+    may-issue c.advance.new.self c.args.life.now.estimator c.args.key.now (ids_at c.args.key.now c.args.book.now.journal) c.advance.new.self.clock
+    (c.requires.limits ∙ ap (λ (h : CopiesView). limits_of h.setting) (sym c.advance.ensures.passes.rest))
+    (subst (λ (n : ℕ). 0 < n) (c.lifetime-ttl.ensures ∙ ap (λ (active : Bool). lifetime c.args.life.now.estimator c.args.key.now (ids_at c.args.key.now c.args.book.now.journal) c.advance.new.self.clock active (active_keys c.advance.new.self.copies)) c.is_active-active.ensures) some)

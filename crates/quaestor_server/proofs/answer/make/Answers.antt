@@ -1,7 +1,10 @@
--- what was matched by one entry is served
+-- what was matched or told by one entry is served
 use Rattle.std.proofs.Common.{Ok, ap, ◌∙◌}
-use Rattle.quaestor_server.proofs.AnswerLemmas.{made_match}
+use Rattle.quaestor_server.proofs.AnswerLemmas.{made_match, made_purges}
 use Rattle.quaestor_server.proofs.answer.make.Goals as goal
 
 pub returns-in-Ok-match_all-clause-answer : goal.returns-in-Ok-match_all-clause-answer
 returns-in-Ok-match_all-clause-answer g c = made_match _ _ _ _ _ _ _ _ _ (c.in-Ok-MatchAll.is ∙ ap Ok c.in-Ok-MatchAll.field-0-is) c.in-Ok-match_all.ensures.made
+
+pub returns-in-Ok-purges-clause-answer : goal.returns-in-Ok-purges-clause-answer
+returns-in-Ok-purges-clause-answer g c = made_purges _ _ _ _ _ _ _ _ _ _ _ (c.in-Ok-Purges.is ∙ ap Ok c.in-Ok-Purges.field-0-is) c.in-Ok-purges.ensures.made

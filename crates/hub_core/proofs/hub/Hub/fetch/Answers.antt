@@ -10,20 +10,24 @@ use Rattle.hub_core.proofs.hub.Hub.fetch.Goals as goal
 
 pub invariant_of-self : goal.invariant_of-self
 invariant_of-self c =
-    sound-passed c.self.inside.book c.self.inside.front c.self.inside.copies c.pass.new.copies c.self.inside.queries.entries c.pass.new.queries.entries c.args.moment c.self.invariant c.pass.ensures.passes c.pass.ensures.idle c.pass.ensures.kept
+    sound-passed c.self.inside.book c.self.inside.front c.self.inside.copies c.pass.new.copies c.self.inside.queries.entries c.pass.new.queries.entries c.self.inside.life c.pass.new.life c.args.moment c.self.invariant c.pass.ensures.passes c.pass.ensures.idle c.pass.ensures.kept c.pass.ensures.dropped
 
 -- the hub when its clock has moved
 pub returns-clause-after : goal.returns-clause-after
 returns-clause-after c = λ s at.
-    hub-passed c.self.inside.book c.self.inside.front c.self.inside.copies s (subst (λ (h : HubView). IsAt h s) (sym c.self.view_is) at) c.pass.new.copies c.args.moment c.pass.ensures.passes
+    hub-passed c.self.inside.book c.self.inside.front c.self.inside.copies c.self.inside.life s (subst (λ (h : HubView). IsAt h s) (sym c.self.view_is) at) c.pass.new.copies c.pass.new.life c.args.moment c.self.invariant.lean.idle c.pass.ensures.passes c.pass.ensures.dropped
 
 pub returns-clause-page : goal.returns-clause-page
 returns-clause-page c = λ s at.
     let is = returns-clause-after c s at in
     let setting : c.pass.new.copies.setting ≡ c.args.self.now.setting = setting-passed c.self.inside.copies c.pass.new.copies c.args.moment c.pass.ensures.passes ∙ ap (λ (h : HubView). h.setting) c.self.view_is in
     ap (λ (r : PageRoomView). r.page) c.write.ensures
-    ∙ ap Some (page-at c.self.inside.book c.self.inside.front c.pass.new.copies (at_moment s c.args.moment) is c.args.self.now.setting _ _ c.count-commits.result c.clock-moment.result c.bits.result.now c.bits.ensures.keys
+    ∙ ap Some (page-at c.self.inside.book c.self.inside.front c.pass.new.copies c.pass.new.life (at_moment s c.args.moment) is c.args.self.now.setting _ _ c.count-commits.result c.clock-moment.result c.bits.result.now c.bits.ensures.keys
     setting c.requires.log2_bits c.requires.hashes c.count-commits.ensures.count c.clock-moment.ensures c.bits.ensures.bits)
 
 pub returns-clause-told : goal.returns-clause-told
 returns-clause-told c = λ s at. ap (option_map (λ (p : Page). fetched p)) (returns-clause-page c s at)
+
+-- nothing is kept but what the history needs
+pub returns-clause-lean : goal.returns-clause-lean
+returns-clause-lean c = (invariant_of-self c).lean

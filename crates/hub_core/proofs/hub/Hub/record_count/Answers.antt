@@ -11,4 +11,4 @@ pub returns : goal.returns
 returns c = λ s at.
     c.invalidated_count.ensures.count
     ∙ length-permute (invalidated_keys c.self.inside.copies) (record_of s)
-    (invalidated-recorded c.self.inside.book c.self.inside.front c.self.inside.copies s (subst (λ (h : HubView). IsAt h s) (sym c.self.view_is) at) c.invalidated_count.ensures.keys)
+    (invalidated-recorded c.self.inside.book c.self.inside.front c.self.inside.copies c.self.inside.life s (subst (λ (h : HubView). IsAt h s) (sym c.self.view_is) at) c.invalidated_count.ensures.keys)

@@ -1,0 +1,7 @@
+//! Tests of hubs.
+#![tactic(auto)]
+
+#[cfg(test)]
+mod hubs;
+#[cfg(test)]
+mod lives;
