@@ -5,14 +5,15 @@
 # A request that is not answered by 200 or 201 counts as an error. CPU is the server's time a request, by
 # the clock of the system, in hundredths of a second.
 #
-# It needs the proved program, which `make program` builds, curl and wrk. These change what it measures:
+# It needs curl, wrk and the proved program: what `make program` built, or else dist/quaestor, whatever sources
+# that is of. These change what it measures:
 #   BENCH_SECONDS       of each measurement; 5
 #   BENCH_CONNECTIONS   "1 16 64"
 #   BENCH_LOADS         "get put mix"
 #   BENCH_RECORDS       10000
 #   BENCH_FILL          seconds that putting them takes at most; 2
 #   BENCH_SIZE          of a document, in bytes; 200
-#   BENCH_PROGRAM       the program; crates/quaestor/out/quaestor
+#   BENCH_PROGRAM       the program
 #   BENCH_PORT          18080
 cd "$(dirname "$0")/.." || exit 2
 LC_ALL=C; export LC_ALL
@@ -22,7 +23,9 @@ loads=${BENCH_LOADS:-get put mix}
 records=${BENCH_RECORDS:-10000}
 fill=${BENCH_FILL:-2}
 size=${BENCH_SIZE:-200}
-program=${BENCH_PROGRAM:-crates/quaestor/out/quaestor}
+built=crates/quaestor/out/quaestor
+[ -x "$built" ] || built=dist/quaestor
+program=${BENCH_PROGRAM:-$built}
 address=127.0.0.1:${BENCH_PORT:-18080}
 
 command -v wrk > /dev/null || { echo "bench: wrk is not installed (Debian, Ubuntu: apt-get install wrk)" >&2; exit 2; }
