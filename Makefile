@@ -6,7 +6,7 @@ help: ## [at once] lists the commands
 	@awk -F ':.*## \\[|\\] ' '/^[a-z-]+:.*## \[/ { printf "  %-12s %-18s %s\n", $$1, $$2, $$3 }' $(firstword $(MAKEFILE_LIST))
 try: named ## [1 min] runs the tests of CRATE=name without a proof
 	@python3 tools/test.py $(CRATE)
-test: ## [4 min] runs every test and example without a proof
+test: ## [5 min] runs every test and example without a proof
 	@python3 tools/test.py
 check: ## [1 to 60 min] proves what changed, every crate, lowest first
 	rt all check

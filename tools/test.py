@@ -18,15 +18,23 @@ import tempfile
 import threading
 import time
 from concurrent.futures import ThreadPoolExecutor
+from functools import cache
 
 # How long one crate's tests may take, or the program over one example.
 SECONDS = "300"
+# How many steps the interpreter goes before the compiled run, which looks for faults of memory too.
+STEPS = "100000"
+# How long the sources of a crate of the kit are taken to be, where that decides which tests are joined.
+KIT_CRATE = 20_000
+# Files whose tests run for a minute and more, as many bytes as are compiled in that time.
+SLOW = {"program_tests/faults.rt": 300_000}
 # The crates that many crates' tests are joined in.
-JOINED = ("joined_tests_1", "joined_tests_2")
+JOINED = ("joined_tests_1", "joined_tests_2", "joined_tests_3", "joined_tests_4")
 PRINTING = threading.Lock()
 os.chdir(os.path.dirname(os.path.dirname(os.path.realpath(__file__))))
 
 
+@cache
 def text_of(path):
     with open(path, encoding="utf-8") as it:
         return it.read()
@@ -65,13 +73,25 @@ def parts_of(name, crates):
     return None
 
 
-def join(joined, names, crates, room):
-    """Writes a crate of the tests of these crates, and returns its name, and the crate of each of its modules."""
+def units_of(name, crates):
+    """The units in which a crate's tests are joined: its name with the files of each. Slow tests are one by themselves, with the files that have no tests."""
+    files = parts_of(name, crates)[2]
+    slow = [it for it in files if it in SLOW]
+    if not slow:
+        return [(name, tuple(files))]
+    without = [it for it in files if "#[test]" not in text_of(files[it])]
+    return [(name, (*without, *slow)), (name, tuple(it for it in files if it not in slow))]
+
+
+def join(joined, units, crates, room):
+    """Writes a crate of the tests of these units, and returns its name, and the crate of each of its modules."""
     modules, used = {}, []
-    for name in names:
+    for name, places in units:
         module, of_crate, files, uses = parts_of(name, crates)
-        for place, path in files.items():
-            text = re.sub(r"^#!\[.*\]\n", "", text_of(path), flags=re.M)
+        for place in places:
+            text = re.sub(r"^#!\[.*\]\n", "", text_of(files[place]), flags=re.M)
+            if place == f"{name}.rt":
+                text = re.sub(r"\bmod (\w+);\n", lambda it: it[0] if f"{name}/{it[1]}.rt" in places else "", text)
             to = f"{room}/crates/{joined}/src/{place}"
             os.makedirs(os.path.dirname(to), exist_ok=True)
             with open(to, "w", encoding="utf-8") as it:
@@ -123,7 +143,7 @@ def tell(what, passed, failed, seconds):
 
 
 def test_alone(name, room):
-    said, seconds = rt_try(f"{room}/crates/{name}", "--test", "--seconds", SECONDS)
+    said, seconds = rt_try(f"{room}/crates/{name}", "--test", "--steps", STEPS, "--seconds", SECONDS)
     results = results_of(said)
     if not results:
         return tell(name, 0, {f"{name}: its tests did not end": said.splitlines()}, seconds)
@@ -132,7 +152,7 @@ def test_alone(name, room):
 
 def test_joined(joined, modules, room, submit):
     """The results of the joined crate, or the tasks of each crate by itself."""
-    said, seconds = rt_try(f"{room}/crates/{joined}", "--test", "--seconds", SECONDS)
+    said, seconds = rt_try(f"{room}/crates/{joined}", "--test", "--steps", STEPS, "--seconds", SECONDS)
     results = results_of(said)
     if not results:
         why = [it for it in said.splitlines() if not it.startswith("test ")]
@@ -147,15 +167,40 @@ def test_joined(joined, modules, room, submit):
     return found
 
 
+def is_of_these_sources():
+    """Whether dist/ has the program of these sources, as ./quaestor sees it."""
+    try:
+        with open("dist/SOURCES", encoding="utf-8") as it:
+            said = it.read()
+        return os.uname().machine == "x86_64" and subprocess.run(["sh", "tools/sources.sh"], stdout=subprocess.PIPE, text=True).stdout == said
+    except OSError:
+        return False
+
+
+def test_program(program):
+    """This program over each example."""
+    begun, passed, failed = time.time(), 0, {}
+    for it in sorted(it for it in os.listdir("examples") if it.endswith(".http")):
+        with open(f"examples/{it}", "rb") as asked, open(f"examples/{it[:-5]}.reply", "rb") as wanted:
+            ran = subprocess.run([program, "pipe", "--clock", "100"], stdin=asked, stdout=subprocess.PIPE)
+            if ran.returncode == 0 and ran.stdout == wanted.read():
+                passed += 1
+            else:
+                failed[f"examples/{it}"] = [f"status {ran.returncode}, and not the reply that is wanted"]
+    return tell(f"examples, by {program}", passed, failed, time.time() - begun)
+
+
 def test_examples(room):
-    """The program over each example, compiled once."""
+    """The program over each example: that of dist/, where it is of these sources, else compiled once."""
+    if is_of_these_sources():
+        return test_program("dist/quaestor")
     cases = f"{room}/cases"
     os.makedirs(cases)
     names = sorted(it[: -len(".http")] for it in os.listdir("examples") if it.endswith(".http"))
     for it in names:
         shutil.copyfile(f"examples/{it}.http", f"{cases}/{it}")
         shutil.copyfile(f"examples/{it}.reply", f"{cases}/{it}.stdout")
-    said, seconds = rt_try(f"{room}/crates/quaestor", "--seconds", SECONDS, "--cases", cases, "--", "pipe", "--clock", "100")
+    said, seconds = rt_try(f"{room}/crates/quaestor", "--steps", STEPS, "--seconds", SECONDS, "--cases", cases, "--", "pipe", "--clock", "100")
     failed, now = {}, []
     for line in said.splitlines():
         found = re.match(r"case=(\S+) ", line)
@@ -171,15 +216,35 @@ def test_examples(room):
     return tell("examples", passed, failed, seconds)
 
 
+def below(names, crates):
+    """The crates that these use, and those that they use in turn."""
+    found = set()
+    left = list(names)
+    while left:
+        for it in set(crates.get(left.pop(), [])) - found:
+            found.add(it)
+            left.append(it)
+    return found
+
+
+def weight(units, crates):
+    """About how long these units take: by their own text, and that of all crates below; of one of the kit a guess."""
+    parts = [(parts_of(name, crates), places) for name, places in units]
+    files = [it[2][place] for it, places in parts for place in places]
+    used = {it for part, _ in parts for it in part[3]}
+    used |= below(used, crates)
+    ours = [f"{at}/{it}" for name in used for at, _, found in os.walk(f"crates/{name}/src") for it in found if it.endswith(".rt")]
+    slow = sum(SLOW.get(place, 0) for _, places in units for place in places)
+    return slow + sum(len(text_of(it)) for it in files + ours) + KIT_CRATE * sum(it not in crates for it in used)
+
+
 def share(names, crates):
-    """The names in as many groups as are compiled at the same time, so that the tests of each group have about the same length."""
-    groups = [[] for _ in range(2 if os.cpu_count() >= 4 else 1)]
-    lengths = [0] * len(groups)
-    length = {it: sum(len(text_of(path)) for path in parts_of(it, crates)[2].values()) for it in names}
-    for name in sorted(names, key=lambda it: -length[it]):
-        least = lengths.index(min(lengths))
-        groups[least].append(name)
-        lengths[least] += length[name]
+    """The units of these crates in as many groups as are compiled at the same time, so that each takes about as long. No group has two units of one crate."""
+    groups = [[] for _ in range(len(JOINED) if os.cpu_count() >= 4 else 1)]
+    units = [it for name in names for it in (units_of(name, crates) if len(groups) > 1 else [(name, tuple(parts_of(name, crates)[2]))])]
+    for unit in sorted(units, key=lambda it: -weight([it], crates)):
+        free = [it for it in groups if unit[0] not in [name for name, _ in it]]
+        min(free, key=lambda it: weight([*it, unit], crates)).append(unit)
     return groups
 
 

@@ -98,7 +98,7 @@ fn the_first_cause_is_answered(rt: HostRuntime) -> Result<(), Fail> {
         (b"GET * HTTP/1.1\r\nHost: a\r\n\r\n", Refused::BadTarget),
         (b"GET /v2 HTTP/1.1\r\nHost: a\r\n\r\n", Refused::NoRoute),
         (
-            b"POST /v1/d/shop/P1?x HTTP/1.1\r\nHost: a\r\n\r\n",
+            b"POST /v1/d/shop/Tea?x HTTP/1.1\r\nHost: a\r\n\r\n",
             Refused::BadMethod(Allow::Record),
         ),
         (
@@ -110,7 +110,7 @@ fn the_first_cause_is_answered(rt: HostRuntime) -> Result<(), Fail> {
             Refused::BadMethod(Allow::Other),
         ),
         (
-            b"PUT /v1/d/shop/P1 HTTP/1.1\r\nHost: a\r\n\r\n",
+            b"PUT /v1/d/shop/Tea HTTP/1.1\r\nHost: a\r\n\r\n",
             Refused::BadTarget,
         ),
         (

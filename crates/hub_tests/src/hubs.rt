@@ -28,7 +28,7 @@ enum HubCall {
 }
 
 /// The positions of `r/shop/p1` among 2^17 bits for 6 hashes.
-const P1: &[u32] = &[6848, 19872, 42872, 78896, 101896, 114920];
+const OUTDATED: &[u32] = &[6848, 19872, 42872, 78896, 101896, 114920];
 
 /// A new hub, in a box, so that letting it go is one call wherever a function may end.
 fn new_hub(alloc: Global, config: Config) -> Result<Box<Hub>, Fail>
@@ -44,7 +44,7 @@ fn worked_histories_are_answered(rt: HostRuntime) -> Result<(), Fail> {
     let read = HubCall::Read(100, 1, 60, br#"{"a":1}"#);
     let second = HubCall::Put(110, br#"{"a":2}"#, 2, Found::At(1));
     let covered = HubCall::Match(110, 2);
-    let there = HubCall::Fetch(159, 2, 2, P1);
+    let there = HubCall::Fetch(159, 2, 2, OUTDATED);
     let gone = HubCall::Fetch(160, 2, 2, &[]);
     // The copy of commit 1 is outdated until 160.
     assert!(rt;
@@ -73,7 +73,7 @@ fn worked_histories_are_answered(rt: HostRuntime) -> Result<(), Fail> {
     let read = HubCall::Read(100, 1, 1, br#"{"a":1}"#);
     let second = HubCall::Put(100, br#"{"a":2}"#, 2, Found::At(1));
     let covered = HubCall::Match(100, 2);
-    let there = HubCall::Fetch(100, 2, 2, P1);
+    let there = HubCall::Fetch(100, 2, 2, OUTDATED);
     let gone = HubCall::Fetch(101, 2, 2, &[]);
     assert!(rt;
         follow(

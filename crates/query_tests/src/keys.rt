@@ -196,7 +196,7 @@ fn other_texts_are_refused_at_their_places(rt: HostRuntime) -> Result<(), Fail> 
             0,
         ),
         ("r//p1", 0),
-        ("r/shop/P1", 0),
+        ("r/shop/Tea", 0),
         ("r/shop/p1/", 0),
     ];
     for (text, place) in cases {
