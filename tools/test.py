@@ -5,10 +5,12 @@ program, the examples. What fails is named, with what was said of it. The last l
 the status is 1 where any failed or none passed.
 
 `rt try --test` compiles a crate with all that it uses, which takes far longer than its tests. So the tests of many
-crates are put into one or two crates, in a folder for temporary files, each crate's as a module. That can be done
+crates are put into one crate, or four, in a folder for temporary files, each crate's as a module. That can be done
 with a crate that has nothing but tests, and with a src/tests.rt without an `impl`, which then sees of its crate
 what is public. Any other crate is compiled by itself; and so is each where the joined one is refused, or where
-names are given. What can be done at the same time is, on all processors."""
+names are given. What can be done at the same time is, on all processors. The examples are run by the program of
+dist/ where that is of these sources and whole, and else by one that is compiled, which takes as long as a group."""
+import hashlib
 import os
 import re
 import shutil
@@ -167,13 +169,16 @@ def test_joined(joined, modules, room, submit):
     return found
 
 
-def is_of_these_sources():
-    """Whether dist/ has the program of these sources, as ./quaestor sees it."""
+def has_program():
+    """Whether dist/ has the program of these sources, whole, and it runs here: what ./quaestor asks of it."""
+    if not os.access("dist/quaestor", os.X_OK) or (os.uname().sysname, os.uname().machine) != ("Linux", "x86_64"):
+        return False
     try:
-        with open("dist/SOURCES", encoding="utf-8") as it:
-            said = it.read()
-        return os.uname().machine == "x86_64" and subprocess.run(["sh", "tools/sources.sh"], stdout=subprocess.PIPE, text=True).stdout == said
-    except OSError:
+        with open("dist/SOURCES", "rb") as it, open("dist/quaestor.sha256", "rb") as sums, open("dist/quaestor", "rb") as program:
+            sources, told, found = it.read(), sums.read().split()[0], hashlib.sha256(program.read()).hexdigest().encode()
+        of_these = subprocess.run(["sh", "tools/sources.sh"], stdout=subprocess.PIPE).stdout == sources
+        return of_these and told == found and subprocess.run(["dist/quaestor", "--version"], stdout=subprocess.DEVNULL, stderr=subprocess.DEVNULL).returncode == 0
+    except (OSError, IndexError):
         return False
 
 
@@ -191,8 +196,8 @@ def test_program(program):
 
 
 def test_examples(room):
-    """The program over each example: that of dist/, where it is of these sources, else compiled once."""
-    if is_of_these_sources():
+    """The program over each example: that of dist/, where it is of these sources and whole, else compiled once."""
+    if has_program():
         return test_program("dist/quaestor")
     cases = f"{room}/cases"
     os.makedirs(cases)
