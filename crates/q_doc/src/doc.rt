@@ -14,6 +14,7 @@ use crate::print_length::length_of;
 use crate::reading::{ReadBuffer, Unread, object_in};
 use crate::refusal::{DocRefusal, Memory};
 use crate::text::Text;
+use crate::trim::trim_capacity;
 use json::Writer;
 use std::alloc::Global;
 use std::marker::Model;
@@ -24,6 +25,14 @@ pub const MAX_LENGTH: usize = 65_536;
 
 /// The greatest depth of a document. An object of scalars has depth 1.
 pub const MAX_DEPTH: usize = 32;
+
+/// The bytes that a `Writer` has ready beyond what it writes: at each token that has no comma before
+/// it, room for one.
+const AHEAD: usize = 1;
+
+/// The most bytes of unused capacity that a printed document keeps. To free less is not worth another
+/// block.
+const MAX_UNUSED: usize = 16;
 
 /// A document. Contracts see its value, a `Tree`. It never changes, so its clones share one tree.
 #[derive(Drop)]
@@ -120,10 +129,10 @@ impl Doc {
         ensures reads_back { IfOk result (λ s. judged s ≡ Ok self.now) }
     {
         let root = &*self.root;
-        let mut out = Writer::new(Vec::with_capacity(alloc, root.length)?);
+        let mut out = Writer::new(Vec::with_capacity(alloc, root.length + AHEAD)?);
         write_node(&root.node, &mut out)?;
         let mut bytes = out.into_inner();
-        bytes.shrink_to_fit();
+        trim_capacity(&mut bytes, MAX_UNUSED);
         Ok(Text::of(bytes))
     }
 

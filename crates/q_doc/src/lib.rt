@@ -15,6 +15,7 @@ mod print_length;
 mod reading;
 mod refusal;
 mod text;
+mod trim;
 
 pub use doc::{Doc, MAX_DEPTH, MAX_LENGTH};
 pub use node::{Node, Shape};

@@ -10,6 +10,7 @@ ghost use Rattle.q_doc.specs.Reading.{BEYOND, whole_in, tree_in, items_in, membe
 use crate::doc::MAX_DEPTH;
 use crate::node::{Node, Shape};
 use crate::node_text::NodeText;
+use crate::trim::trim_capacity;
 use fast_float::Numeral;
 use json::{Reader, Scratch, Token};
 use std::alloc::{AllocError, AllocFailed, Global};
@@ -18,14 +19,18 @@ use std::cmp::Ordering;
 /// The most members that a key may pass on its way to its index, so that no object takes quadratic time.
 const MAX_PASSED: usize = 64;
 
-/// The initial capacity for the members of a document. Most have no more.
-const FIRST_MEMBERS: usize = 8;
+/// The bytes that a member takes at least, with a key of one byte: those of `"a":1,`.
+const MEMBER_LENGTH: usize = 6;
 
-/// The initial capacity for the members of an object within a document.
+/// The most members of a document for which memory is taken ahead. Few documents have more.
+const FIRST_MEMBERS: usize = 6;
+
+/// The most members of an object within a document for which memory is taken ahead.
 const FIRST_INNER_MEMBERS: usize = 4;
 
-/// The most unused capacity that a node keeps.
-const MAX_UNUSED: usize = 1;
+/// The most elements for which an array or an object keeps unused capacity. To free less is not worth
+/// another block.
+const MAX_UNUSED: usize = 2;
 
 /// The buffer of reads, which one read after another uses. It is 16 KiB large, so keep it where it is
 /// not moved. It grows to the longest text that was read.
@@ -82,7 +87,8 @@ pub(crate) fn object_in(
     let Ok(mut reader) = Reader::new(text, &mut buffer.scratch) else {
         return Err(Unread::Memory);
     };
-    let node = read_node(alloc, &mut reader, MAX_DEPTH)?;
+    let first = first_members(bytes.len());
+    let node = read_node(alloc, &mut reader, MAX_DEPTH, first)?;
     if reader.next().is_some() {
         return Err(Unread::Unsure);
     }
@@ -92,10 +98,15 @@ pub(crate) fn object_in(
     }
 }
 
-/// The next value, if it nests at most this deep.
+/// The next value, if it nests at most this deep. An object begins with capacity for `first` members.
 #[cycle(read_node)]
 #[inline(always)]
-fn read_node(alloc: Global, reader: &mut Reader<'_>, depth: usize) -> Result<Node, Unread>
+fn read_node(
+    alloc: Global,
+    reader: &mut Reader<'_>,
+    depth: usize,
+    first: usize,
+) -> Result<Node, Unread>
     ensures ok { IfOk result (λ t. Reads tree_in (value (depth + BEYOND) reader.old) t reader.new) }
     ensures texts { IfOk result HasTexts }
     ensures nests { IfOk result (λ t. depth_of_tree t ≤ depth) }
@@ -124,7 +135,7 @@ fn read_node(alloc: Global, reader: &mut Reader<'_>, depth: usize) -> Result<Nod
             if depth == 0 {
                 return Err(Unread::Unsure);
             }
-            let items = read_items(alloc, reader, depth - 1)?;
+            let items = read_items(alloc, reader, depth - 1, first)?;
             Ok(Node {
                 shape: Shape::Array(items),
             })
@@ -133,7 +144,7 @@ fn read_node(alloc: Global, reader: &mut Reader<'_>, depth: usize) -> Result<Nod
             if depth == 0 {
                 return Err(Unread::Unsure);
             }
-            let members = read_members(alloc, reader, depth - 1)?;
+            let members = read_members(alloc, reader, depth - 1, first)?;
             Ok(Node {
                 shape: Shape::Object(members),
             })
@@ -143,7 +154,12 @@ fn read_node(alloc: Global, reader: &mut Reader<'_>, depth: usize) -> Result<Nod
 
 #[cycle(read_node)]
 #[inline(never)]
-fn read_items(alloc: Global, reader: &mut Reader<'_>, depth: usize) -> Result<Vec<Node>, Unread>
+fn read_items(
+    alloc: Global,
+    reader: &mut Reader<'_>,
+    depth: usize,
+    first: usize,
+) -> Result<Vec<Node>, Unread>
     ensures ok { IfOk result
         (λ v. Reads items_in (items (value (depth + BEYOND)) (length reader.old) reader.old)
         (items_of v.items) reader.new) }
@@ -153,10 +169,10 @@ fn read_items(alloc: Global, reader: &mut Reader<'_>, depth: usize) -> Result<Ve
 {
     let mut found = Vec::new(alloc);
     'items: while !reader.take_end_array() {
-        let item = read_node(alloc, reader, depth)?;
+        let item = read_node(alloc, reader, depth, first)?;
         found.push(item)?;
     }
-    trim_capacity(&mut found);
+    trim_capacity(&mut found, MAX_UNUSED);
     Ok(found)
 }
 
@@ -166,6 +182,7 @@ fn read_members(
     alloc: Global,
     reader: &mut Reader<'_>,
     depth: usize,
+    first: usize,
 ) -> Result<Vec<(NodeText, Node)>, Unread>
     ensures ok { IfOk result
         (λ v. Reads members_in
@@ -175,34 +192,22 @@ fn read_members(
     ensures nests { IfOk result (λ v. members_depth (members_of v.items) ≤ depth) }
     ensures shorter { OnOk result (length reader.new < length reader.old) }
 {
-    let mut found = Vec::with_capacity(alloc, first_members(depth))?;
+    let inner = first.min(FIRST_INNER_MEMBERS);
+    let mut found = Vec::with_capacity(alloc, first)?;
     'members: while let Some(name) = reader.next_key().or(Err(Unread::Unsure))? {
         let index = index_for(&found, name.as_bytes()).ok_or(Unread::Unsure)?;
         let key = NodeText::from_str(alloc, name)?;
-        let node = read_node(alloc, reader, depth)?;
+        let node = read_node(alloc, reader, depth, inner)?;
         found.insert(index, (key, node))?;
     }
-    trim_capacity(&mut found);
+    trim_capacity(&mut found, MAX_UNUSED);
     Ok(found)
 }
 
-/// The initial capacity for the members of an object whose values may nest this deep.
+/// The members for which memory is taken ahead in a document of this length, in bytes.
 #[inline(always)]
-fn first_members(depth: usize) -> usize {
-    if depth < MAX_DEPTH - 1 {
-        FIRST_INNER_MEMBERS
-    } else {
-        FIRST_MEMBERS
-    }
-}
-
-/// Frees the unused capacity, where it is more than one element.
-fn trim_capacity<T>(found: &mut Vec<T>)
-    ensures { found.new.items ≡ found.old.items }
-{
-    if found.capacity().saturating_sub(found.len()) > MAX_UNUSED {
-        found.shrink_to_fit();
-    }
+fn first_members(length: usize) -> usize {
+    (length / MEMBER_LENGTH).min(FIRST_MEMBERS)
 }
 
 /// The index at which a new key keeps the members in order, if it passes few of them.
