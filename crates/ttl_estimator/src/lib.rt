@@ -7,6 +7,7 @@ mod estimates;
 mod estimator;
 mod laws;
 mod limits;
+mod places;
 mod records;
 
 pub use estimator::Estimator;

@@ -5,6 +5,7 @@ ghost use Rattle.ttl_estimator.specs.Rates.{last_eight, rate_at};
 ghost use Rattle.ttl_estimator.specs.Records.{ExtendsAll, entry_of, clocks_of};
 
 use crate::collection::Collection;
+use crate::places::index_of;
 use indexmap::IndexMap;
 use q_base::{Memory, Name};
 use std::alloc::Global;
@@ -15,6 +16,8 @@ use std::marker::Model;
 pub struct Records {
     alloc: Global,
     collections: IndexMap<Name, Collection>,
+    /// Where `reserve` or `note` found or put a collection last. It only says where to look first.
+    last: usize,
 }
 
 impl Model for Records {
@@ -33,6 +36,7 @@ impl Records {
         Records {
             alloc,
             collections: IndexMap::new(alloc),
+            last: 0,
         }
     }
 
@@ -42,9 +46,15 @@ impl Records {
         ensures extends { ExtendsAll self.old self.new }
         ensures err { OnErr result (self.new ≡ self.old) }
     {
-        match self.collections.get_mut(collection) {
-            Some(records) => records.reserve(id),
-            None => add_collection(self.alloc, &mut self.collections, collection, id),
+        match index_of(&self.collections, self.last, collection) {
+            Some(index) => {
+                self.last = index;
+                self.collections[index].reserve(id)
+            }
+            None => {
+                self.last = self.collections.len();
+                add_collection(self.alloc, &mut self.collections, collection, id)
+            }
         }
     }
 
@@ -53,8 +63,11 @@ impl Records {
         requires { IsTrue (is_some (entry_of self.old collection.now id.now)) }
         ensures written { (c i : List ℕ) → entry_of self.new c i ≡ (if bytes_eq collection.now c && bytes_eq id.now i then Some (last_eight (clocks_of self.old collection.now id.now ++ clock ∷ [])) else entry_of self.old c i) }
     {
-        match self.collections.get_mut(collection) {
-            Some(records) => records.note(id, clock),
+        match index_of(&self.collections, self.last, collection) {
+            Some(index) => {
+                self.last = index;
+                self.collections[index].note(id, clock);
+            }
             None => unreachable!(),
         }
     }
@@ -63,9 +76,9 @@ impl Records {
     pub fn rate(&self, collection: &Name, id: &Name, now: u64) -> u64
         ensures { result ≡ rate_at now (clocks_of self.now collection.now id.now) }
     {
-        match self.collections.get(collection) {
+        match index_of(&self.collections, self.last, collection) {
             None => 0,
-            Some(records) => match records.get(id) {
+            Some(index) => match self.collections[index].get(id) {
                 None => 0,
                 Some(clocks) => clocks.rate(now),
             },
@@ -74,6 +87,8 @@ impl Records {
 }
 
 /// Makes a collection with an entry for one record.
+#[cold]
+#[inline(never)]
 fn add_collection(
     alloc: Global,
     collections: &mut IndexMap<Name, Collection>,

@@ -6,4 +6,4 @@ use Rattle.ttl_estimator.proofs.collection.Collection.note.Goals as goal
 pub returns : goal.returns
 returns c =
     rw (← c.self.view_is)
-    (record { written = noted c.self.inside.records _ c.args.id.now c.in-Some.clocks.now c.note.new.self c.args.clock (sym c.in-Some.ensures.value) (c.get_mut.follows.holds c.note.new.self) c.note.ensures })
+    (record { written = noted c.self.inside.records c.in-Some.index c.args.id.now c.index_mut.result.now c.note.new.self c.args.clock (sym c.in-Some.ensures.index) c.index_mut.ensures.value c.note.ensures })
