@@ -5,6 +5,7 @@ pub mod GrowLemmas
 mod IndexLemmas
 mod NameLemmas
 mod OrderLemmas
+mod PlaceLemmas
 mod SpaceLemmas
 mod SameLemmas
 mod StandardFacts

@@ -1,5 +1,5 @@
 -- The names of an index, and what an addition makes of them.
-use Rattle.std.proofs.Common.{◌≡◌, ℕ, ◌-◌, ◌<◌, ◌≤◌, Bool, true, false, ◌&&◌, ◌||◌, ◌⊎◌, List, [], ◌∷◌, ◌++◌, map, Option, Some, None, IsSome, is_some, unwrap_or, option_map, cond, refl, sym, ap, ap₂, ◌∙◌, subst, inl, inr, arith, vec_len, vec_capacity}
+use Rattle.std.proofs.Common.{◌≡◌, ◌≢◌, ℕ, ◌-◌, ◌<◌, ◌≤◌, Bool, true, false, ◌&&◌, ◌||◌, List, [], ◌∷◌, ◌++◌, map, position, Option, Some, None, IsSome, is_some, unwrap_or, option_map, cond, refl, sym, ap, ap₂, ◌∙◌, subst, inl, inr, arith, vec_len, vec_capacity}
 use Rattle.std.specs.Global.{Vec}
 use Rattle.std.specs.List.{list_any}
 use Rattle.std.specs.Map.{keys_of, lookup, set_value}
@@ -10,14 +10,14 @@ use Rattle.std.proofs.lemmas.List.Folds.{list_any-append}
 use Rattle.std.proofs.Math.Bool.{or-false, and-true}
 use Rattle.std.proofs.lemmas.Map.Made.{is_some-lookup, lookup-map_values}
 use Rattle.std.proofs.lemmas.Slice.Eq.{bytes_eq-Decides}
-use Rattle.indexmap.specs.IndexMap.{IndexMap, get_by, spare, IsUnchanged, UpdatesBy, WritesThrough}
+use Rattle.indexmap.specs.IndexMap.{IndexMap, get_by, keys, spare, IsUnchanged, UpdatesBy, WritesThrough}
 use Rattle.q_doc.specs.TextOrder.{text_eq_equiv}
 use Rattle.commit_book.specs.declared.change.Change.{Change}
 use Rattle.commit_book.specs.declared.index.Slot.{Slot}
 use Rattle.commit_book.specs.declared.index.Slot.TheVariants.{Known, InCollection, InNewCollection}
-use Rattle.commit_book.specs.Index.{commits_under, commits_in, space_under, names_of, IsSlotUnder, IsSlotIn, KeepsSpace, KeepsSpaceUnder}
+use Rattle.commit_book.specs.Index.{commits_under, commits_in, index_under, space_under, names_of, AddsCommit, IsSlotUnder, IsSlotIn, KeepsSpace, KeepsSpaceUnder}
 use Rattle.commit_book.specs.Journal.{is_of}
-use Rattle.commit_book.specs.Names.{Names, has_collection, has_record, is_in, AreNamesOf, AddsName}
+use Rattle.commit_book.specs.Names.{Names, collection_index, has_collection, has_record, is_in, record_index, AreNamesOf, AddsName}
 
 -- a book without a commit has no name
 pub no_names : AreNamesOf [] []
@@ -92,6 +92,26 @@ names-set {S} test (e ∷ es) was now found same =
           rw miss (ap (λ (xs : Names). (e.0, keys_of e.1.entries) ∷ xs) (names-set test es was now rest same)))
     ]
 
+names-keys : {S : Type 0} (es : List (List ℕ × Under S)) → keys_of (map (entry_names {S = S}) es) ≡ keys_of es
+names-keys [] = refl
+names-keys (e ∷ es) = ap (λ (names : List (List ℕ)). e.0 ∷ names) (names-keys es)
+
+-- what holds of what stays, and of what was written, holds under each name
+pub written-or-same : {X S : Type 0} (old new : IndexMap (List ℕ) X S) (key : List ℕ) (was now : X) → get_by (bytes_eq key) old ≡ Some was → WritesThrough bytes_eq (bytes_eq key) old now new →
+    (q : List ℕ) (P : Option X → Option X → Type 0) → P (get_by (bytes_eq q) old) (get_by (bytes_eq q) old) → P (Some was) (Some now) → P (get_by (bytes_eq q) old) (get_by (bytes_eq q) new)
+written-or-same {X} old new key was now found writes q P same changed =
+    let put = (writes.3 (subst IsSome (sym found) refl)).0 q in
+    elim (cases_Bool (bytes_eq key q)) [
+      | inl hit ↦ (
+          let is : get_by (bytes_eq q) new ≡ Some now = put ∙ ap (λ (b : Bool). cond b (Some now) (get_by (bytes_eq q) old)) hit in
+          let own : key ≡ q = (bytes_eq-Decides key q).0 hit in
+          let there : get_by (bytes_eq q) old ≡ Some was = ap (λ (c : List ℕ). get_by (bytes_eq c) old) (sym own) ∙ found in
+          subst (λ (o : Option X). P o (get_by (bytes_eq q) new)) (sym there) (subst (P (Some was)) (sym is) changed))
+      | inr miss ↦ (
+          let is : get_by (bytes_eq q) new ≡ get_by (bytes_eq q) old = put ∙ ap (λ (b : Bool). cond b (Some now) (get_by (bytes_eq q) old)) miss in
+          subst (P (get_by (bytes_eq q) old)) (sym is) same)
+    ]
+
 module _ {S T : Type 0} where
   -- the names under a collection are the ids of its records
   named : (maps : Maps S T) (collection : List ℕ) → lookup (bytes_eq collection) (names_of maps) ≡ option_map (λ (records : Under S). keys_of records.entries) (get_by (bytes_eq collection) maps)
@@ -116,6 +136,14 @@ module _ {S T : Type 0} where
 
   pub not-there : (maps : Maps S T) (collection id : List ℕ) (records : Under S) → get_by (bytes_eq collection) maps ≡ Some records → has_record (names_of maps) collection id ≡ false → get_by (bytes_eq id) records ≡ None
   not-there maps collection id records found absent = is-none (get_by (bytes_eq id) records) (sym (record-named maps collection id records found) ∙ absent)
+
+  -- the index of a name is that of its entry
+  pub collection-place : (maps : Maps S T) (collection : List ℕ) → collection_index (names_of maps) collection ≡ position (bytes_eq collection) (keys maps)
+  collection-place maps collection = ap (position (bytes_eq collection)) (names-keys maps.entries)
+
+  pub record-place : (maps : Maps S T) (collection id : List ℕ) (records : Under S) → get_by (bytes_eq collection) maps ≡ Some records → record_index (names_of maps) collection id ≡ index_under records id
+  record-place maps collection id records found =
+      ap (λ (o : Option (List (List ℕ))). position (bytes_eq id) (unwrap_or o [])) (named maps collection ∙ ap (option_map (λ (rs : Under S). keys_of rs.entries)) found)
 
   -- the commits of the records that are there
   pub commits-at : (maps : Maps S T) (collection id : List ℕ) (records : Under S) → get_by (bytes_eq collection) maps ≡ Some records → commits_in maps collection id ≡ commits_under records id
@@ -199,38 +227,29 @@ module _ {S T : Type 0} where
   pub keeps-written : (old new : Maps S T) (collection : List ℕ) (was now : Under S) → get_by (bytes_eq collection) old ≡ Some was → WritesThrough bytes_eq (bytes_eq collection) old now new → KeepsSpaceUnder was now → KeepsSpace old new
   keeps-written old new collection was now found writes keeps = record {
     commits = λ q id. (
-        by q (λ (o p : Option (Under S)). option_map_or (λ (rs : Under S). commits_under rs id) p [] ≡ option_map_or (λ (rs : Under S). commits_under rs id) o []) refl (keeps.commits id));
+        written-or-same old new collection was now found writes q (λ (o p : Option (Under S)). option_map_or (λ (rs : Under S). commits_under rs id) p [] ≡ option_map_or (λ (rs : Under S). commits_under rs id) o []) refl (keeps.commits id));
     names = ap (map (entry_names {S = S})) writes.0 ∙ names-set (bytes_eq collection) old.entries was now found keeps.ids;
     space = λ q id. (
-        by q (λ (o p : Option (Under S)). option_map_or (λ (rs : Under S). space_under rs id) o 0 ≤ option_map_or (λ (rs : Under S). space_under rs id) p 0) (omega arith) (keeps.space id));
+        written-or-same old new collection was now found writes q (λ (o p : Option (Under S)). option_map_or (λ (rs : Under S). space_under rs id) o 0 ≤ option_map_or (λ (rs : Under S). space_under rs id) p 0) (omega arith) (keeps.space id));
     records = λ q. (
-        by q (λ (o p : Option (Under S)). option_map_or (λ (rs : Under S). spare rs) o 0 ≤ option_map_or (λ (rs : Under S). spare rs) p 0) (omega arith) keeps.spare);
+        written-or-same old new collection was now found writes q (λ (o p : Option (Under S)). option_map_or (λ (rs : Under S). spare rs) o 0 ≤ option_map_or (λ (rs : Under S). spare rs) p 0) (omega arith) keeps.spare);
     spare = (let e = writes.6 in omega (arith, e));
   }
-    where
-      by : (q : List ℕ) (P : Option (Under S) → Option (Under S) → Type 0) → P (get_by (bytes_eq q) old) (get_by (bytes_eq q) old) → P (Some was) (Some now) → P (get_by (bytes_eq q) old) (get_by (bytes_eq q) new)
-      by q P same changed =
-          let put = (writes.3 (subst IsSome (sym found) refl)).0 q in
-          elim (cases_Bool (bytes_eq collection q)) [
-            | inl hit ↦ (
-                let is : get_by (bytes_eq q) new ≡ Some now = put ∙ ap (λ (b : Bool). cond b (Some now) (get_by (bytes_eq q) old)) hit in
-                let own : collection ≡ q = (bytes_eq-Decides collection q).0 hit in
-                let there : get_by (bytes_eq q) old ≡ Some was = ap (λ (c : List ℕ). get_by (bytes_eq c) old) (sym own) ∙ found in
-                subst (λ (o : Option (Under S)). P o (get_by (bytes_eq q) new)) (sym there) (subst (P (Some was)) (sym is) changed))
-            | inr miss ↦ (
-                let is : get_by (bytes_eq q) new ≡ get_by (bytes_eq q) old = put ∙ ap (λ (b : Bool). cond b (Some now) (get_by (bytes_eq q) old)) miss in
-                subst (P (get_by (bytes_eq q) old)) (sym is) same)
-          ]
 
   -- what is reserved stays so
   pub slot-kept : (old new : Maps S T) (collection id : List ℕ) (slot : Slot) → KeepsSpace old new → IsSlotIn old collection id slot → IsSlotIn new collection id slot
-  slot-kept old new collection id Known keeps there = (let more = keeps.space collection id in omega (arith, more, there))
-  slot-kept old new collection id (InCollection added) keeps there = (
-    there.0,
-    (let more = keeps.records collection in let some = there.1 in omega (arith, more, some)),
-    ap (λ (names : Names). has_record names collection id) keeps.names ∙ there.2,
+  slot-kept old new collection id (Known index own) keeps there = (
+    ap (λ (names : Names). collection_index names collection) keeps.names ∙ there.0,
+    ap (λ (names : Names). record_index names collection id) keeps.names ∙ there.1,
+    (let more = keeps.space collection id in let some = there.2 in omega (arith, more, some)),
   )
-  slot-kept old new collection id (InNewCollection name among added) keeps there = (
+  slot-kept old new collection id (InCollection index added) keeps there = (
+    ap (λ (names : Names). collection_index names collection) keeps.names ∙ there.0,
+    there.1,
+    (let more = keeps.records collection in let some = there.2 in omega (arith, more, some)),
+    ap (λ (names : Names). has_record names collection id) keeps.names ∙ there.3,
+  )
+  slot-kept old new collection id (InNewCollection added) keeps there = (
     there.0,
     there.1,
     there.2,
@@ -240,17 +259,50 @@ module _ {S T : Type 0} where
   )
 
   -- the slot of an id in its collection is its slot in the index
-  pub slot-written : (old new : Maps S T) (collection id : List ℕ) (was now : Under S) (slot : Slot) → get_by (bytes_eq collection) old ≡ Some was → WritesThrough bytes_eq (bytes_eq collection) old now new → IsSlotUnder now id slot → IsSlotIn new collection id slot
-  slot-written old new collection id was now slot found writes = by slot
+  pub slot-written : (old new : Maps S T) (collection id : List ℕ) (index : ℕ) (was now : Under S) (slot : Slot) → position (bytes_eq collection) (keys old) ≡ Some index → get_by (bytes_eq collection) old ≡ Some was →
+      WritesThrough bytes_eq (bytes_eq collection) old now new → IsSlotUnder now index id slot → IsSlotIn new collection id slot
+  slot-written old new collection id index was now slot at found writes = by slot
     where
       is : get_by (bytes_eq collection) new ≡ Some now
       is = written-at old new collection was now found writes
 
-      by : (slot : Slot) → IsSlotUnder now id slot → IsSlotIn new collection id slot
-      by Known there = subst (λ (o : Option (Under S)). 0 < option_map_or (λ (rs : Under S). space_under rs id) o 0) (sym is) there
-      by (InCollection added) there = (
-        there.0,
-        subst (λ (o : Option (Under S)). 0 < option_map_or (λ (rs : Under S). spare rs) o 0) (sym is) there.1,
-        record-named new collection id now is ∙ ap is_some there.2,
+      place : collection_index (names_of new) collection ≡ Some index
+      place = collection-place new collection ∙ ap (position (bytes_eq collection)) writes.1 ∙ at
+
+      by : (slot : Slot) → IsSlotUnder now index id slot → IsSlotIn new collection id slot
+      by (Known own place') there = (
+        place ∙ ap Some (sym there.0),
+        record-place new collection id now is ∙ there.1,
+        subst (λ (o : Option (Under S)). 0 < option_map_or (λ (rs : Under S). space_under rs id) o 0) (sym is) there.2,
       )
-      by (InNewCollection name among added) there = absurd there
+      by (InCollection own added) there = (
+        place ∙ ap Some (sym there.0),
+        there.1,
+        subst (λ (o : Option (Under S)). 0 < option_map_or (λ (rs : Under S). spare rs) o 0) (sym is) there.2,
+        record-named new collection id now is ∙ ap is_some there.3,
+      )
+      by (InNewCollection added) there = absurd there
+
+  -- ---- a commit is added
+
+  -- the commits of other collections
+  pub others-stay : (old new : Maps S T) (collection : List ℕ) → ((q : List ℕ) → bytes_eq collection q ≡ false → get_by (bytes_eq q) new ≡ get_by (bytes_eq q) old) →
+      (collection' id' : List ℕ) → collection' ≢ collection → commits_in new collection' id' ≡ commits_in old collection' id'
+  others-stay old new collection stay collection' id' apart =
+      elim (cases_Bool (bytes_eq collection collection')) [
+        | inl hit ↦ absurd (apart (sym ((bytes_eq-Decides collection collection').0 hit)))
+        | inr miss ↦ ap (λ (o : Option (Under S)). option_map_or (λ (rs : Under S). commits_under rs id') o []) (stay collection' miss)
+      ]
+
+  -- a commit that is added among the records of its collection
+  pub adds-commit : (old new : Maps S T) (collection id : List ℕ) (commit : ℕ) (was now : Under S) → get_by (bytes_eq collection) old ≡ Some was → WritesThrough bytes_eq (bytes_eq collection) old now new →
+      commits_under now id ≡ commits_under was id ++ commit ∷ [] → ((other : List ℕ) → other ≢ id → commits_under now other ≡ commits_under was other) →
+      ((own : List ℕ) → list_any (bytes_eq own) (keys_of now.entries) ≡ (list_any (bytes_eq own) (keys_of was.entries) || bytes_eq id own)) → AddsCommit collection id commit old new
+  adds-commit old new collection id commit was now found writes put stay listed =
+      let is = written-at old new collection was now found writes in
+      record {
+        own = commits-at new collection id now is ∙ put ∙ ap (λ (xs : List ℕ). xs ++ commit ∷ []) (sym (commits-at old collection id was found));
+        ids = λ other apart. commits-at new collection other now is ∙ stay other apart ∙ sym (commits-at old collection other was found);
+        others = others-stay old new collection ((writes.3 (subst IsSome (sym found) refl)).2);
+        names = adds-written old new collection id was now found writes listed;
+      }

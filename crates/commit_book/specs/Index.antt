@@ -1,5 +1,5 @@
 -- Internal. The commits of each record, by which its documents are found.
-use Rattle.std.specs.Prelude.{◌≡◌, ℕ, zero, suc, ◌+◌, ◌-◌, ◌^◌, ◌<◌, ◌≤◌, false, map, List, [], ◌∷◌, ◌++◌, Option, Some, None, vec_len, vec_capacity, if◌then◌else◌, nat_le, length, filter, slice_get, bytes_eq, All, IfSome, option_map, option_and_then}
+use Rattle.std.specs.Prelude.{◌≡◌, ℕ, zero, suc, ◌-◌, ◌^◌, ◌<◌, ◌≤◌, false, map, List, [], ◌∷◌, ◌++◌, Option, Some, None, vec_len, vec_capacity, if◌then◌else◌, nat_le, length, filter, slice_get, bytes_eq, position, All, ◌≢◌, IfSome, option_map, option_and_then}
 use Rattle.std.specs.Option.{option_map_or}
 use Rattle.std.specs.Global.{Vec}
 use Rattle.std.specs.List.Sorted.{IsNonDecreasing}
@@ -12,7 +12,7 @@ use Rattle.commit_book.specs.declared.index.Slot.{Slot}
 use Rattle.commit_book.specs.declared.index.Slot.TheVariants.{Known, InCollection, InNewCollection}
 use Rattle.commit_book.specs.declared.row.Reserved.{Reserved}
 use Rattle.commit_book.specs.Journal.{is_of, put_at, kept, kept_with}
-use Rattle.commit_book.specs.Names.{Names, AreNamesOf, has_collection, has_record}
+use Rattle.commit_book.specs.Names.{Names, AddsName, AreNamesOf, collection_index, has_collection, has_record, record_index}
 
 -- the commits with the next one, where its change is of the record
 abbrev pub commits_after : List ℕ → List ℕ → ℕ → Option Change → List ℕ → List ℕ
@@ -51,6 +51,10 @@ pub record AreCommits (journal : List Change) (commits : List ℕ) : Type 0 wher
 abbrev pub commits_under : {S : Type 0} → IndexMap (List ℕ) (Vec ℕ) S → List ℕ → List ℕ
 commits_under records id = option_map_or (λ v. v.items) (get_by (bytes_eq id) records) []
 
+-- the index of an id
+abbrev pub index_under : {S : Type 0} → IndexMap (List ℕ) (Vec ℕ) S → List ℕ → Option ℕ
+index_under records id = position (bytes_eq id) (keys_of records.entries)
+
 -- the document of an id after the first n changes
 abbrev pub document_under : {S : Type 0} → List Change → IndexMap (List ℕ) (Vec ℕ) S → ℕ → List ℕ → Option (ℕ × Tree)
 document_under journal records n id = put_of (change_of journal (commits_under records id) n)
@@ -86,19 +90,27 @@ pub record IsNew (id : List ℕ) (record' : NewRecord) : Type 0 where
   pub none : record'.commits.items ≡ []
   pub space : vec_len record'.commits < vec_capacity record'.commits
 
--- the next commit of an id can be added under its collection without memory
-abbrev pub IsSlotUnder : {S : Type 0} → IndexMap (List ℕ) (Vec ℕ) S → List ℕ → Slot → Type 0
-IsSlotUnder records id Known = 0 < space_under records id
-IsSlotUnder records id (InCollection new) = IsNew id new × (0 < spare records) × (get_by (bytes_eq id) records ≡ None)
-IsSlotUnder records id (InNewCollection name among new) = ⊥
+-- the next commit of an id can be added without memory under its collection, which has this index
+abbrev pub IsSlotUnder : {S : Type 0} → IndexMap (List ℕ) (Vec ℕ) S → ℕ → List ℕ → Slot → Type 0
+IsSlotUnder records index id (Known collection own) = (collection ≡ index) × (index_under records id ≡ Some own) × (0 < space_under records id)
+IsSlotUnder records index id (InCollection collection new) = (collection ≡ index) × IsNew id new × (0 < spare records) × (get_by (bytes_eq id) records ≡ None)
+IsSlotUnder records index id (InNewCollection new) = ⊥
 
--- the next commit of a record can be added without memory
+-- the next commit of a record can be added without memory, and the indexes are those of its names
 abbrev pub IsSlotIn : {S T : Type 0} → IndexMap (List ℕ) (IndexMap (List ℕ) (Vec ℕ) S) T → List ℕ → List ℕ → Slot → Type 0
-IsSlotIn collections collection id Known = 0 < space_in collections collection id
-IsSlotIn collections collection id (InCollection new) =
-    IsNew id new × (0 < spare_in collections collection) × (has_record (names_of collections) collection id ≡ false)
-IsSlotIn collections collection id (InNewCollection name among new) =
-    IsNew id new × (name ≡ collection) × (among.entries ≡ []) × (0 < spare among) × (0 < spare collections) × (has_collection (names_of collections) collection ≡ false)
+IsSlotIn collections collection id (Known index own) =
+    (collection_index (names_of collections) collection ≡ Some index) × (record_index (names_of collections) collection id ≡ Some own) × (0 < space_in collections collection id)
+IsSlotIn collections collection id (InCollection index new) =
+    (collection_index (names_of collections) collection ≡ Some index) × IsNew id new × (0 < spare_in collections collection) × (has_record (names_of collections) collection id ≡ false)
+IsSlotIn collections collection id (InNewCollection new) =
+    IsNew id new.value.first × (new.value.name ≡ collection) × (new.value.records.entries ≡ []) × (0 < spare new.value.records) × (0 < spare collections) × (has_collection (names_of collections) collection ≡ false)
+
+-- a commit is added to those of one record, and the names of the record to the index
+pub record AddsCommit {S T : Type 0} (collection id : List ℕ) (commit : ℕ) (old new : IndexMap (List ℕ) (IndexMap (List ℕ) (Vec ℕ) S) T) : Type 0 where
+  pub own : commits_in new collection id ≡ commits_in old collection id ++ commit ∷ []
+  pub ids : (other : List ℕ) → other ≢ id → commits_in new collection other ≡ commits_in old collection other
+  pub others : (collection' id' : List ℕ) → collection' ≢ collection → commits_in new collection' id' ≡ commits_in old collection' id'
+  pub names : AddsName collection id (names_of old) (names_of new)
 
 -- a change can be added without memory, and fits
 pub record IsReadyFor {S T : Type 0} (capacity : ℕ) (rows : Vec Change) (collections : IndexMap (List ℕ) (IndexMap (List ℕ) (Vec ℕ) S) T) (reserved : Reserved) : Type 0 where

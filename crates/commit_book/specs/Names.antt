@@ -1,7 +1,7 @@
 -- Internal. The names that an index has.
-use Rattle.std.specs.Prelude.{◌≡◌, ℕ, Bool, ◌&&◌, ◌||◌, List, [], Option, is_some, unwrap_or, bytes_eq}
+use Rattle.std.specs.Prelude.{◌≡◌, ℕ, Bool, ◌&&◌, ◌||◌, List, [], Option, is_some, unwrap_or, bytes_eq, position}
 use Rattle.std.specs.List.{list_any}
-use Rattle.std.specs.Map.{lookup}
+use Rattle.std.specs.Map.{keys_of, lookup}
 use Rattle.commit_book.specs.declared.change.Change.{Change}
 use Rattle.commit_book.specs.Journal.{is_of}
 
@@ -16,6 +16,14 @@ has_collection names collection = is_some (lookup (bytes_eq collection) names)
 -- the id is among those of the collection
 abbrev pub has_record : Names → List ℕ → List ℕ → Bool
 has_record names collection id = list_any (bytes_eq id) (unwrap_or (lookup (bytes_eq collection) names) [])
+
+-- the index of the collection among the names
+abbrev pub collection_index : Names → List ℕ → Option ℕ
+collection_index names collection = position (bytes_eq collection) (keys_of names)
+
+-- the index of the id among those of the collection
+abbrev pub record_index : Names → List ℕ → List ℕ → Option ℕ
+record_index names collection id = position (bytes_eq id) (unwrap_or (lookup (bytes_eq collection) names) [])
 
 -- the change is of this collection
 abbrev pub is_in : List ℕ → Change → Bool

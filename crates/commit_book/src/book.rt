@@ -120,14 +120,7 @@ impl Book {
         match self.reserved.take() {
             Some(Reserved { row, slot }) => {
                 let commit = self.rows.len() as u64 + 1;
-                let change = row.change();
-                push_in(
-                    &mut self.collections,
-                    &change.collection,
-                    &change.id,
-                    slot,
-                    commit,
-                );
+                push_in(&mut self.collections, slot, commit);
                 self.bytes += row.cost();
                 self.rows.push_reserved(row);
                 commit

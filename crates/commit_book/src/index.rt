@@ -1,10 +1,11 @@
 //! The index of a book: the commits of each record, by the names of its collection and of its document.
-ghost use Rattle.std.specs.Prelude.{◌≡◌, ℕ, ◌<◌, ◌++◌, ◌∷◌, [], List, ◌≢◌, IfOk, None, false};
+ghost use Rattle.std.specs.Prelude.{◌≡◌, ℕ, ◌<◌, ◌++◌, ◌∷◌, [], List, ◌≢◌, IfOk, None, Some, false};
 ghost use Rattle.std.specs.Str.{bytes_eq};
 ghost use Rattle.std.specs.Map.{keys_of};
 ghost use Rattle.indexmap.specs.IndexMap.{get_by, spare};
-ghost use Rattle.commit_book.specs.Index.{commits_under, commits_in, space_under, space_in, names_of, spare_in, IsNew, IsSlotUnder, IsSlotIn, KeepsSpace, KeepsSpaceUnder};
-ghost use Rattle.commit_book.specs.Names.{AddsName, has_collection, has_record};
+ghost use Rattle.commit_book.specs.declared.index.Slot.TheVariants.{Known, InCollection};
+ghost use Rattle.commit_book.specs.Index.{commits_under, commits_in, index_under, space_under, names_of, AddsCommit, IsNew, IsSlotUnder, IsSlotIn, KeepsSpace, KeepsSpaceUnder};
+ghost use Rattle.commit_book.specs.Names.{has_collection};
 
 use indexmap::IndexMap;
 use q_base::{Commit, Memory, Name};
@@ -23,15 +24,24 @@ pub struct NewRecord {
     pub commits: Vec<Commit>,
 }
 
-/// Where the next commit of a record goes. Memory for it is reserved.
+/// A collection that is not in the index, and its first record, with memory reserved for both.
+#[derive(Drop)]
+pub struct NewCollection {
+    pub name: Name,
+    pub records: Records,
+    pub first: NewRecord,
+}
+
+/// Where the next commit of a record goes. Memory for it is reserved. A slot is small, since each
+/// write moves it, and has indexes, so that no name is hashed again.
 #[derive(Drop)]
 pub enum Slot {
-    /// The record is in the index.
-    Known,
-    /// Its collection is, and has spare capacity for the record.
-    InCollection(NewRecord),
+    /// The record is in the index: the index of its collection, and its own in that collection.
+    Known { collection: usize, record: usize },
+    /// Its collection is, at this index, and has spare capacity for the record.
+    InCollection { collection: usize, new: NewRecord },
     /// The index has spare capacity for the collection, and the collection for the record.
-    InNewCollection(Name, Records, NewRecord),
+    InNewCollection(Box<NewCollection>),
 }
 
 /// The commits of a record.
@@ -54,70 +64,46 @@ fn commits_under<'a>(records: &'a Records, id: &Name) -> &'a [Commit]
     }
 }
 
-/// Adds a commit of a record in its slot. It takes no memory.
-pub fn push_in(
-    collections: &mut Collections,
-    collection: &Name,
-    id: &Name,
-    slot: Slot,
-    commit: Commit,
-)
-    requires { IsSlotIn collections.old collection.now id.now slot }
-    ensures own { commits_in collections.new collection.now id.now ≡ commits_in collections.old collection.now id.now ++ commit ∷ [] }
-    ensures ids { (other : List ℕ) → other ≢ id.now → commits_in collections.new collection.now other ≡ commits_in collections.old collection.now other }
-    ensures others { (collection' id' : List ℕ) → collection' ≢ collection.now → commits_in collections.new collection' id' ≡ commits_in collections.old collection' id' }
-    ensures names { AddsName collection.now id.now (names_of collections.old) (names_of collections.new) }
+/// Adds a commit of a record in its slot. It takes no memory, and hashes no name of a record that is
+/// in the index.
+pub fn push_in(collections: &mut Collections, slot: Slot, commit: Commit)
+    requires { (collection : List ℕ) × (id : List ℕ) × IsSlotIn collections.old collection id slot }
+    ensures { (collection id : List ℕ) → IsSlotIn collections.old collection id slot → AddsCommit collection id commit collections.old collections.new }
 {
     match slot {
-        Slot::Known => push_known(collections, collection, id, commit),
-        Slot::InCollection(new) => put_record(collections, collection, new, commit),
-        Slot::InNewCollection(name, records, new) => {
-            put_collection(collections, name, records, new, commit)
-        }
+        Slot::Known { collection, record } => push_known(collections, collection, record, commit),
+        Slot::InCollection { collection, new } => put_record(collections, collection, new, commit),
+        Slot::InNewCollection(new) => put_collection(collections, Box::into_inner(new), commit),
     }
 }
 
-/// Adds a commit of a record that is in the index.
-fn push_known(collections: &mut Collections, collection: &Name, id: &Name, commit: Commit)
-    requires { 0 < space_in collections.old collection.now id.now }
-    ensures own { commits_in collections.new collection.now id.now ≡ commits_in collections.old collection.now id.now ++ commit ∷ [] }
-    ensures ids { (other : List ℕ) → other ≢ id.now → commits_in collections.new collection.now other ≡ commits_in collections.old collection.now other }
-    ensures others { (collection' id' : List ℕ) → collection' ≢ collection.now → commits_in collections.new collection' id' ≡ commits_in collections.old collection' id' }
-    ensures names { AddsName collection.now id.now (names_of collections.old) (names_of collections.new) }
+/// Adds a commit of the record with this index in the collection with this index.
+fn push_known(collections: &mut Collections, collection: usize, index: usize, commit: Commit)
+    requires { (name : List ℕ) × (id : List ℕ) × IsSlotIn collections.old name id (Known collection index) }
+    ensures { (name id : List ℕ) → IsSlotIn collections.old name id (Known collection index) → AddsCommit name id commit collections.old collections.new }
 {
-    match collections.get_mut(collection) {
-        Some(records) => push_under(records, id, commit),
-        None => unreachable!(),
-    }
+    let (_, records) = collections.pair_mut(collection);
+    push_under(records, index, commit);
 }
 
-/// Adds a commit of an id that is in its collection.
-fn push_under(records: &mut Records, id: &Name, commit: Commit)
-    requires { 0 < space_under records.old id.now }
-    ensures own { commits_under records.new id.now ≡ commits_under records.old id.now ++ commit ∷ [] }
-    ensures others { (other : List ℕ) → other ≢ id.now → commits_under records.new other ≡ commits_under records.old other }
+/// Adds a commit of the id with this index among those of its collection.
+fn push_under(records: &mut Records, index: usize, commit: Commit)
+    requires { (id : List ℕ) × (index_under records.old id ≡ Some index) × (0 < space_under records.old id) }
+    ensures own { (id : List ℕ) → index_under records.old id ≡ Some index → commits_under records.new id ≡ commits_under records.old id ++ commit ∷ [] }
+    ensures others { (id other : List ℕ) → index_under records.old id ≡ Some index → other ≢ id → commits_under records.new other ≡ commits_under records.old other }
     ensures ids { keys_of records.new.entries ≡ keys_of records.old.entries }
 {
-    match records.get_mut(id) {
-        Some(commits) => commits.push_reserved(commit),
-        None => unreachable!(),
-    }
+    let (_, commits) = records.pair_mut(index);
+    commits.push_reserved(commit);
 }
 
-/// Puts a record with its first commit into a collection that is in the index.
-fn put_record(collections: &mut Collections, collection: &Name, new: NewRecord, commit: Commit)
-    requires new { IsNew new.id new }
-    requires spare { 0 < spare_in collections.old collection.now }
-    requires absent { has_record (names_of collections.old) collection.now new.id ≡ false }
-    ensures own { commits_in collections.new collection.now new.id ≡ commits_in collections.old collection.now new.id ++ commit ∷ [] }
-    ensures ids { (other : List ℕ) → other ≢ new.id → commits_in collections.new collection.now other ≡ commits_in collections.old collection.now other }
-    ensures others { (collection' id' : List ℕ) → collection' ≢ collection.now → commits_in collections.new collection' id' ≡ commits_in collections.old collection' id' }
-    ensures names { AddsName collection.now new.id (names_of collections.old) (names_of collections.new) }
+/// Puts a record with its first commit into the collection with this index.
+fn put_record(collections: &mut Collections, collection: usize, new: NewRecord, commit: Commit)
+    requires { (name : List ℕ) × IsSlotIn collections.old name new.id (InCollection collection new) }
+    ensures { (name : List ℕ) → IsSlotIn collections.old name new.id (InCollection collection new) → AddsCommit name new.id commit collections.old collections.new }
 {
-    match collections.get_mut(collection) {
-        Some(records) => put_under(records, new, commit),
-        None => unreachable!(),
-    }
+    let (_, records) = collections.pair_mut(collection);
+    put_under(records, new, commit);
 }
 
 /// Puts a record with its first commit under its id.
@@ -138,24 +124,20 @@ fn put_under(records: &mut Records, new: NewRecord, commit: Commit)
 }
 
 /// Puts a collection in, with one record and its first commit.
-fn put_collection(
-    collections: &mut Collections,
-    name: Name,
-    mut records: Records,
-    new: NewRecord,
-    commit: Commit,
-)
-    requires new { IsNew new.id new }
-    requires empty { records.entries ≡ [] }
-    requires among { 0 < spare records }
+fn put_collection(collections: &mut Collections, new: NewCollection, commit: Commit)
+    requires new { IsNew new.first.id new.first }
+    requires empty { new.records.entries ≡ [] }
+    requires among { 0 < spare new.records }
     requires spare { 0 < spare collections.old }
-    requires absent { has_collection (names_of collections.old) name ≡ false }
-    ensures own { commits_in collections.new name new.id ≡ commits_in collections.old name new.id ++ commit ∷ [] }
-    ensures ids { (other : List ℕ) → other ≢ new.id → commits_in collections.new name other ≡ commits_in collections.old name other }
-    ensures others { (collection' id' : List ℕ) → collection' ≢ name → commits_in collections.new collection' id' ≡ commits_in collections.old collection' id' }
-    ensures names { AddsName name new.id (names_of collections.old) (names_of collections.new) }
+    requires absent { has_collection (names_of collections.old) new.name ≡ false }
+    ensures { AddsCommit new.name new.first.id commit collections.old collections.new }
 {
-    put_under(&mut records, new, commit);
+    let NewCollection {
+        name,
+        mut records,
+        first,
+    } = new;
+    put_under(&mut records, first, commit);
     match collections.insert(name, records) {
         Ok(_) => {}
         Err(_) => unreachable!(),
@@ -167,25 +149,30 @@ pub fn slot_in(collections: &mut Collections, collection: &Name, id: &Name) -> R
     ensures ok { IfOk result (λ slot. IsSlotIn collections.new collection.now id.now slot) }
     ensures keeps { KeepsSpace collections.old collections.new }
 {
-    match collections.get_mut(collection) {
-        Some(records) => slot_under(records, id),
+    match collections.get_index_of(collection) {
+        Some(index) => {
+            let (_, records) = collections.pair_mut(index);
+            slot_under(records, index, id)
+        }
         None => new_slot(collections, collection, id),
     }
 }
 
-/// The slot of the next commit of an id in its collection, with memory reserved.
-fn slot_under(records: &mut Records, id: &Name) -> Result<Slot, Memory>
-    ensures ok { IfOk result (λ slot. IsSlotUnder records.new id.now slot) }
+/// The slot of the next commit of an id in the collection with this index, with memory reserved.
+fn slot_under(records: &mut Records, collection: usize, id: &Name) -> Result<Slot, Memory>
+    ensures ok { IfOk result (λ slot. IsSlotUnder records.new collection id.now slot) }
     ensures keeps { KeepsSpaceUnder records.old records.new }
 {
-    match records.get_mut(id) {
-        Some(commits) => {
+    match records.get_index_of(id) {
+        Some(record) => {
+            let (_, commits) = records.pair_mut(record);
             commits.reserve(1)?;
-            Ok(Slot::Known)
+            Ok(Slot::Known { collection, record })
         }
         None => {
             records.reserve(1)?;
-            Ok(Slot::InCollection(new_record(*records.allocator(), id)?))
+            let new = new_record(*records.allocator(), id)?;
+            Ok(Slot::InCollection { collection, new })
         }
     }
 }
@@ -198,10 +185,24 @@ fn new_slot(collections: &mut Collections, collection: &Name, id: &Name) -> Resu
 {
     collections.reserve(1)?;
     let alloc = *collections.allocator();
+    let new = new_collection(alloc, collection, id)?;
+    Ok(Slot::InNewCollection(Box::new(alloc, new)?))
+}
+
+/// A collection without a record, with memory reserved for one.
+fn new_collection(alloc: Global, name: &Name, id: &Name) -> Result<NewCollection, Memory>
+    ensures name { IfOk result (λ new. new.name ≡ name.now) }
+    ensures empty { IfOk result (λ new. new.records.entries ≡ []) }
+    ensures spare { IfOk result (λ new. 0 < spare new.records) }
+    ensures first { IfOk result (λ new. IsNew id.now new.first) }
+{
     let mut records = IndexMap::new(alloc);
     records.reserve(1)?;
-    let new = new_record(alloc, id)?;
-    Ok(Slot::InNewCollection(collection.clone()?, records, new))
+    Ok(NewCollection {
+        name: name.clone()?,
+        records,
+        first: new_record(alloc, id)?,
+    })
 }
 
 /// A record without a commit, with memory reserved for one.

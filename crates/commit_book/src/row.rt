@@ -87,17 +87,13 @@ impl Row {
     }
 }
 
-/// The printed text of the document of a change, in no more memory than it has bytes.
+/// The printed text of the document of a change.
 pub fn text_of(alloc: Global, change: &Change) -> Result<Vec<u8>, Memory>
     ensures { IfOk result (λ text. text.items ≡ text_of change.now.document) }
 {
     match &change.document {
         Some(document) => match document.print(alloc) {
-            Ok(text) => {
-                let mut text = text.into_vec();
-                text.shrink_to_fit();
-                Ok(text)
-            }
+            Ok(text) => Ok(text.into_vec()),
             Err(_) => Err(Memory),
         },
         None => Ok(Vec::new(alloc)),

@@ -1,16 +1,17 @@
--- the record has its name already
-use Rattle.std.proofs.Common.{◌≡◌, ◌<◌, ◌||◌, ℕ, Bool, true, false, List, Option, Some, None, is_some, refl, sym, ap, ◌∙◌, subst, arith, inl, inr}
-use Rattle.std.specs.List.{list_any}
-use Rattle.std.specs.Map.{keys_of}
-use Rattle.std.specs.Option.{option_map_or}
-use Rattle.std.specs.Str.{bytes_eq}
-use Rattle.commit_book.specs.Index.{space_under}
-use Rattle.commit_book.proofs.NameLemmas.{adds-written, still-named}
+-- the slot is that of a record which is in the index
+use Rattle.commit_book.proofs.PlaceLemmas.{collection-within, known-under, known-added}
 use Rattle.commit_book.proofs.index.push_known.Goals as goal
 
-pub returns-clause-names : goal.returns-clause-names
-returns-clause-names c =
-    adds-written _ _ c.args.collection.now c.args.id.now c.in-Some.records.now c.push_under.new.records (sym c.in-Some.ensures.value) (c.get_mut.follows.holds c.push_under.new.records)
-    (λ own.
-    ap (list_any (bytes_eq own)) c.push_under.ensures.ids
-    ∙ still-named c.in-Some.records.now c.args.id.now own (subst (λ o. 0 < option_map_or (λ rs. space_under rs c.args.id.now) o 0) (sym c.in-Some.ensures.value) c.requires))
+pub pair_mut-records-requires : goal.pair_mut-records-requires
+pair_mut-records-requires c = collection-within c.args.collections.now c.requires.0 c.args.collection c.requires.2.0
+
+pub push_under-requires : goal.push_under-requires
+push_under-requires c =
+    let records = c.pair_mut-records.result.1.now in
+    let under = known-under c.args.collections.now c.requires.0 c.args.collection _ records records c.pair_mut-records.ensures.value c.requires.1 c.args.index c.requires.2 in
+    (c.requires.1, under.0, under.1)
+
+pub returns : goal.returns
+returns c = λ name id there.
+    known-added c.args.collections.now name c.args.collection _ c.pair_mut-records.result.1.now c.push_under.new.records c.pair_mut-records.ensures.value id c.args.index c.args.commit c.pair_mut-records.ensures.unique there
+    c.push_under.ensures.own c.push_under.ensures.others c.push_under.ensures.ids

@@ -1,27 +1,24 @@
--- the id is added last in its collection
-use Rattle.std.proofs.Common.{◌≡◌, ◌++◌, ◌∷◌, [], ◌||◌, ℕ, Bool, List, Option, Some, is_some, sym, ap, ◌∙◌, subst}
-use Rattle.std.specs.Global.{Vec}
-use Rattle.std.specs.List.{list_any}
-use Rattle.std.specs.Option.{option_map_or}
-use Rattle.std.specs.Str.{bytes_eq}
-use Rattle.commit_book.specs.Index.{commits_under, spare_in}
-use Rattle.commit_book.proofs.NameLemmas.{adds-written, not-there, named-last, written-at, commits-at}
+-- the slot is that of a new record of a collection which is in the index
+use Rattle.commit_book.proofs.PlaceLemmas.{collection-within, new-under, new-added}
 use Rattle.commit_book.proofs.index.put_record.Goals as goal
+
+pub pair_mut-records-requires : goal.pair_mut-records-requires
+pair_mut-records-requires c = collection-within c.args.collections.now c.requires.0 c.args.collection c.requires.1.0
+
+pub put_under-requires-clause-new : goal.put_under-requires-clause-new
+put_under-requires-clause-new c = c.requires.1.1
+
+pub put_under-requires-clause-spare : goal.put_under-requires-clause-spare
+put_under-requires-clause-spare c =
+    let records = c.pair_mut-records.result.1.now in
+    (new-under c.args.collections.now c.requires.0 c.args.collection _ records records c.pair_mut-records.ensures.value c.args.new.id c.args.new c.requires.1).0
 
 pub put_under-requires-clause-absent : goal.put_under-requires-clause-absent
 put_under-requires-clause-absent c =
-    not-there c.args.collections.now c.args.collection.now c.args.new.id c.in-Some.records.now (sym c.in-Some.ensures.value) c.requires.absent
+    let records = c.pair_mut-records.result.1.now in
+    (new-under c.args.collections.now c.requires.0 c.args.collection _ records records c.pair_mut-records.ensures.value c.args.new.id c.args.new c.requires.1).1
 
-pub returns-clause-own : goal.returns-clause-own
-returns-clause-own c =
-    let now = written-at c.args.collections.now _ c.args.collection.now c.in-Some.records.now c.put_under.new.records (sym c.in-Some.ensures.value) (c.get_mut.follows.holds c.put_under.new.records) in
-    commits-at (c.get_mut.follows.lender c.put_under.new.records) c.args.collection.now c.args.new.id c.put_under.new.records now
-    ∙ c.put_under.ensures.own
-    ∙ ap (λ (xs : List ℕ). xs ++ c.args.commit ∷ [])
-    (sym (commits-at c.args.collections.now c.args.collection.now c.args.new.id c.in-Some.records.now (sym c.in-Some.ensures.value)
-    ∙ ap (λ (o : Option (Vec ℕ)). option_map_or (λ (v : Vec ℕ). v.items) o []) (not-there c.args.collections.now c.args.collection.now c.args.new.id c.in-Some.records.now (sym c.in-Some.ensures.value) c.requires.absent)))
-
-pub returns-clause-names : goal.returns-clause-names
-returns-clause-names c =
-    adds-written _ _ c.args.collection.now c.args.new.id c.in-Some.records.now c.put_under.new.records (sym c.in-Some.ensures.value) (c.get_mut.follows.holds c.put_under.new.records)
-    (λ own. ap (list_any (bytes_eq own)) c.put_under.ensures.ids ∙ named-last _ c.args.new.id own)
+pub returns : goal.returns
+returns c = λ name there.
+    new-added c.args.collections.now name c.args.collection _ c.pair_mut-records.result.1.now c.put_under.new.records c.pair_mut-records.ensures.value c.args.commit c.args.new c.pair_mut-records.ensures.unique there
+    c.put_under.ensures.own c.put_under.ensures.others c.put_under.ensures.ids

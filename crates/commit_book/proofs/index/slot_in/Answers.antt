@@ -1,14 +1,30 @@
 -- the collection keeps what it has reserved
-use Rattle.std.proofs.Common.{sym, IfOk}
+use Rattle.std.proofs.Common.{sym}
 use Rattle.std.proofs.lemmas.Result.{IfOk-weaker}
 use Rattle.commit_book.specs.Index.{IsSlotUnder, IsSlotIn}
+use Rattle.indexmap.specs.IndexMap.{with_value_at}
 use Rattle.commit_book.proofs.NameLemmas.{keeps-written, slot-written}
+use Rattle.commit_book.proofs.PlaceLemmas.{found-at, writes-at}
 use Rattle.commit_book.proofs.index.slot_in.Goals as goal
 
 pub returns-in-Some-clause-keeps : goal.returns-in-Some-clause-keeps
-returns-in-Some-clause-keeps c = keeps-written _ _ c.args.collection.now c.in-Some.records.now c.slot_under.new.records (sym c.in-Some.ensures.value) (c.get_mut.follows.holds c.slot_under.new.records) c.slot_under.ensures.keeps
+returns-in-Some-clause-keeps c =
+    let maps = c.args.collections.now in
+    let name = c.args.collection.now in
+    let records = c.pair_mut-records.result.1.now in
+    let at = sym c.in-Some.ensures.index in
+    let found = found-at name maps.entries c.in-Some.index _ records at c.pair_mut-records.ensures.value in
+    keeps-written maps (with_value_at maps c.in-Some.index c.slot_under.new.records) name records c.slot_under.new.records found
+    (writes-at maps name c.in-Some.index records c.slot_under.new.records at found c.pair_mut-records.ensures.unique) c.slot_under.ensures.keeps
 
 pub returns-in-Some-clause-ok : goal.returns-in-Some-clause-ok
 returns-in-Some-clause-ok c =
-    IfOk-weaker c.slot_under.result (λ slot. IsSlotUnder c.slot_under.new.records c.args.id.now slot) (λ slot. IsSlotIn (c.get_mut.follows.lender c.slot_under.new.records) c.args.collection.now c.args.id.now slot)
-    (λ slot there. slot-written c.args.collections.now _ c.args.collection.now c.args.id.now c.in-Some.records.now c.slot_under.new.records slot (sym c.in-Some.ensures.value) (c.get_mut.follows.holds c.slot_under.new.records) there) c.slot_under.ensures.ok
+    let maps = c.args.collections.now in
+    let name = c.args.collection.now in
+    let records = c.pair_mut-records.result.1.now in
+    let now = c.slot_under.new.records in
+    let at = sym c.in-Some.ensures.index in
+    let found = found-at name maps.entries c.in-Some.index _ records at c.pair_mut-records.ensures.value in
+    IfOk-weaker c.slot_under.result (λ slot. IsSlotUnder now c.in-Some.index c.args.id.now slot) (λ slot. IsSlotIn (with_value_at maps c.in-Some.index now) name c.args.id.now slot)
+    (λ slot there. slot-written maps (with_value_at maps c.in-Some.index now) name c.args.id.now c.in-Some.index records now slot at found (writes-at maps name c.in-Some.index records now at found c.pair_mut-records.ensures.unique) there)
+    c.slot_under.ensures.ok
