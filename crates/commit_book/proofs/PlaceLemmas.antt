@@ -1,5 +1,5 @@
 -- What an index of a name says of a map, and what a write by index makes of it.
-use Rattle.std.proofs.Common.{◌≡◌, ◌≢◌, ◌++◌, ℕ, suc, ◌+◌, ◌-◌, ◌<◌, ◌≤◌, vec_len, vec_capacity, Bool, List, [], ◌∷◌, Option, Some, None, IsSome, length, slice_get, position, refl, sym, ap, ◌∙◌, subst, arith, inl, inr}
+use Rattle.std.proofs.Common.{true, ◌≡◌, ◌≢◌, ◌++◌, ℕ, suc, ◌+◌, ◌-◌, ◌<◌, ◌≤◌, vec_len, vec_capacity, Bool, List, [], ◌∷◌, Option, Some, None, IsSome, length, slice_get, position, refl, sym, ap, ◌∙◌, subst, arith, inl, inr}
 use Rattle.std.specs.Global.{Vec}
 use Rattle.std.specs.List.{list_any, position_or_len, IsDistinct}
 use Rattle.std.specs.Option.{option_map_or}
@@ -7,9 +7,10 @@ use Rattle.std.specs.Map.{keys_of, lookup, set_value}
 use Rattle.std.specs.Str.{bytes_eq}
 use Rattle.std.proofs.lemmas.Bool.{cases_Bool}
 use Rattle.std.proofs.lemmas.Slice.Eq.{bytes_eq-Decides}
-use Rattle.indexmap.specs.IndexMap.{IndexMap, get_by, keys, spare, with_value_at, set_value_at, IsUnique, UpdatesBy, WritesThrough}
+use Rattle.indexmap.specs.IndexMap.{IndexMap, get_by, keys, spare, values, with_value_at, set_value_at, IsUnique, UpdatesBy, WritesThrough}
 use Rattle.indexmap.proofs.CallerLemmas.{keys-with_value_at, index_map_len-with_value_at, updates-with_value_at}
-use Rattle.indexmap.proofs.MapLemmas.{Found-position}
+use Rattle.indexmap.proofs.MapLemmas.{Found-position, Missing-position, index-first}
+use Rattle.indexmap.proofs.RemoveLemmas.{own_first}
 use Rattle.q_doc.specs.TextOrder.{text_eq_equiv}
 use Rattle.commit_book.specs.declared.index.NewRecord.{NewRecord}
 use Rattle.commit_book.specs.declared.index.Slot.TheVariants.{Known, InCollection}
@@ -66,6 +67,14 @@ module _ {X : Type 0} where
   pub within-at : (key : List ℕ) (es : List (List ℕ × X)) (i : ℕ) → position (bytes_eq key) (keys_of es) ≡ Some i → i < length es
   within-at key es i at = (Found-position (bytes_eq key) es i at).within
 
+  -- no entry has a name without an index
+  pub absent-at : (key : List ℕ) (es : List (List ℕ × X)) → position (bytes_eq key) (keys_of es) ≡ None → lookup (bytes_eq key) es ≡ None
+  absent-at key es none = (Missing-position (bytes_eq key) es none).value
+
+  -- the entry at an index has the index of its name
+  pub own-place : (key : List ℕ) (es : List (List ℕ × X)) (i : ℕ) (v : X) → IsDistinct bytes_eq (keys_of es) → slice_get es i ≡ Some (key, v) → position (bytes_eq key) (keys_of es) ≡ Some i
+  own-place key es i v unique entry = index-first (bytes_eq key) es i (own_first bytes_eq text_eq_equiv es i key v unique entry)
+
   -- a write at the index of a name is a write under the name
   pub writes-at : {S : Type 0} (m : IndexMap (List ℕ) X S) (key : List ℕ) (i : ℕ) (v w : X) → position (bytes_eq key) (keys m) ≡ Some i → get_by (bytes_eq key) m ≡ Some v → IsUnique bytes_eq m →
       WritesThrough bytes_eq (bytes_eq key) m w (with_value_at m i w)
@@ -91,7 +100,20 @@ Maps S T = IndexMap (List ℕ) (Under S) T
 pub collection-within : {S T : Type 0} (maps : Maps S T) (collection : List ℕ) (index : ℕ) → collection_index (names_of maps) collection ≡ Some index → index < length maps.entries
 collection-within maps collection index at = within-at collection maps.entries index (sym (collection-place maps collection) ∙ at)
 
--- and an id with an index
+-- and one without an index is not
+pub collection-missing : {S T : Type 0} (maps : Maps S T) (collection : List ℕ) → collection_index (names_of maps) collection ≡ None → get_by (bytes_eq collection) maps ≡ None
+collection-missing maps collection none = absent-at collection maps.entries (sym (collection-place maps collection) ∙ none)
+
+-- the value at the index of a collection is its records
+pub collection-value : {S T : Type 0} (maps : Maps S T) (collection : List ℕ) (index : ℕ) (records : Under S) → collection_index (names_of maps) collection ≡ Some index → slice_get (values maps) index ≡ Some records → get_by (bytes_eq collection) maps ≡ Some records
+collection-value maps collection index records at value = (Found-position (bytes_eq collection) maps.entries index (sym (collection-place maps collection) ∙ at)).value ∙ value
+
+-- a name that stands at an index has this index
+pub likely-place : {S T : Type 0} (maps : Maps S T) (name there : List ℕ) (index : ℕ) (records : Under S) → IsUnique bytes_eq maps → slice_get maps.entries index ≡ Some (there, records) → bytes_eq name there ≡ true → Some index ≡ collection_index (names_of maps) name
+likely-place maps name there index records unique entry same =
+    sym (collection-place maps name ∙ own-place name maps.entries index records unique (entry ∙ ap (λ (k : List ℕ). Some (k, records)) (sym ((bytes_eq-Decides name there).0 same))))
+
+-- an id with an index is among the records
 pub id-within : {S : Type 0} (records : Under S) (id : List ℕ) (index : ℕ) → index_under records id ≡ Some index → index < length records.entries
 id-within records id index at = within-at id records.entries index at
 

@@ -90,6 +90,12 @@ pub record IsNew (id : List ℕ) (record' : NewRecord) : Type 0 where
   pub none : record'.commits.items ≡ []
   pub space : vec_len record'.commits < vec_capacity record'.commits
 
+-- the index of the collection of a slot, where it is in the index
+abbrev pub collection_of : Slot → Option ℕ
+collection_of (Known collection own) = Some collection
+collection_of (InCollection collection new) = Some collection
+collection_of (InNewCollection new) = None
+
 -- the next commit of an id can be added without memory under its collection, which has this index
 abbrev pub IsSlotUnder : {S : Type 0} → IndexMap (List ℕ) (Vec ℕ) S → ℕ → List ℕ → Slot → Type 0
 IsSlotUnder records index id (Known collection own) = (collection ≡ index) × (index_under records id ≡ Some own) × (0 < space_under records id)

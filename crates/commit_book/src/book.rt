@@ -32,6 +32,9 @@ pub struct Book {
     rows: Vec<Row>,
     /// The commits of each record.
     collections: Collections,
+    /// The index of the collection of the change that was reserved last. Most calls concern the same
+    /// collection, so its name is compared before a name is hashed.
+    last: usize,
     reserved: Option<Reserved>,
 }
 
@@ -69,6 +72,7 @@ impl Book {
             bytes: 0,
             rows: Vec::new(alloc),
             collections: IndexMap::new(alloc),
+            last: 0,
             reserved: None,
         })
     }
@@ -91,7 +95,17 @@ impl Book {
         }
         let row = Row::of(self.alloc, change, text)?;
         self.rows.reserve(1)?;
-        let slot = slot_in(&mut self.collections, &change.collection, &change.id)?;
+        let slot = slot_in(
+            &mut self.collections,
+            self.last,
+            &change.collection,
+            &change.id,
+        )?;
+        // A new collection will be behind the others.
+        self.last = match slot.collection() {
+            Some(index) => index,
+            None => self.collections.len(),
+        };
         self.reserved = Some(Reserved { row, slot });
         Ok(())
     }
@@ -213,7 +227,7 @@ impl Book {
         requires { commit ≤ length self.now.journal }
         ensures { put_of (option_map (λ f. (f.0, f.1.now)) result) ≡ document_at self.now.journal commit collection.now id.now }
     {
-        let commits = commits_in(&self.collections, collection, id);
+        let commits = commits_in(&self.collections, self.last, collection, id);
         row_at(&self.rows, commits, commit)
     }
 

@@ -4,8 +4,8 @@ ghost use Rattle.std.specs.Str.{bytes_eq};
 ghost use Rattle.std.specs.Map.{keys_of};
 ghost use Rattle.indexmap.specs.IndexMap.{get_by, spare};
 ghost use Rattle.commit_book.specs.declared.index.Slot.TheVariants.{Known, InCollection};
-ghost use Rattle.commit_book.specs.Index.{commits_under, commits_in, index_under, space_under, names_of, AddsCommit, IsNew, IsSlotUnder, IsSlotIn, KeepsSpace, KeepsSpaceUnder};
-ghost use Rattle.commit_book.specs.Names.{has_collection};
+ghost use Rattle.commit_book.specs.Index.{commits_under, commits_in, collection_of, index_under, space_under, names_of, AddsCommit, IsNew, IsSlotUnder, IsSlotIn, KeepsSpace, KeepsSpaceUnder};
+ghost use Rattle.commit_book.specs.Names.{collection_index, has_collection};
 
 use indexmap::IndexMap;
 use q_base::{Commit, Memory, Name};
@@ -44,12 +44,43 @@ pub enum Slot {
     InNewCollection(Box<NewCollection>),
 }
 
-/// The commits of a record.
-pub fn commits_in<'a>(collections: &'a Collections, collection: &Name, id: &Name) -> &'a [Commit]
+impl Slot {
+    /// The index of its collection, where that is in the index.
+    pub fn collection(&self) -> Option<usize>
+        ensures { result ≡ collection_of self.now }
+    {
+        match self {
+            Slot::Known { collection, .. } => Some(*collection),
+            Slot::InCollection { collection, .. } => Some(*collection),
+            Slot::InNewCollection(_) => None,
+        }
+    }
+}
+
+/// The index of a collection. The name at the likely index is compared first, and where it is the
+/// right one no name is hashed; the answer is the same whatever is likely.
+fn index_of(collections: &Collections, likely: usize, name: &Name) -> Option<usize>
+    ensures { result ≡ collection_index (names_of collections.now) name.now }
+{
+    if let Some((there, _)) = collections.as_slice().get_index(likely) {
+        if name == there {
+            return Some(likely);
+        }
+    }
+    collections.get_index_of(name)
+}
+
+/// The commits of a record, whose collection has likely this index.
+pub fn commits_in<'a>(
+    collections: &'a Collections,
+    likely: usize,
+    collection: &Name,
+    id: &Name,
+) -> &'a [Commit]
     ensures { result.now ≡ commits_in collections.now collection.now id.now }
 {
-    match collections.get(collection) {
-        Some(records) => commits_under(records, id),
+    match index_of(collections, likely, collection) {
+        Some(index) => commits_under(&collections[index], id),
         None => &[],
     }
 }
@@ -144,12 +175,18 @@ fn put_collection(collections: &mut Collections, new: NewCollection, commit: Com
     }
 }
 
-/// The slot of the next commit of a record, with memory reserved. It adds no name to the index.
-pub fn slot_in(collections: &mut Collections, collection: &Name, id: &Name) -> Result<Slot, Memory>
+/// The slot of the next commit of a record, whose collection has likely this index, with memory
+/// reserved. It adds no name to the index.
+pub fn slot_in(
+    collections: &mut Collections,
+    likely: usize,
+    collection: &Name,
+    id: &Name,
+) -> Result<Slot, Memory>
     ensures ok { IfOk result (λ slot. IsSlotIn collections.new collection.now id.now slot) }
     ensures keeps { KeepsSpace collections.old collections.new }
 {
-    match collections.get_index_of(collection) {
+    match index_of(collections, likely, collection) {
         Some(index) => {
             let (_, records) = collections.pair_mut(index);
             slot_under(records, index, id)
