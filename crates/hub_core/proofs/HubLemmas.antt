@@ -6,9 +6,9 @@ use Rattle.std.specs.List.Sorted.{IsPermutation, IsSorted}
 use Rattle.query_normal.specs.Bits.{flat_bits}
 use Rattle.query_normal.specs.Keys.{key_text, same_key}
 use Rattle.query_normal.specs.declared.key.KeyShape.{KeyShape}
-use Rattle.issued_expiries.specs.Copies.{Copy, latest_where, is_active, SameCopies}
+use Rattle.issued_expiries.specs.Copies.{Copy, latest_where, is_active, active_keys, SameCopies}
 use Rattle.ttl_estimator.specs.Estimates.{Entries, after_purge, is_known, kept_of}
-use Rattle.ttl_estimator.specs.Estimator.{Estimated}
+use Rattle.ttl_estimator.specs.Estimator.{Estimated, lifetime}
 use Rattle.ttl_estimator.specs.Records.{ExtendsAll, Names, clocks_of}
 use Rattle.purge_list.specs.Purged.{text_cmp}
 use Rattle.flat_snapshot.specs.PageText.{page_with}
@@ -34,8 +34,8 @@ use Rattle.active_queries.specs.Following.{Following, AreFollowing}
 use Rattle.hub_core.specs.declared.lifetimes.Lifetimes.{Lifetimes}
 use Rattle.hub_core.specs.ActiveQueries.{is_query, KeepsQueries, StayKept}
 use Rattle.hub_core.specs.HubState.{HubView, HasCopies, HasEstimates, HasWrites, IsAt, IsLeanCopies, IsSoundHub, help_of, hub_of}
-use Rattle.hub_core.specs.Lifetimes.{Drops, KeepsLifetimes, went_idle}
-use Rattle.hub_core.proofs.LifeLemmas.{estimates-passed, lifetimes-longer, lifetimes-passed, lifetimes-records, writes-extended}
+use Rattle.hub_core.specs.Lifetimes.{Drops, KeepsLifetimes, ids_at, went_idle}
+use Rattle.hub_core.proofs.LifeLemmas.{estimates-known, estimates-passed, lifetime-at, lifetimes-longer, lifetimes-passed, lifetimes-records, writes-extended}
 use Rattle.hub_core.proofs.KeepLemmas.{keeps-written}
 use Rattle.hub_core.specs.CopiesView.{CopiesView, Passes, invalidated_keys, until_in, AreInvalidated, IsInvalidationReserved, CanInvalidate}
 use Rattle.hub_core.proofs.IssueLemmas.{active-later}
@@ -256,6 +256,25 @@ module _ (book : Contents) (front : ℕ) (h : CopiesView) (l : Lifetimes) (s : S
         estimates = estimates;
         purges = texts ∙ is.purges;
       })
+
+  -- of a read of a record's key that changes nothing
+  module _ (key : KeyShape) (g : Setting) (ttl moment : ℕ) (passes : Passes moment h h) (limits : l.estimator.limits ≡ limits_of g)
+      (ttl_is : ttl ≡ lifetime l.estimator key (ids_at key book.journal) h.clock (is_active h.copies key) (active_keys h.copies)) where
+    known-clock : h.clock ≡ (at_moment s moment).clock
+    known-clock = passes.clock ∙ ap (λ (n : ℕ). max n moment) is.time.clock
+
+    known-copies : HasCopies h.copies (at_moment s moment)
+    known-copies = copies-later h.copies h.copies h.clock moment s is.copies passes.copies known-clock
+
+    -- the lifetime is that of the state
+    pub ttl-known : ttl ≡ ttl_of g (at_moment s moment) key (length book.journal)
+    ttl-known = ttl_is ∙ lifetime-at h l.estimator s moment key g book.journal known-copies known-clock is.book.rows limits is.writes is.estimates
+
+    -- the state with the read is the same hub's
+    pub hub-known : is_query key ≡ false → h.idle ≡ [] → front ≤ length book.journal → SameCopies h.copies (if nat_lt 0 ttl then (key, length book.journal, h.clock + ttl) ∷ h.copies else h.copies) → IsAt (hub_of book front h l) (has_read g key (length book.journal) (at_moment s moment))
+    hub-known kind idle within same =
+        hub-read h h h l key g (length book.journal) ttl moment passes within ttl-known same refl refl (λ i. record h { idle = idle i }) refl refl
+        (estimates-known h moment passes idle key (length book.journal) ttl kind g s l.estimator.keys is.copies known-copies known-clock ttl-known is.estimates)
 
   -- with the invalidations by the matched commits, and the purges
   pub hub-matched : (to : ℕ) (new : CopiesView) (later : Lifetimes) (g : Setting) (invalidations : List Invalidation) (keys : List KeyShape) → front ≤ to → AreInvalidationsOf book.journal front to h.copies invalidations →

@@ -36,6 +36,14 @@ above_or_none u p c (x ∷ xs) all =
           elim rest [ inl none ↦ inl (omega (arith, is, none)) | inr later ↦ inr (omega (arith, is, later)) ])
     ]
 
+-- nothing is left out of those that are later than the clock
+pub until-reached : (clock : ℕ) (held : List (KeyShape × ℕ)) → All (λ e. clock < e.1) held → (key : KeyShape) → until_in held key ≡ while_later clock (until_in held key)
+until-reached clock held later key =
+    elim (above_or_none (λ (e : KeyShape × ℕ). e.1) (λ (e : KeyShape × ℕ). same_key key e.0) clock held later) [
+      | inl none ↦ sym (ap (while_later clock) none ∙ ap (λ (b : Bool). if b then 0 else 0) (le-ltb clock 0 (omega arith)) ∙ sym none)
+      | inr late ↦ sym (ap (λ (b : Bool). if b then until_in held key else 0) (lt-ltb clock (until_in held key) late))
+    ]
+
 -- what is left of the invalidations of a key when some expire
 pub until-expired : (clock : ℕ) (old new : List (KeyShape × ℕ)) → Expires clock old new → (key : KeyShape) → until_in new key ≡ while_later clock (until_in old key)
 until-expired clock old new expires key =

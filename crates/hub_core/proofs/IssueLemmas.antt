@@ -1,8 +1,8 @@
 -- What each step leaves of the copies and of the invalidated keys.
-use Rattle.std.proofs.Common.{◌≡◌, ℕ, suc, ◌<◌, ◌≤◌, Bool, true, false, not, ◌&&◌, ◌||◌, ◌⊎◌, max, List, [], ◌∷◌, length, map, is_some, Option, Some, None, unwrap_or, if◌then◌else◌, refl, sym, ap, ◌∙◌, subst, arith, inl, inr}
+use Rattle.std.proofs.Common.{◌≡◌, ℕ, suc, ◌+◌, ◌<◌, ◌≤◌, Bool, true, false, not, ◌&&◌, ◌||◌, ◌⊎◌, max, nat_le, nat_lt, List, [], ◌∷◌, length, map, is_some, Option, Some, None, unwrap_or, if◌then◌else◌, refl, sym, ap, ◌∙◌, subst, arith, inl, inr}
 use Rattle.std.specs.List.{list_any, AllByRecursion, IsDistinct}
 use Rattle.std.specs.Set.{unique_keys}
-use Rattle.std.proofs.lemmas.Bool.{cases_Bool, cases_lt, lt-ltb, le-ltb, or_parts, or_cases, or_right}
+use Rattle.std.proofs.lemmas.Bool.{cases_Bool, cases_lt, lt-ltb, le-ltb, leb-true, ltb-true, and_parts, or_parts, or_cases, or_right}
 use Rattle.std.proofs.lemmas.List.{length-map}
 use Rattle.std.proofs.lemmas.Map.Made.{length-le_from_is_member}
 use Rattle.query_normal.specs.Keys.{same_key}
@@ -10,7 +10,7 @@ use Rattle.query_normal.specs.SameKey.{same_key-Decides, same_key_equiv}
 use Rattle.query_normal.specs.declared.key.KeyShape.{KeyShape}
 use Rattle.issued_expiries.specs.Copies.{Copy, unexpired, later_of, latest_where, latest_of, is_between, is_active, active_keys, SameCopies, with_copy}
 use Rattle.hub_model.proofs.KeySets.{among-unique, distinct-unique}
-use Rattle.hub_core.specs.CopiesView.{while_later, last_until, until_in}
+use Rattle.hub_core.specs.CopiesView.{while_later, last_until, until_below, until_in}
 use Rattle.issued_expiries.proofs.LawLemmas.{active_alike}
 use Rattle.issued_expiries.proofs.ViewLemmas.{only_above, latest_unexpired, active_is}
 use Rattle.hub_core.proofs.CopyLemmas.{latest, latest-cons}
@@ -170,6 +170,73 @@ module _ (copy : Copy) (old new : List Copy) (same : SameCopies new (copy ∷ ol
             omega (arith, more, below))
       ]
 
+-- a key with a copy is active
+pub active-last : (copies : List Copy) (key : KeyShape) → 0 < last_until copies key → is_active copies key ≡ true
+active-last copies key some = active_is copies key ∙ by (latest_where key (λ c. true) copies) some
+  where
+    by : (o : Option ℕ) → 0 < unwrap_or o 0 → is_some o ≡ true
+    by None h = absurd (omega (arith, h))
+    by (Some n) h = refl
+
+-- a copy at a commit may be kept no longer than one that is there
+module _ (copies : List Copy) (key : KeyShape) (commit below : ℕ) (near : below ≤ commit + 1) where
+  -- until when its copy at the commit may be kept, or 0 without one
+  abbrev pub known-until : ℕ
+  known-until = unwrap_or (latest_of copies key commit below) 0
+
+  -- a test that the commit passes finds it
+  found-by : (test : ℕ → Bool) → test commit ≡ true → known-until ≤ unwrap_or (latest_where key test copies) 0
+  found-by test passes = weaker copies
+    where
+      own : (n : ℕ) → is_between commit below n ≡ true → test n ≡ true
+      own n between =
+          let parts = and_parts (nat_le commit n) (nat_lt n below) between in
+          let low = leb-true commit n parts.0 in
+          let high = ltb-true n below parts.1 in
+          let is : n ≡ commit = omega (arith, low, high, near) in
+          ap test is ∙ passes
+
+      by : (a b d : Bool) → (b ≡ true → d ≡ true) → (o p : Option ℕ) (n : ℕ) → unwrap_or o 0 ≤ unwrap_or p 0 → unwrap_or (latest (if a && b then Some n else None) o) 0 ≤ unwrap_or (latest (if a && d then Some n else None) p) 0
+      by true true true more None None n h = omega arith
+      by true true true more None (Some q) n h = omega arith
+      by true true true more (Some m) None n h = omega (arith, h)
+      by true true true more (Some m) (Some q) n h = omega (arith, h)
+      by true true false more o p n h = absurd (let e = more refl in cc)
+      by true false true more None None n h = omega arith
+      by true false true more None (Some q) n h = omega arith
+      by true false true more (Some m) None n h = omega (arith, h)
+      by true false true more (Some m) (Some q) n h = omega (arith, h)
+      by true false false more o p n h = h
+      by false b d more o p n h = h
+
+      weaker : (xs : List Copy) → unwrap_or (latest_of xs key commit below) 0 ≤ unwrap_or (latest_where key test xs) 0
+      weaker [] = omega arith
+      weaker (x ∷ xs) =
+          let rest = weaker xs in
+          let one = ap (λ (o : Option ℕ). unwrap_or o 0) (latest-cons key (is_between commit below) x xs) in
+          let all = ap (λ (o : Option ℕ). unwrap_or o 0) (latest-cons key test x xs) in
+          let step = by (same_key key x.0) (is_between commit below x.1) (test x.1) (own x.1) (latest_of xs key commit below) (latest_where key test xs) x.2 rest in
+          omega (arith, one, all, step)
+
+  -- the key is active
+  pub known-active : 0 < known-until → is_active copies key ≡ true
+  known-active some = active-last copies key (let more = found-by (λ c. true) refl in omega (arith, some, more))
+
+  -- one copy more that may be kept no longer changes nothing
+  pub same-known : 0 < known-until → (until : ℕ) → until ≤ known-until → SameCopies copies ((key, commit, until) ∷ copies)
+  same-known some until low other test = sym (latest-cons other test (key, commit, until) copies ∙ by (same_key other key) (test commit) refl refl)
+    where
+      later : (o : Option ℕ) → known-until ≤ unwrap_or o 0 → latest (Some until) o ≡ o
+      later None h = absurd (omega (arith, some, h))
+      later (Some n) h = ap Some (let e : max until n ≡ n = omega (arith, low, h) in e)
+
+      by : (a b : Bool) → same_key other key ≡ a → test commit ≡ b → latest (if a && b then Some until else None) (latest_where other test copies) ≡ latest_where other test copies
+      by true true own passes =
+          let is : key ≡ other = sym ((same_key-Decides other key).0 own) in
+          later (latest_where other test copies) (subst (λ (k : KeyShape). known-until ≤ unwrap_or (latest_where k test copies) 0) is (found-by test passes))
+      by true false own passes = refl
+      by false b own passes = refl
+
 -- ---- invalidations
 
 -- a copy of a commit below another is one of the key's copies
@@ -199,13 +266,21 @@ below-last copies key commit until is =
         by true false (Some m) (Some q) n h = omega (arith, h)
         by false b o p n h = h
 
--- a key with a copy is active
-pub active-last : (copies : List Copy) (key : KeyShape) → 0 < last_until copies key → is_active copies key ≡ true
-active-last copies key some = active_is copies key ∙ by (latest_where key (λ c. true) copies) some
+-- so is one with a copy of a commit below another
+pub active-below : (copies : List Copy) (key : KeyShape) (commit : ℕ) → 0 < until_below copies key commit → is_active copies key ≡ true
+active-below copies key commit some = by (latest_of copies key 0 commit) refl some
   where
-    by : (o : Option ℕ) → 0 < unwrap_or o 0 → is_some o ≡ true
-    by None h = absurd (omega (arith, h))
-    by (Some n) h = refl
+    by : (o : Option ℕ) → latest_of copies key 0 commit ≡ o → 0 < unwrap_or o 0 → is_active copies key ≡ true
+    by None is h = absurd (omega (arith, h))
+    by (Some until) is h = active-last copies key (let low = below-last copies key commit until is in omega (arith, h, low))
+
+-- and then some key is
+pub some-active : (copies : List Copy) (key : KeyShape) → is_active copies key ≡ true → 0 < active_keys copies
+some-active copies key active = by (unique_keys same_key (map (λ (c : Copy). c.0) copies)) (active-among copies key ∙ active)
+  where
+    by : (keys : List KeyShape) → list_any (same_key key) keys ≡ true → 0 < length keys
+    by [] h = absurd (let e = h in cc)
+    by (k ∷ ks) h = omega arith
 
 -- a key with no copy has no last one
 pub inactive-none : (copies : List Copy) (key : KeyShape) (test : ℕ → Bool) → is_active copies key ≡ false → latest_where key test copies ≡ None

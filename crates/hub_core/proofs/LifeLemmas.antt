@@ -4,6 +4,7 @@ use Rattle.std.specs.List.{list_any}
 use Rattle.std.specs.Map.{lookup}
 use Rattle.std.specs.Option.{option_map_or}
 use Rattle.std.proofs.lemmas.Bool.{cases_Bool, cases_lt, and_parts, lt-ltb, le-ltb, le-leb, eqb-true}
+use Rattle.std.proofs.Math.Bool.{and-false}
 use Rattle.std.proofs.lemmas.Map.Made.{length-from_keys}
 use Rattle.std.proofs.lemmas.List.Sums.{sum_by-cons}
 use Rattle.std.proofs.lemmas.List.{drop-append-le, length-drop, drop-drop}
@@ -366,6 +367,25 @@ module _ (h moved new : CopiesView) (moment : ℕ) (passes : Passes moment h mov
           last false true true active = refl
           last false true false active = sym (ap (λ (c : Bool). kept_if c (newest_estimate t key) (last_issue t key)) active)
           last false false b active = refl
+
+-- where nothing passes and nothing is issued, the estimates are those after the read of a record's key
+pub estimates-known : (h : CopiesView) (moment : ℕ) → Passes moment h h → h.idle ≡ [] → (key : KeyShape) (at ttl : ℕ) → is_query key ≡ false → (g : Setting) (s : State) (keys : Entries) → HasCopies h.copies s → HasCopies h.copies (at_moment s moment) → h.clock ≡ (at_moment s moment).clock →
+    ttl ≡ ttl_of g (at_moment s moment) key at → HasEstimates keys s → HasEstimates keys (has_read g key at (at_moment s moment))
+estimates-known h moment passes idle key at ttl kind g s keys was is clock life have =
+    estimates-read h h h moment passes idle key at ttl
+    (λ other. none other ∙ sym (ap (λ (b : Bool). b || (is_active h.copies other && not (is_active h.copies other))) (none other) ∙ never (is_active h.copies other)))
+    (λ other. none other ∙ sym (ap (λ (b : Bool). not (same_key key other && nat_lt 0 ttl) && b) (none other) ∙ and-false (not (same_key key other && nat_lt 0 ttl))))
+    g s keys keys keys was is clock life have
+    (λ other. sym (ap (λ (b : Bool). if b then (if nat_lt 0 ttl then Some (after_issue ttl h.clock (kept_while (is_active h.copies key) (kept_of keys key))) else kept_while (is_active h.copies key) (kept_of keys key)) else kept_of keys other)
+    (ap (λ (b : Bool). same_key key other && b) kind ∙ and-false (same_key key other))))
+    (λ other. sym (ap (λ (b : Bool). if b then None else kept_of keys other) (none other)))
+  where
+    none : (other : KeyShape) → is_idle h other ≡ false
+    none other = idle-none h other idle
+
+    never : (b : Bool) → (b && not b) ≡ false
+    never true = refl
+    never false = refl
 
 -- what was noted of a read, by the copies at its clock
 pub noted-as : (keys noted : Entries) (key : KeyShape) (ttl : ℕ) (active was : Bool) (clock now : ℕ) → active ≡ was → clock ≡ now →

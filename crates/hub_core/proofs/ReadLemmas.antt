@@ -14,6 +14,7 @@ use Rattle.active_queries.specs.Following.{Following, Follows, FollowsKey, AreFo
 use Rattle.active_queries.specs.Queries.{Queries}
 use Rattle.hub_core.specs.CopiesView.{CopiesView, Passes, is_idle}
 use Rattle.hub_core.specs.ActiveQueries.{KeepsQueries, IsAtHand, IsStarted, HasSeenAll, StayKept, is_query, query_at_hand, with_started}
+use Rattle.hub_core.specs.Lifetimes.{ids_at}
 use Rattle.hub_core.proofs.KeepLemmas.{keeps-later, keeps-same, keeps-issued, keeps-started}
 
 -- ---- the clock
@@ -91,6 +92,11 @@ module _ (journal : List Change) (key : KeyShape) (kind : Kind) (query : Query) 
   hand-follows (Some new) a started following found =
       let same : new.1 ≡ a = (let e : ◌≡◌ {A = Option Following} (Some a) (Some new.1) = found in cc) in
       (of-key journal key kind query a is (subst (λ (x : Following). FollowsKey journal (key, x)) same started.follows), ap (λ (x : Following). x.seen) (sym same) ∙ started.seen)
+
+-- of the key of a record no ids are told
+pub ids-none : (key : KeyShape) (journal : List Change) → is_query key ≡ false → [] ≡ ids_at key journal
+ids-none (KeyShape.Record collection id) journal none = refl
+ids-none (KeyShape.Query kind normal) journal none = absurd (let e = none in cc)
 
 -- ---- the copy of a read
 

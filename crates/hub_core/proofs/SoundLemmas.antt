@@ -1,17 +1,18 @@
 -- The copies and the invalidated keys stay those of one clock.
-use Rattle.std.proofs.Common.{◌≡◌, ℕ, zero, suc, ◌<◌, ◌≤◌, Bool, true, false, not, ◌&&◌, ◌||◌, ◌⊎◌, max, nat_lt, List, [], ◌∷◌, length, map, All, IsTrue, Some, if◌then◌else◌, refl, sym, ap, ◌∙◌, subst, arith, inl, inr}
+use Rattle.std.proofs.Common.{◌≡◌, ℕ, zero, suc, ◌<◌, ◌≤◌, Bool, true, false, not, ◌&&◌, ◌||◌, ◌⊎◌, max, nat_lt, List, [], ◌∷◌, length, map, All, IsTrue, Option, Some, None, if◌then◌else◌, refl, sym, ap, ◌∙◌, subst, arith, inl, inr}
 use Rattle.std.specs.List.{list_any, IsDistinct}
-use Rattle.std.proofs.lemmas.Bool.{cases_Bool, ltb-true}
+use Rattle.std.proofs.lemmas.Bool.{cases_Bool, lt-ltb, ltb-true}
 use Rattle.query_normal.specs.Keys.{same_key}
 use Rattle.query_normal.specs.SameKey.{same_key-Decides}
 use Rattle.query_normal.specs.declared.key.KeyShape.{KeyShape}
-use Rattle.issued_expiries.specs.Copies.{Copy, unexpired, latest_of, is_active, active_keys, SameCopies, with_copy}
+use Rattle.issued_expiries.specs.Copies.{Copy, unexpired, latest_where, latest_of, is_active, active_keys, SameCopies, with_copy}
 use Rattle.issued_expiries.specs.Expiries.{Issued}
+use Rattle.issued_expiries.proofs.ViewLemmas.{only_above, latest_unexpired}
 use Rattle.expiring_filter.specs.Filter.{Filter}
 use Rattle.expiring_filter.specs.Held.{Expires, put_until, is_among}
 use Rattle.hub_model.specs.Setting.{Setting}
-use Rattle.hub_core.specs.CopiesView.{IsSound, AreInvalidated, last_until, until_in}
-use Rattle.hub_core.proofs.InvalidationLemmas.{until-expired, once-expired, until-put, once-put, held-later, any-map}
+use Rattle.hub_core.specs.CopiesView.{CopiesView, IsSound, AreInvalidated, Passes, last_until, until_in}
+use Rattle.hub_core.proofs.InvalidationLemmas.{until-expired, until-reached, once-expired, until-put, once-put, held-later, any-map}
 use Rattle.hub_core.proofs.IssueLemmas.{count-less, count-invalidated, count-with, backed-later, backed-more, late-later, late-more, active-later, same-with, below-last, active-last}
 
 -- all are later with a first one that is
@@ -62,6 +63,19 @@ still-reserved filter new_filter key until other held reserved was =
         either : (a b c : Bool) → (a || b) ≡ true → (b ≡ true → c ≡ true) → (a || c) ≡ true
         either true b c h k = refl
         either false b c h k = k h
+
+-- where the clock has reached a moment nothing passes
+pub passes-reached : (h : CopiesView) (moment : ℕ) → moment ≤ h.clock → ((key : KeyShape) (test : ℕ → Bool) (until : ℕ) → latest_where key test h.copies ≡ Some until → h.clock < until) → All (λ e. h.clock < e.1) h.outdated → Passes moment h h
+passes-reached h moment reached late later = record {
+  clock = omega (arith, reached);
+  copies = λ key test. sym (latest_unexpired h.clock key test h.copies ∙ still key test (latest_where key test h.copies) refl);
+  outdated = until-reached h.clock h.outdated later;
+  rest = refl;
+}
+  where
+    still : (key : KeyShape) (test : ℕ → Bool) (o : Option ℕ) → latest_where key test h.copies ≡ o → only_above h.clock o ≡ o
+    still key test None is = refl
+    still key test (Some until) is = ap (λ (b : Bool). if b then Some until else None) (lt-ltb h.clock until (late key test until is))
 
 -- a copy may be issued where its key is active or one more may be
 pub may-issue : (a : Bool) (count limit : ℕ) → (a || nat_lt count limit) ≡ true → (a ≡ true) ⊎ (count < limit)

@@ -7,6 +7,7 @@ pub mod Invalidations
 pub mod Lifetimes
 pub mod PageRoom
 pub mod QueryRows
+pub mod ReadAnswer
 pub use Rattle.flat_snapshot.specs.PageText
 pub use Rattle.hub_model.specs.Legal
 pub use Rattle.hub_model.specs.Record

@@ -1,5 +1,5 @@
 //! The issued copies, and the keys of those that are outdated.
-ghost use Rattle.std.specs.Prelude.{◌≡◌, ◌+◌, ◌*◌, ◌^◌, ◌<◌, max, ◌∷◌, [], not, ◌&&◌, ◌||◌, if◌then◌else◌, nat_lt, length, IsTrue, false, unwrap_or, IfSome, IfNone, IfOk, OnOk, OnErr};
+ghost use Rattle.std.specs.Prelude.{◌≡◌, ◌+◌, ◌*◌, ◌^◌, ◌<◌, max, ◌∷◌, [], not, ◌&&◌, ◌||◌, if◌then◌else◌, nat_le, nat_lt, length, IsTrue, true, false, unwrap_or, IfSome, IfNone, IfOk, OnOk, OnErr};
 ghost use Rattle.issued_expiries.specs.Copies.{SameCopies, active_keys, is_active, latest_of};
 ghost use Rattle.query_normal.specs.Bits.{flat_bits};
 ghost use Rattle.query_normal.specs.Keys.{same_key};
@@ -72,6 +72,14 @@ impl Copies {
         ensures { result ≡ self.now.clock }
     {
         self.issued.clock()
+    }
+
+    /// Whether the clock has reached a moment, so that nothing passes until then.
+    pub fn has_reached(&self, moment: Moment) -> bool
+        ensures reached { result ≡ nat_le moment self.now.clock }
+        ensures passes { result ≡ true → Passes moment self.now self.now }
+    {
+        moment.seconds() <= self.issued.clock().seconds()
     }
 
     /// Moves the clock forward to a moment, and drops what expires. The keys of which no copy is left

@@ -1,14 +1,19 @@
 //! The hub.
-ghost use Rattle.std.specs.Prelude.{◌≡◌, ◌<◌, ◌≤◌, ◌++◌, ◌∷◌, [], length, option_map, Some, true, IfOk, OnOk, OnErr};
+ghost use Rattle.std.specs.Prelude.{◌≡◌, ◌<◌, ◌≤◌, ◌++◌, ◌∷◌, [], length, option_map, Some, true, IfOk, OnOk, OnErr, false};
 ghost use Rattle.hub_model.specs.declared.entry.Entry.TheVariants.{Write, Read, Match, Fetch, Purges, Tick};
 ghost use Rattle.commit_book.specs.Journal.{document_at};
+ghost use Rattle.query_normal.specs.declared.key.KeyShape.TheVariants.{Record};
+ghost use Rattle.hub_model.specs.Journal.{result_at};
+ghost use Rattle.hub_model.specs.Known.{known_at};
 ghost use Rattle.hub_model.specs.Record.{is_recorded, page_of, record_of};
-ghost use Rattle.hub_model.specs.Reply.{wrote, read, matched, fetched, purged, counted, reply_in, told_of};
+ghost use Rattle.hub_model.specs.Reply.{wrote, read, matched, fetched, purged, counted, outcome_of, reply_in, told_of};
 ghost use Rattle.hub_model.specs.State.{State, start};
 ghost use Rattle.hub_model.specs.Step.{found_of, is_accepted, after, after_all};
 ghost use Rattle.hub_model.specs.Helps.{helps_of};
 ghost use Rattle.hub_core.specs.PageRoom.{IsRoomFor};
+ghost use Rattle.hub_core.specs.ActiveQueries.{is_query};
 ghost use Rattle.hub_core.specs.HubState.{IsAt, IsLean};
+ghost use Rattle.hub_core.specs.ReadAnswer.{AnswersRead};
 
 use crate::config::Config;
 use crate::copies::Copies;
@@ -16,13 +21,17 @@ use crate::lifetimes::Lifetimes;
 use crate::matching::{make_way, match_commits};
 use crate::page_room::{Numbers, PageRoom};
 use crate::passing::pass;
-use crate::reading::{follow_or_start, issue_copy, outcome_at, reserve_copy};
+use crate::reading::{
+    follow_or_start, issue_copy, known_lifetime, outcome_at, record_outcome, reserve_copy,
+};
 use active_queries::ActiveQueries;
 use active_queries::laws::queries_follow_longer_journals;
 use commit_book::{Book, BookRefusal};
-use hub_model::{Answer, Change, Condition, Found, Matched, PurgeReply, Stats, Tags, Written};
-use q_base::{Commit, Memory, Moment};
-use query_normal::Key;
+use hub_model::{
+    Answer, Change, Condition, Found, Matched, Outcome, PurgeReply, Stats, Tags, Written,
+};
+use q_base::{Commit, Memory, Moment, Name};
+use query_normal::{Key, KeyShape};
 use std::alloc::Global;
 use std::marker::Model;
 
@@ -151,6 +160,84 @@ impl Hub {
         ensures after { IfOk result (λ a. (s : State) → IsAt self.old s → IsAt self.new (after self.old.setting s (Read moment key.now tags.now a.commit))) }
 
         // What stays.
+        ensures setting { self.new.setting ≡ self.old.setting }
+        ensures memory { OnErr result (self.new ≡ self.old) }
+        ensures lean { IsLean self.new }
+    {
+        match key.shape() {
+            KeyShape::Record { collection, id } => {
+                self.read_record(moment, key, collection, id, tags)
+            }
+            KeyShape::Query { .. } => self.read_query(moment, key, tags),
+        }
+    }
+
+    /// Reads a record. Where a copy of the last commit may be kept as long, that is all.
+    fn read_record(
+        &mut self,
+        moment: Moment,
+        key: &Key,
+        collection: &Name,
+        id: &Name,
+        tags: &Tags,
+    ) -> Result<Answer, Memory>
+        requires { key.now ≡ Record collection.now id.now }
+        ensures answers { IfOk result (AnswersRead self.old self.new moment key.now tags.now) }
+        ensures setting { self.new.setting ≡ self.old.setting }
+        ensures memory { OnErr result (self.new ≡ self.old) }
+        ensures lean { IsLean self.new }
+    {
+        let commit = self.book.count();
+        let result = record_outcome(&self.book, commit, collection, id, tags)?;
+        match known_lifetime(&self.book, &self.copies, &self.life.estimator, moment, key) {
+            Some(ttl) => Ok(Answer {
+                commit,
+                clock: self.copies.clock(),
+                ttl,
+                result,
+            }),
+            None => self.issue_record(moment, key, tags, result),
+        }
+    }
+
+    /// Issues the copy of a record's read, of which the outcome is known.
+    #[inline(never)]
+    fn issue_record(
+        &mut self,
+        moment: Moment,
+        key: &Key,
+        tags: &Tags,
+        found: Outcome,
+    ) -> Result<Answer, Memory>
+        requires kind { is_query key.now ≡ false }
+        requires outcome { found ≡ outcome_of (result_at key.now self.old.rows self.old.commits) (known_at key.now self.old.rows self.old.commits tags.now) }
+        ensures answers { IfOk result (AnswersRead self.old self.new moment key.now tags.now) }
+        ensures setting { self.new.setting ≡ self.old.setting }
+        ensures memory { OnErr result (self.new ≡ self.old) }
+        ensures lean { IsLean self.new }
+    {
+        self.copies.reserve(key)?;
+        let ttl = issue_copy(
+            &self.book,
+            &mut self.copies,
+            &mut self.queries,
+            &mut self.life,
+            moment,
+            key,
+            None,
+        );
+        Ok(Answer {
+            commit: self.book.count(),
+            clock: self.copies.clock(),
+            ttl,
+            result: found,
+        })
+    }
+
+    /// Reads a query.
+    #[inline(never)]
+    fn read_query(&mut self, moment: Moment, key: &Key, tags: &Tags) -> Result<Answer, Memory>
+        ensures answers { IfOk result (AnswersRead self.old self.new moment key.now tags.now) }
         ensures setting { self.new.setting ≡ self.old.setting }
         ensures memory { OnErr result (self.new ≡ self.old) }
         ensures lean { IsLean self.new }

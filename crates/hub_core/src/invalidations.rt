@@ -25,7 +25,7 @@ pub struct Invalidation {
 }
 
 /// The invalidations by the commits after one, up to another, with memory reserved for each. Of records it
-/// looks at these commits only, and lets each query see them.
+/// looks at these commits only, and lets each query see them. While no key is active there are none.
 pub fn reserve_invalidations(
     alloc: Global,
     book: &Book,
@@ -45,6 +45,9 @@ pub fn reserve_invalidations(
     ensures rest { copies.new ≡ record copies.old { invalidatable = copies.new.invalidatable } }
 {
     queries.follow_all(alloc, book, to)?;
+    if copies.active_count() == 0 {
+        return Ok(Vec::new(alloc));
+    }
     let mut invalidations = record_invalidations(alloc, book, copies, front, to)?;
     push_query_invalidations(copies, queries, front, to, &mut invalidations)?;
     Ok(invalidations)

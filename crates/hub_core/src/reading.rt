@@ -1,5 +1,5 @@
 //! A read: its outcome, and the copy that it issues.
-ghost use Rattle.std.specs.Prelude.{◌≡◌, ◌≤◌, ◌<◌, ℕ, max, true, List, [], length, false, ◌&&◌, IfOk, OnOk, OnErr, IsTrue, IfSome, None, option_copied};
+ghost use Rattle.std.specs.Prelude.{◌≡◌, ◌≤◌, ◌<◌, ◌+◌, ℕ, max, true, List, [], ◌∷◌, length, false, ◌&&◌, if◌then◌else◌, nat_lt, IfOk, OnOk, OnErr, IsTrue, IfSome, None, option_copied};
 ghost use Rattle.std.specs.Map.{lookup};
 ghost use Rattle.query_core.specs.Limits.{IsQuery};
 ghost use Rattle.query_core.specs.Window.{window};
@@ -7,7 +7,7 @@ ghost use Rattle.commit_book.specs.Documents.{docs};
 ghost use Rattle.query_normal.specs.Keys.{same_key};
 ghost use Rattle.query_normal.specs.declared.key.KeyShape.{KeyShape as AKey};
 ghost use Rattle.query_normal.specs.declared.key.KeyShape.TheVariants.{Record, Query as QueryKey};
-ghost use Rattle.issued_expiries.specs.Copies.{Copy, active_keys, is_active};
+ghost use Rattle.issued_expiries.specs.Copies.{Copy, SameCopies, active_keys, is_active};
 ghost use Rattle.ttl_estimator.specs.Estimates.{is_known, kept_of};
 ghost use Rattle.ttl_estimator.specs.Estimator.{lifetime};
 ghost use Rattle.hub_model.specs.Journal.{result_at};
@@ -18,7 +18,7 @@ ghost use Rattle.hub_model.specs.State.{State, at_moment};
 ghost use Rattle.hub_model.specs.Step.{has_read};
 ghost use Rattle.active_queries.specs.Following.{Follows, AreFollowing};
 ghost use Rattle.hub_core.specs.ActiveQueries.{is_query, IsAtHand, IsStarted, KeepsQueries, query_at_hand, with_started};
-ghost use Rattle.hub_core.specs.CopiesView.{IsReadyFor};
+ghost use Rattle.hub_core.specs.CopiesView.{IsReadyFor, Passes};
 ghost use Rattle.hub_core.specs.HubState.{IsAt, hub_of};
 ghost use Rattle.hub_core.specs.Lifetimes.{KeepsLifetimes, ids_at};
 
@@ -150,7 +150,7 @@ fn active_outcome(
 /// The outcome of a read of a record at a commit: the commit by which the caller knows the document, or
 /// the text that the book keeps, which is shared.
 #[tactic(auto, using(crate::proofs::OutcomeLemmas::outcome_rules))]
-fn record_outcome(
+pub fn record_outcome(
     book: &Book,
     commit: Commit,
     collection: &Name,
@@ -173,6 +173,36 @@ fn record_outcome(
             version: Some(version),
         }),
     }
+}
+
+/// The lifetime of a read of a record's key at the last commit, at a moment, where the read changes nothing:
+/// the clock has reached the moment, and a copy of that commit may be kept as long.
+pub fn known_lifetime(
+    book: &Book,
+    copies: &Copies,
+    estimator: &Estimator,
+    moment: Moment,
+    key: &Key,
+) -> Option<u32>
+    requires { is_query key.now ≡ false }
+    ensures passes { IfSome result (λ _. Passes moment copies.now copies.now) }
+    ensures ttl { IfSome result (λ ttl. ttl ≡ lifetime estimator.now key.now (ids_at key.now book.now.journal) copies.now.clock (is_active copies.now.copies key.now) (active_keys copies.now.copies)) }
+    ensures same { IfSome result (λ ttl. SameCopies copies.now.copies (if nat_lt 0 ttl then (key.now, length book.now.journal, copies.now.clock + ttl) ∷ copies.now.copies else copies.now.copies)) }
+{
+    if !copies.has_reached(moment) {
+        return None;
+    }
+    let commit = book.count();
+    let until = copies.latest_until(key, commit, commit.saturating_add(1));
+    if until == 0 {
+        return None;
+    }
+    let clock = copies.clock();
+    let ttl = estimator.ttl(key, &[], clock, true, copies.active_count());
+    if until < clock.seconds() + ttl as u64 {
+        return None;
+    }
+    Some(ttl)
 }
 
 /// Makes an entry for the estimate of a query's key.

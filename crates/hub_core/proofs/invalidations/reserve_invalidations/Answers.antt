@@ -1,4 +1,6 @@
 -- the queries have followed, and what they list is added to the invalidations of records
+use Rattle.std.proofs.Common.{arith}
+use Rattle.hub_core.proofs.IssueLemmas.{active-below, some-active}
 use Rattle.hub_core.proofs.KeepLemmas.{keeps-followed}
 use Rattle.hub_core.proofs.MatchLemmas.{invalidations-all}
 use Rattle.hub_core.proofs.invalidations.reserve_invalidations.Goals as goal
@@ -17,6 +19,17 @@ pub returns-in_err-push_query_invalidations-clause-kept : goal.returns-in_err-pu
 returns-in_err-push_query_invalidations-clause-kept c =
     keeps-followed c.args.book.now.journal c.args.front c.args.copies.now.copies c.args.copies.now.idle c.args.queries.now.entries c.requires.kept c.follow_all.new.self.entries
     c.follow_all.ensures.begun (c.follow_all.ensures.following c.requires.kept.following) (c.follow_all.ensures.seen c.args.front c.requires.kept.recent)
+
+-- where no key is active, no commit has to invalidate one
+pub returns-then-active_count-eq0-clause-kept : goal.returns-then-active_count-eq0-clause-kept
+returns-then-active_count-eq0-clause-kept c =
+    keeps-followed c.args.book.now.journal c.args.front c.args.copies.now.copies c.args.copies.now.idle c.args.queries.now.entries c.requires.kept c.follow_all.new.self.entries
+    c.follow_all.ensures.begun (c.follow_all.ensures.following c.requires.kept.following) (c.follow_all.ensures.seen c.args.front c.requires.kept.recent)
+
+pub returns-then-active_count-eq0-clause-invalidations : goal.returns-then-active_count-eq0-clause-invalidations
+returns-then-active_count-eq0-clause-invalidations c = λ key commit some.
+    let more = some-active c.args.copies.now.copies key (active-below c.args.copies.now.copies key commit some) in
+    absurd (omega (arith, more, c.active_count.ensures, c.if-active_count-eq0.true))
 
 pub returns-clause-kept : goal.returns-clause-kept
 returns-clause-kept c =

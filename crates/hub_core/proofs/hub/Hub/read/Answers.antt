@@ -1,105 +1,21 @@
--- the answer is that of the moment's clock, and its copy is issued
-use Rattle.std.proofs.Common.{◌≡◌, ℕ, List, length, max, ap, sym, ◌∙◌, subst}
-use Rattle.commit_book.specs.declared.change.Change.{Change}
-use Rattle.hub_model.specs.Journal.{result_at}
-use Rattle.hub_model.specs.Known.{known_at}
-use Rattle.hub_model.specs.Reply.{read, outcome_of}
-use Rattle.hub_model.specs.Setting.{Setting}
-use Rattle.hub_model.specs.State.{State, at_moment}
-use Rattle.hub_model.specs.Step.{has_read}
-use Rattle.ttl_estimator.specs.Estimator.{Estimated}
-use Rattle.hub_model.specs.Lifetime.{limits_of, ttl_of}
-use Rattle.hub_core.specs.ActiveQueries.{KeepsQueries}
-use Rattle.hub_core.specs.HubState.{HubView, IsAt, IsSoundHub, hub_of}
-use Rattle.hub_core.specs.CopiesView.{CopiesView}
-use Rattle.hub_core.proofs.HubLemmas.{at-estimates, at-ready, sound-followed, sound-read}
-use Rattle.hub_core.proofs.LifeLemmas.{lifetimes-reserved}
-use Rattle.hub_core.proofs.ReadLemmas.{kept-alike}
+-- the answer is that of the key's kind
+use Rattle.std.proofs.lemmas.Result.{IfOk-weaker}
 use Rattle.hub_core.proofs.hub.Hub.read.Goals as goal
 
--- the hub when the query of the key has followed
-pub invariant_of-self : goal.invariant_of-self
-invariant_of-self c =
-    sound-followed c.self.inside.book c.self.inside.front c.self.inside.copies c.self.inside.queries.entries c.follow_or_start.new.queries.entries c.self.inside.life c.self.invariant
-    (c.follow_or_start.ensures.kept c.self.inside.front c.self.inside.copies.copies c.self.inside.copies.idle c.self.invariant.queries)
+pub returns-in-Record-clause-last : goal.returns-in-Record-clause-last
+returns-in-Record-clause-last c = IfOk-weaker c.read_record.result _ _ (λ a answers. answers.last) c.read_record.ensures.answers
 
-pub invariant_of-self-in_err-result : goal.invariant_of-self-in_err-result
-invariant_of-self-in_err-result c =
-    sound-followed c.self.inside.book c.self.inside.front c.self.inside.copies c.self.inside.queries.entries c.follow_or_start.new.queries.entries c.self.inside.life c.self.invariant
-    (c.follow_or_start.ensures.kept c.self.inside.front c.self.inside.copies.copies c.self.inside.copies.idle c.self.invariant.queries)
+pub returns-in-Record-clause-told : goal.returns-in-Record-clause-told
+returns-in-Record-clause-told c = IfOk-weaker c.read_record.result _ _ (λ a answers. answers.told) c.read_record.ensures.answers
 
-pub invariant_of-self-in_err-reserve_copy : goal.invariant_of-self-in_err-reserve_copy
-invariant_of-self-in_err-reserve_copy c =
-    subst (λ (h : CopiesView). IsSoundHub c.self.inside.book c.self.inside.front h c.follow_or_start.new.queries.entries (record c.self.inside.life { estimator = c.reserve_copy.new.estimator })) (sym c.in_err-reserve_copy.ensures.err)
-    (subst (λ (e : Estimated). IsSoundHub c.self.inside.book c.self.inside.front c.self.inside.copies c.follow_or_start.new.queries.entries (record c.self.inside.life { estimator = e })) (sym c.in_err-reserve_copy.ensures.estimator)
-    (sound-followed c.self.inside.book c.self.inside.front c.self.inside.copies c.self.inside.queries.entries c.follow_or_start.new.queries.entries c.self.inside.life c.self.invariant
-    (c.follow_or_start.ensures.kept c.self.inside.front c.self.inside.copies.copies c.self.inside.copies.idle c.self.invariant.queries)))
+pub returns-in-Record-clause-after : goal.returns-in-Record-clause-after
+returns-in-Record-clause-after c = IfOk-weaker c.read_record.result _ _ (λ a answers. answers.stands) c.read_record.ensures.answers
 
--- the queries are followed still
-kept-queries : (c : goal.After-clock) → KeepsQueries c.self.inside.book.journal c.self.inside.front c.reserve_copy.new.copies.copies c.reserve_copy.new.copies.idle c.follow_or_start.new.queries.entries
-kept-queries c =
-    kept-alike c.self.inside.book.journal c.self.inside.front c.self.inside.copies c.reserve_copy.new.copies c.follow_or_start.new.queries.entries (ap (λ (h : CopiesView). h.copies) c.in_ok-reserve_copy.ensures.rest) (ap (λ (h : CopiesView). h.idle) c.in_ok-reserve_copy.ensures.rest)
-    (c.follow_or_start.ensures.kept c.self.inside.front c.self.inside.copies.copies c.self.inside.copies.idle c.self.invariant.queries)
+pub returns-in-Query-clause-last : goal.returns-in-Query-clause-last
+returns-in-Query-clause-last c = IfOk-weaker c.read_query.result _ _ (λ a answers. answers.last) c.read_query.ensures.answers
 
-pub outcome_at-requires-clause-following : goal.outcome_at-requires-clause-following
-outcome_at-requires-clause-following c = (c.follow_or_start.ensures.kept c.self.inside.front c.self.inside.copies.copies c.self.inside.copies.idle c.self.invariant.queries).following
+pub returns-in-Query-clause-told : goal.returns-in-Query-clause-told
+returns-in-Query-clause-told c = IfOk-weaker c.read_query.result _ _ (λ a answers. answers.told) c.read_query.ensures.answers
 
--- ---- the copy
-
--- the hub with its memory ready
-ready : (c : goal.After-clock) (s : State) → IsAt c.args.self.now s → IsAt (hub_of c.self.inside.book c.self.inside.front c.reserve_copy.new.copies (record c.self.inside.life { estimator = c.reserve_copy.new.estimator })) s
-ready c s at =
-    at-estimates c.self.inside.book c.self.inside.front c.reserve_copy.new.copies c.self.inside.life s
-    (at-ready c.self.inside.book c.self.inside.front c.self.inside.copies c.self.inside.life s (subst (λ (h : HubView). IsAt h s) (sym c.self.view_is) at) c.reserve_copy.new.copies c.in_ok-reserve_copy.ensures.rest)
-    c.reserve_copy.new.estimator c.in_ok-reserve_copy.ensures.estimates c.in_ok-reserve_copy.ensures.kept
-
-setting : (c : goal.After-clock) → c.reserve_copy.new.copies.setting ≡ c.args.self.now.setting
-setting c = ap (λ (h : CopiesView). h.setting) c.in_ok-reserve_copy.ensures.rest ∙ ap (λ (h : HubView). h.setting) c.self.view_is
-
-pub returns-clause-after : goal.returns-clause-after
-returns-clause-after c = λ s at.
-    subst (λ (g : Setting). IsAt (hub_of c.self.inside.book c.self.inside.front c.issue_copy-ttl.new.copies c.issue_copy-ttl.new.life) (has_read g c.args.key.now c.count.result (at_moment s c.args.moment))) (setting c)
-    (subst (λ (n : ℕ). IsAt (hub_of c.self.inside.book c.self.inside.front c.issue_copy-ttl.new.copies c.issue_copy-ttl.new.life) (has_read c.reserve_copy.new.copies.setting c.args.key.now n (at_moment s c.args.moment))) (sym c.count.ensures.count)
-    (c.issue_copy-ttl.ensures.issued c.self.inside.front s c.self.invariant.within (ap (λ (h : CopiesView). h.idle) c.in_ok-reserve_copy.ensures.rest ∙ c.self.invariant.lean.idle) (ready c s at)))
-
-pub returns-clause-told : goal.returns-clause-told
-returns-clause-told c = λ s at.
-    let last = c.count.ensures.count in
-    let clock : c.clock.result ≡ max s.clock c.args.moment = c.clock.ensures ∙ (returns-clause-after c s at).time.clock in
-    let ttl : c.issue_copy-ttl.result ≡ ttl_of c.args.self.now.setting (at_moment s c.args.moment) c.args.key.now c.count.result =
-    c.issue_copy-ttl.ensures.ttl c.self.inside.front s (ready c s at) ∙ ap (λ (g : Setting). ttl_of g (at_moment s c.args.moment) c.args.key.now (length c.self.inside.book.journal)) (setting c) ∙ ap (ttl_of c.args.self.now.setting (at_moment s c.args.moment) c.args.key.now) (sym last) in
-    let found =
-    c.in_ok-result.ensures
-    ∙ ap (λ (n : ℕ). outcome_of (result_at c.args.key.now c.self.inside.book.journal n) (known_at c.args.key.now c.self.inside.book.journal n c.args.tags.now)) (sym last)
-    ∙ ap (λ (xs : List Change). outcome_of (result_at c.args.key.now xs c.count.result) (known_at c.args.key.now xs c.count.result c.args.tags.now)) (ready c s at).book.rows in
-    (λ i. read (record { commit = c.count.result; clock = clock i; ttl = ttl i; result = found i }))
-
--- ---- what the copy needs of the estimator
-
-pub issue_copy-ttl-requires-clause-following : goal.issue_copy-ttl-requires-clause-following
-issue_copy-ttl-requires-clause-following c = (c.follow_or_start.ensures.kept c.self.inside.front c.self.inside.copies.copies c.self.inside.copies.idle c.self.invariant.queries).following
-
-pub issue_copy-ttl-requires-clause-limits : goal.issue_copy-ttl-requires-clause-limits
-issue_copy-ttl-requires-clause-limits c =
-    ap (λ (e : Estimated). e.limits) c.in_ok-reserve_copy.ensures.estimates ∙ c.self.invariant.lifetimes.limits ∙ ap (λ (h : CopiesView). limits_of h.setting) (sym c.in_ok-reserve_copy.ensures.rest)
-
--- ---- the parts of the hub belong together
-
--- with memory for the copy and an entry for the key
-pub invariant_of-self-2 : goal.invariant_of-self-2
-invariant_of-self-2 c =
-    let book = c.self.inside.book in
-    let front = c.self.inside.front in
-    let rest = c.in_ok-reserve_copy.ensures.rest in
-    sound-read book front c.self.inside.copies c.issue_copy-ttl.new.copies c.self.inside.queries.entries c.issue_copy-ttl.new.queries.entries c.self.inside.life c.issue_copy-ttl.new.life c.self.invariant
-    (c.issue_copy-ttl.ensures.kept front c.self.invariant.within (kept-queries c))
-    (c.issue_copy-ttl.ensures.lifetimes front c.self.invariant.within (ap (λ (h : CopiesView). h.idle) rest ∙ c.self.invariant.lean.idle)
-    (lifetimes-reserved book.journal front c.self.inside.copies c.reserve_copy.new.copies c.self.inside.life c.reserve_copy.new.estimator c.args.key.now c.self.invariant.lifetimes rest c.self.invariant.lean.ready c.in_ok-reserve_copy.ensures.ready.own c.in_ok-reserve_copy.ensures.ready.alone
-    c.in_ok-reserve_copy.ensures.estimates c.in_ok-reserve_copy.ensures.kept c.in_ok-reserve_copy.ensures.known c.in_ok-reserve_copy.ensures.others))
-    (c.issue_copy-ttl.ensures.setting ∙ ap (λ (h : CopiesView). h.setting) rest) c.issue_copy-ttl.ensures.idle c.issue_copy-ttl.ensures.ready
-    (c.issue_copy-ttl.ensures.invalidatable ∙ ap (λ (h : CopiesView). h.invalidatable) rest)
-
--- ---- nothing is kept but what the history needs
-
-pub returns-clause-lean : goal.returns-clause-lean
-returns-clause-lean c = (invariant_of-self-2 c).lean
+pub returns-in-Query-clause-after : goal.returns-in-Query-clause-after
+returns-in-Query-clause-after c = IfOk-weaker c.read_query.result _ _ (λ a answers. answers.stands) c.read_query.ensures.answers
