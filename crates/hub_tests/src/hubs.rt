@@ -69,6 +69,24 @@ fn worked_histories_are_answered(rt: HostRuntime) -> Result<(), Fail> {
             &[first, read, second, covered, later, there, gone]
         )?
     );
+    // A read at the moment of another changes nothing, and a later one keeps the key in for longer.
+    assert!(rt;
+        follow(
+            alloc,
+            (60, 60),
+            &[first, read, read, second, covered, there, gone]
+        )?
+    );
+    let again = HubCall::Read(101, 1, 60, br#"{"a":1}"#);
+    let still = HubCall::Fetch(160, 2, 2, OUTDATED);
+    let left = HubCall::Fetch(161, 2, 2, &[]);
+    assert!(rt;
+        follow(
+            alloc,
+            (60, 60),
+            &[first, read, again, again, second, covered, still, left]
+        )?
+    );
     // With lifetimes from one second to an hour, what was just written may be kept for a second.
     let read = HubCall::Read(100, 1, 1, br#"{"a":1}"#);
     let second = HubCall::Put(100, br#"{"a":2}"#, 2, Found::At(1));
