@@ -3,3 +3,4 @@ pub mod ReadLemmas
 pub mod EncodingLemmas
 pub mod StandardFacts
 pub mod WriteLemmas
+pub mod MarkLemmas

@@ -203,3 +203,14 @@ parsed_page bytes bits front commits seconds moment p =
     ∙ ap₂ (λ m n. page_with (get_or bytes 5 0) (get_or bytes 4 0) (word_at bytes 6) m n bits) t.commits_is (early ∙ t.seconds_is)
     ∙ ap (λ (xs : List ℕ). page_with (get_or bytes 5 0) (get_or bytes 4 0) (word_at bytes 6) (word_at bytes 14) (word_at bytes 22) xs) rest in
     (is_page _ _ _ _ _ bits placed p.small count, ap Ok same ∙ sym (read_page-taken bytes taken))
+
+-- the bytes from an index on, as a slice of them is written
+pub rest_is : (n : ℕ) (bytes : List ℕ) → take (length bytes - n) (drop n bytes) ≡ drop n bytes
+rest_is n bytes = ap (λ m. take m (drop n bytes)) (sym (length-drop n bytes)) ∙ take-length (drop n bytes)
+
+-- the bits as they were copied and the moment as it was made are those that were read
+pub read_again : (bytes bits : List ℕ) (l h f c m n : ℕ) → IsPage (page_with l h f c m (drop 30 bytes)) → bits ≡ take (length bytes - 30) (drop 30 bytes) → n ≡ min m greatest_moment →
+    page_with l h f c n bits ≡ page_with l h f c m (drop 30 bytes)
+read_again bytes bits l h f c m n is copied made =
+    let early : n ≡ m = omega (arith, made, is.moment) in
+    ap₂ (λ (k : ℕ) (xs : List ℕ). page_with l h f c k xs) early (copied ∙ rest_is 30 bytes)

@@ -1,12 +1,15 @@
 //! Pages that were read.
-ghost use Rattle.std.specs.Prelude.{◌≡◌, ◌<◌, ◌≤◌, ◌/◌, ◌++◌, All, IsErr, ◌⊎◌, length, drop};
+ghost use Rattle.std.specs.Prelude.{◌≡◌, ◌<◌, ◌≤◌, ◌/◌, ◌++◌, List, ℕ, All, IsErr, ◌⊎◌, length, drop};
 ghost use Rattle.std.specs.List.{list_all};
 ghost use Rattle.query_normal.specs.Bits.{is_bit_set};
+ghost use Rattle.query_normal.specs.Keys.{key_text};
 ghost use Rattle.query_normal.specs.Pages.{page_holds};
 ghost use Rattle.flat_snapshot.specs.PageText.{page_text, IsPage};
 ghost use Rattle.flat_snapshot.specs.Reading.{read_page};
+ghost use Rattle.flat_snapshot.specs.Sight.{sight_of, mark_of, marked_sight};
 
-use crate::read::{HEAD_BYTES, PageRefusal, first_bad_field, has_mark, word_at};
+use crate::read::{HEAD_BYTES, PageRefusal, head_in};
+use crate::sight::{KeyMark, Sight, has_mark_set};
 use crate::write::write_page;
 use q_base::{Commit, Moment, positions_of};
 use query_normal::{Key, bits};
@@ -43,35 +46,14 @@ impl Page {
         ensures told { (result ≡ Err PageRefusal.Memory) ⊎ (result ≡ read_page bytes.now) }
         ensures refused { IsErr (read_page bytes.now) → result ≡ read_page bytes.now }
     {
-        let found = bytes.len();
-        if found < HEAD_BYTES {
-            return Err(PageRefusal::BadSize {
-                want: HEAD_BYTES,
-                found,
-            });
-        }
-        if !has_mark(bytes) {
-            return Err(PageRefusal::BadMark);
-        }
-        let hashes = bytes[4];
-        let log2_bits = bytes[5];
-        let front = word_at(bytes, 6);
-        let commits = word_at(bytes, 14);
-        let seconds = word_at(bytes, 22);
-        if let Some(place) = first_bad_field(log2_bits, hashes, front, commits, seconds) {
-            return Err(PageRefusal::BadField { place });
-        }
-        let want = HEAD_BYTES + (1usize << log2_bits) / 8;
-        if found != want {
-            return Err(PageRefusal::BadSize { want, found });
-        }
+        let head = head_in(bytes)?;
         match Vec::from_slice(alloc, &bytes[HEAD_BYTES..]) {
             Ok(bits) => Ok(Page {
-                log2_bits,
-                hashes,
-                front,
-                commits,
-                moment: Moment::of(seconds),
+                log2_bits: head.log2_bits,
+                hashes: head.hashes,
+                front: head.front,
+                commits: head.commits,
+                moment: Moment::of(head.moment),
                 bits,
             }),
             Err(_) => Err(PageRefusal::Memory),
@@ -84,6 +66,30 @@ impl Page {
     {
         let positions = positions_of(key.text(), self.log2_bits, self.hashes);
         all_set(&self.bits, positions.as_slice())
+    }
+
+    /// What the page says of a key.
+    pub fn sight(&self, key: &Key) -> Sight
+        ensures { result ≡ sight_of self.now (key_text key.now) }
+    {
+        let positions = positions_of(key.text(), self.log2_bits, self.hashes);
+        Sight {
+            front: self.front,
+            moment: self.moment.seconds(),
+            is_held: all_set(&self.bits, positions.as_slice()),
+        }
+    }
+
+    /// What the page says of a key by its mark, so that the key is not hashed again.
+    pub fn sight_at(&self, mark: KeyMark) -> Sight
+        ensures marked { result ≡ marked_sight self.now mark }
+        ensures same { (text : List ℕ) → mark ≡ mark_of text → result ≡ sight_of self.now text }
+    {
+        Sight {
+            front: self.front,
+            moment: self.moment.seconds(),
+            is_held: has_mark_set(&self.bits, self.log2_bits, self.hashes, mark),
+        }
     }
 
     /// The front: the commits up to it were matched.
@@ -127,7 +133,7 @@ impl Page {
 }
 
 /// Whether the bits at all these positions are set.
-fn all_set(bytes: &[u8], positions: &[u32]) -> bool
+pub(crate) fn all_set(bytes: &[u8], positions: &[u32]) -> bool
     requires { All (λ p. p / 8 < length bytes.now) positions.now }
     ensures { result ≡ list_all (is_bit_set bytes.now) positions.now }
 {

@@ -1,8 +1,10 @@
 //! Reading the parts of a page's text.
-ghost use Rattle.std.specs.Prelude.{◌≡◌, ◌+◌, ◌≤◌, length, take, bytes_eq, codes};
-ghost use Rattle.flat_snapshot.specs.Reading.{word_at, first_bad_field};
+ghost use Rattle.std.specs.Prelude.{◌≡◌, ◌+◌, ◌≤◌, Ok, Err, IfOk, IfErr, length, take, drop, bytes_eq, codes};
+ghost use Rattle.flat_snapshot.specs.PageText.{IsPage, head_bytes};
+ghost use Rattle.flat_snapshot.specs.Sight.{head_page};
+ghost use Rattle.flat_snapshot.specs.Reading.{word_at, first_bad_field, read_page};
 
-use q_base::Moment;
+use q_base::{Commit, Moment};
 use std::error::Error;
 use std::fmt;
 
@@ -67,6 +69,58 @@ impl fmt::Display for PageRefusal {
 }
 
 impl Error for PageRefusal {}
+
+/// What stands before the bits of a page.
+#[derive(Clone, Copy, Debug, PartialEq, Eq)]
+pub struct PageHead {
+    /// The exponent of the page's size: it has `2^log2_bits` bits.
+    pub log2_bits: u8,
+    /// The number of positions of a key.
+    pub hashes: u8,
+    /// The front: the commits up to it were matched.
+    pub front: Commit,
+    /// The number of commits.
+    pub commits: Commit,
+    /// The clock at which the page was made, in seconds since 1970.
+    pub moment: u64,
+}
+
+/// The head of a page, where the bytes are one. The bits are the bytes behind it.
+pub fn head_in(bytes: &[u8]) -> Result<PageHead, PageRefusal>
+    ensures page { IfOk result (λ head. IsPage (head_page head (drop head_bytes bytes.now))) }
+    ensures read { IfOk result (λ head. Ok (head_page head (drop head_bytes bytes.now)) ≡ read_page bytes.now) }
+    ensures refused { IfErr result (λ refusal. read_page bytes.now ≡ Err refusal) }
+{
+    let found = bytes.len();
+    if found < HEAD_BYTES {
+        return Err(PageRefusal::BadSize {
+            want: HEAD_BYTES,
+            found,
+        });
+    }
+    if !has_mark(bytes) {
+        return Err(PageRefusal::BadMark);
+    }
+    let hashes = bytes[4];
+    let log2_bits = bytes[5];
+    let front = word_at(bytes, 6);
+    let commits = word_at(bytes, 14);
+    let moment = word_at(bytes, 22);
+    if let Some(place) = first_bad_field(log2_bits, hashes, front, commits, moment) {
+        return Err(PageRefusal::BadField { place });
+    }
+    let want = HEAD_BYTES + (1usize << log2_bits) / 8;
+    if found != want {
+        return Err(PageRefusal::BadSize { want, found });
+    }
+    Ok(PageHead {
+        log2_bits,
+        hashes,
+        front,
+        commits,
+        moment,
+    })
+}
 
 /// Whether the bytes begin with `QSF1`.
 pub fn has_mark(bytes: &[u8]) -> bool

@@ -1,0 +1,2 @@
+pub mod Cache
+pub use Rattle.query_normal.specs.Keys

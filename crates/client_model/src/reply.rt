@@ -1,0 +1,23 @@
+//! A reply to a read, as caches and clients see it.
+use q_base::{Commit, Moment, SharedText};
+
+/// A reply to a read, as caches and clients see it.
+#[derive(Debug, Drop)]
+pub struct Reply {
+    /// The status (RFC 9110, section 15).
+    pub status: u16,
+    /// The commit whose result the reply is.
+    pub commit: Commit,
+    /// The version of a record's document.
+    pub version: Option<Commit>,
+    /// The second from which on the reply may be kept no longer.
+    pub until: u64,
+    /// When the reply was made.
+    pub date: Moment,
+    /// For how many seconds from its date on it is fresh (RFC 9111, section 4.2.1).
+    pub max_age: Option<u32>,
+    /// The commit that its entity tag names.
+    pub tag: Option<Commit>,
+    /// What it holds. Clones share it.
+    pub body: SharedText,
+}

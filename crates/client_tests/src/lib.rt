@@ -1,0 +1,9 @@
+//! Tests of the client's crates.
+#![tactic(auto)]
+
+#[cfg(test)]
+mod caches;
+#[cfg(test)]
+mod choices;
+#[cfg(test)]
+mod sessions;
