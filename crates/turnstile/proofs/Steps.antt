@@ -16,9 +16,13 @@ use Rattle.turnstile.specs.declared.view.Phase.{Phase}
 use Rattle.turnstile.specs.declared.view.Phase.TheVariants.{Free, Taken, Known, Told}
 use Rattle.turnstile.specs.Places.{AreAt, Disjoint}
 use Rattle.turnstile.specs.Views.{opening_view, in_phase, after_observe, with_seen, with_entries, after_split, split_view, after_join, spent_view}
-use Rattle.turnstile.specs.Rule.{turn_word, InPhase, SoundOf, Sound, ViewInvariant, claims, AreDisjoint, TableInvariant}
+use Rattle.turnstile.specs.Levels.{occurs, level_of}
+use Rattle.turnstile.specs.Rule.{turn_word, InPhase, SoundOf, Sound, ViewInvariant, claims, IsDoneIfSpent, AreDisjoint, AreClaimed, AreDescended, TableInvariant}
 use Rattle.turnstile.specs.Plays.{IsKnowing, HasAcquired, acquired, observed, appended, released}
 use Rattle.turnstile.proofs.Prefixes.{prefix_self, prefix_trans, prefix_longer}
+use Rattle.std.proofs.lemmas.List.FromFn.{length-enumerate_from}
+use Rattle.turnstile.proofs.Totals.{total_set, total_same, total_snoc, occurs_append}
+use Rattle.turnstile.proofs.Lineages.{lineage_first, lineage_left, lineage_right, lineage_both, lineage_spent, only_whole}
 use Rattle.turnstile.proofs.PlaceLemmas.{At, all_map, all_append, stand_longer, places_stand, rises_on, rises_once, once_append, away_back, away_none, away_left, away_right, away_first, away_second, away_behind}
 
 -- Elements of lists by their index.
@@ -91,6 +95,8 @@ module _ {E K : Type 0} (key : K) where
     phase = other_phase h l n m j v.seen v.phase a b k.phase;
     keyed = k.keyed;
     sound = sound_longer h l v.mine v.met v.olds grew k.sound;
+    lineage = k.lineage;
+    done = k.done;
   }
 
   -- what all seats know, where one view changes
@@ -112,6 +118,18 @@ module _ {E K : Type 0} where
   apart_same : (views : List (View E K)) (id : ℕ) (old w : View E K) → get_elem? views id ≡ some old → claims w ≡ claims old → AreDisjoint views → (j : ℕ) (v : View E K) → j ≢ id → get_elem? views j ≡ some v → Disjoint (claims w) (claims v)
   apart_same views id old w at same apart j v ne atj = subst (λ c. Disjoint c (claims v)) (sym same) (apart id j old v (λ e. ne (sym e)) at atj)
 
+-- Seats and entries counted, where one view changes.
+module _ {E K : Type 0} where
+  claimed_set : (h l : List E) (views : List (View E K)) (id : ℕ) (old w : View E K) → get_elem? views id ≡ some old → length l + length (claims old) ≡ length h + length (claims w) → AreClaimed h views → AreClaimed l (set views id w)
+  claimed_set h l views id old w at counts claimed = omega (arith, claimed, counts, total_set (λ v. length (claims v)) views id old w at)
+
+  descended_same : (views : List (View E K)) (id : ℕ) (old w : View E K) → get_elem? views id ≡ some old → w.levels ≡ old.levels → w.children ≡ old.children → AreDescended views → AreDescended (set views id w)
+  descended_same views id old w at levels children descended n = omega (arith, descended n, total_same (λ v. occurs n v.levels) views id old w at (ap (occurs n) levels), total_same (λ v. occurs n v.children) views id old w at (ap (occurs n) children))
+
+  -- a seat that has a setting was joined to no other
+  not_done : (key : K) (w : View E K) → w.setting ≡ Some key → IsDoneIfSpent w
+  not_done key w keyed spent = absurd (cc (keyed, spent))
+
 module _ {T K E : Type 0} (setting : T → K) (legal : K → List E → Type 0) (stands : T → List E → Type 0) (key : K) where
   abbrev V : Type 0
   V = View E K
@@ -120,9 +138,9 @@ module _ {T K E : Type 0} (setting : T → K) (legal : K → List E → Type 0) 
   Rule = TableInvariant setting legal stands key
 
   -- a step that changes neither word nor slot
-  still : (s : State (Option T) V) (r : Rule s) (i id : ℕ) (old w : V) → get_elem? s.views id ≡ some old → claims w ≡ claims old → ViewInvariant key r.history r.holder id w
+  still : (s : State (Option T) V) (r : Rule s) (i id : ℕ) (old w : V) → get_elem? s.views id ≡ some old → claims w ≡ claims old → w.levels ≡ old.levels → w.children ≡ old.children → ViewInvariant key r.history r.holder id w
       → Rule record { words = set s.words i (slice_index s.words i); homes = s.homes; views = set s.views id w }
-  still s r i id old w at same knows = record {
+  still s r i id old w at same levels children knows = record {
     history = r.history;
     holder = r.holder;
     words = set-get_or s.words i 0 ∙ r.words;
@@ -133,14 +151,16 @@ module _ {T K E : Type 0} (setting : T → K) (legal : K → List E → Type 0) 
     home = r.home;
     each = seats_stay key r.history r.history r.holder r.holder s.views id w r.each (λ j v ne k. k) knows;
     apart = apart_stay s.views id w r.apart (apart_same s.views id old w at same r.apart);
+    claimed = claimed_set r.history r.history s.views id old w at (ap (λ c. length r.history + length c) (sym same)) r.claimed;
+    descended = descended_same s.views id old w at levels children r.descended;
   }
 
   -- a step by which the turn comes, goes or stays with the seat, and the history may grow
-  passes : (s : State (Option T) V) (r : Rule s) (id : ℕ) (w : V) (l : List E) (m : ℕ) (words : List ℕ) (homes : List (maybe.Option (Option T))) → IsPrefix r.history l → words ≡ turn_word m ∷ length l ∷ []
+  passes : (s : State (Option T) V) (r : Rule s) (id : ℕ) (old w : V) (l : List E) (m : ℕ) (words : List ℕ) (homes : List (maybe.Option (Option T))) → get_elem? s.views id ≡ some old → w.levels ≡ old.levels → w.children ≡ old.children → length l + length (claims old) ≡ length r.history + length (claims w) → IsPrefix r.history l → words ≡ turn_word m ∷ length l ∷ []
       → length homes ≡ 1 → m ≤ length s.views → legal key l → length l < 18446744073709551616 → (m ≡ 0 → (x : T) × (get_elem? homes 0 ≡ some (some (Some x))) × stands x l × (setting x ≡ key))
       → ((j : ℕ) → j ≢ id → r.holder ≢ j + 1) → ((j : ℕ) → j ≢ id → m ≢ j + 1) → ViewInvariant key l m id w → ((j : ℕ) (v : V) → j ≢ id → get_elem? s.views j ≡ some v → Disjoint (claims w) (claims v))
       → Rule record { words = words; homes = homes; views = set s.views id w }
-  passes s r id w l m words homes grew words_are one within lawful small home before after knows away = record {
+  passes s r id old w l m words homes at levels children counts grew words_are one within lawful small home before after knows away = record {
     history = l;
     holder = m;
     words = words_are;
@@ -151,6 +171,8 @@ module _ {T K E : Type 0} (setting : T → K) (legal : K → List E → Type 0) 
     home = home;
     each = seats_stay key r.history l r.holder m s.views id w r.each (λ j v ne k. other_knows key r.history l r.holder m j v grew (before j ne) (after j ne) k) knows;
     apart = apart_stay s.views id w r.apart away;
+    claimed = claimed_set r.history l s.views id old w at counts r.claimed;
+    descended = descended_same s.views id old w at levels children r.descended;
   }
 
   turn_is : (s : State (Option T) V) (r : Rule s) → slice_index s.words 0 ≡ turn_word r.holder
@@ -164,8 +186,8 @@ module _ {T K E : Type 0} (setting : T → K) (legal : K → List E → Type 0) 
   Tries s id me n b = (w : V) × (a : Act (Option T)) × Valid s.homes me.1 a × Rule (stepped s 0 n id me.1 w a)
       × MatchBool b (HasAcquired setting legal stands me (w, carried_after me.1 a)) ((w, carried_after me.1 a) ≡ me)
 
-  won : (s : State (Option T) V) (r : Rule s) (id : ℕ) (me : Me (Option T) V) → get_elem? s.views id ≡ some me.0 → slice_index s.words 0 ≡ 0 → Tries s id me 1 true
-  won s r id me at hit =
+  won : (s : State (Option T) V) (r : Rule s) (id : ℕ) (me : Me (Option T) V) → me.0.setting ≡ Some key → get_elem? s.views id ≡ some me.0 → slice_index s.words 0 ≡ 0 → Tries s id me 1 true
+  won s r id me owned at hit =
       let idle : r.holder ≡ 0 = nobody r.holder (sym (turn_is s r) ∙ hit) in
       let kept = r.home idle in
       let old = r.each id me.0 at in
@@ -175,27 +197,28 @@ module _ {T K E : Type 0} (setting : T → K) (legal : K → List E → Type 0) 
         w,
         takes 0 (Some kept.0),
         kept.1,
-        passes s r id w r.history (suc id) (set s.words 0 1) (set s.homes 0 none) (prefix_self r.history) (ap (λ ws. set ws 0 1) r.words) one within r.lawful r.small (λ e. absurd (omega arith))
-            (λ j ne e. omega (arith, idle, e)) (λ j ne e. ne (omega arith)) record { prefix = old.prefix; phase = (omega arith, refl); keyed = old.keyed; sound = old.sound }
+        passes s r id me.0 w r.history (suc id) (set s.words 0 1) (set s.homes 0 none) at refl refl refl (prefix_self r.history) (ap (λ ws. set ws 0 1) r.words) one within r.lawful r.small (λ e. absurd (omega arith))
+            (λ j ne e. omega (arith, idle, e)) (λ j ne e. ne (omega arith)) record { prefix = old.prefix; phase = (omega arith, refl); keyed = old.keyed; sound = old.sound; lineage = old.lineage; done = not_done key w owned }
             (apart_same s.views id me.0 w at refl r.apart),
         (kept.0, r.history, refl, (kept.2, λ k given. let is = old.keyed k given in (kept.3 ∙ sym is, subst (λ z. legal z r.history) (sym is) r.lawful))),
       )
 
   missed : (s : State (Option T) V) (r : Rule s) (id : ℕ) (me : Me (Option T) V) → get_elem? s.views id ≡ some me.0 → Tries s id me (slice_index s.words 0) false
-  missed s r id me at = (me.0, keeps, tt, still s r 0 id me.0 me.0 at refl (r.each id me.0 at), refl)
+  missed s r id me at = (me.0, keeps, tt, still s r 0 id me.0 me.0 at refl refl refl (r.each id me.0 at), refl)
 
-  pub acquire_keeps : (slots id : ℕ) (me : Me (Option T) V) → Allows Rule slots id me 0 (λ n. either (n == 0) 1 n) (acquired setting legal stands me)
-  acquire_keeps slots id me s r one at small = let n : ℕ = slice_index s.words 0 in dite (ℕ_discrete n 0) (λ (e : n ≡ 0). subst (λ b. Tries s id me (either b 1 n) b) (sym (eq-eqb n 0 e)) (won s r id me at e))
+  pub acquire_keeps : (slots id : ℕ) (me : Me (Option T) V) → me.0.setting ≡ Some key → Allows Rule slots id me 0 (λ n. either (n == 0) 1 n) (acquired setting legal stands me)
+  acquire_keeps slots id me owned s r one at small = let n : ℕ = slice_index s.words 0 in dite (ℕ_discrete n 0) (λ (e : n ≡ 0). subst (λ b. Tries s id me (either b 1 n) b) (sym (eq-eqb n 0 e)) (won s r id me owned at e))
       (λ (ne : n ≢ 0). subst (λ b. Tries s id me (either b 1 n) b) (sym (ne_eqb n 0 ne)) (missed s r id me at))
 
-  pub observe_keeps : (slots id : ℕ) (me : Me (Option T) V) → Allows Rule slots id me 1 (λ n. n) (observed legal me)
-  observe_keeps slots id me s r one at small =
+  pub observe_keeps : (slots id : ℕ) (me : Me (Option T) V) → me.0.setting ≡ Some key → Allows Rule slots id me 1 (λ n. n) (observed legal me)
+  observe_keeps slots id me owned s r one at small =
       let old = r.each id me.0 at in
       let w : V = with_seen r.history me.0 in (
         w,
         keeps,
         tt,
-        still s r 1 id me.0 w at refl record { prefix = prefix_self r.history; phase = observed_phase r.history r.holder id me.0.seen me.0.phase old.phase; keyed = old.keyed; sound = old.sound },
+        still s r 1 id me.0 w at refl refl refl
+            record { prefix = prefix_self r.history; phase = observed_phase r.history r.holder id me.0.seen me.0.phase old.phase; keyed = old.keyed; sound = old.sound; lineage = old.lineage; done = not_done key w owned },
         (
           refl,
           refl,
@@ -204,11 +227,12 @@ module _ {T K E : Type 0} (setting : T → K) (legal : K → List E → Type 0) 
           (λ k given. subst (λ z. legal z r.history) (sym (old.keyed k given)) r.lawful),
           old.sound,
           (λ found is. let q : InPhase r.history r.holder id me.0.seen (Taken found) = subst (λ p. InPhase r.history r.holder id me.0.seen p) is old.phase in sym q.1),
+          (λ all. only_whole s.views id me.0 at r.descended (λ j v here. (r.each j v here).lineage) all r.history r.claimed (λ j v here. (r.each j v here).done)),
         ),
       )
 
-  pub release_keeps : (slots id : ℕ) (me : Me (Option T) V) (y : T) → IsKnowing me.0.phase → me.1 ≡ (0, Some y) ∷ rest me.1 → stands y me.0.seen → setting y ≡ key → Allows Rule slots id me 0 (λ _. 0) (λ _. released me 0)
-  release_keeps slots id me y is carried st keyed s r one at small =
+  pub release_keeps : (slots id : ℕ) (me : Me (Option T) V) (y : T) → me.0.setting ≡ Some key → IsKnowing me.0.phase → me.1 ≡ (0, Some y) ∷ rest me.1 → stands y me.0.seen → setting y ≡ key → Allows Rule slots id me 0 (λ _. 0) (λ _. released me 0)
+  release_keeps slots id me y owned is carried st keyed s r one at small =
       let old = r.each id me.0 at in
       let hold = knowing r.history r.holder id me.0.seen me.0.phase is old.phase in
       let w : V = in_phase Free me.0 in
@@ -219,15 +243,15 @@ module _ {T K E : Type 0} (setting : T → K) (legal : K → List E → Type 0) 
         w,
         gives,
         tt,
-        subst P (sym carried) (passes s r id w r.history 0 (set s.words 0 0) (set s.homes 0 (some (Some y))) (prefix_self r.history) (ap (λ ws. set ws 0 0) r.words) long (omega arith) r.lawful r.small
+        subst P (sym carried) (passes s r id me.0 w r.history 0 (set s.words 0 0) (set s.homes 0 (some (Some y))) at refl refl refl (prefix_self r.history) (ap (λ ws. set ws 0 0) r.words) long (omega arith) r.lawful r.small
             (λ e. (y, set_here s.homes 0 (some (Some y)) has, subst (λ l. stands y l) hold.1 st, keyed)) (λ j ne e. ne (omega (arith, holds, e))) (λ j ne e. omega arith)
-            record { prefix = old.prefix; phase = λ e. omega arith; keyed = old.keyed; sound = old.sound } (apart_same s.views id me.0 w at refl r.apart)),
+            record { prefix = old.prefix; phase = λ e. omega arith; keyed = old.keyed; sound = old.sound; lineage = old.lineage; done = not_done key w owned } (apart_same s.views id me.0 w at refl r.apart)),
         refl,
       )
 
-  pub append_keeps : (slots id : ℕ) (me : Me (Option T) V) (made : List E) (k : ℕ) → me.0.phase ≡ Known → k ≡ length made → length me.0.seen + k < 18446744073709551616 → legal key (me.0.seen ++ made)
+  pub append_keeps : (slots id : ℕ) (me : Me (Option T) V) (made : List E) (k : ℕ) → me.0.setting ≡ Some key → me.0.phase ≡ Known → k ≡ length made → length me.0.seen + k < 18446744073709551616 → legal key (me.0.seen ++ made)
       → Allows Rule slots id me 1 (λ n. (n + k) % 2 ^ 64) (appended made me)
-  append_keeps slots id me made k is counts space lawful s r one at small =
+  append_keeps slots id me made k owned is counts space lawful s r one at small =
       let old = r.each id me.0 at in
       let hold = knowing r.history r.holder id me.0.seen me.0.phase (inl is) old.phase in
       let holds : r.holder ≡ id + 1 = hold.0 in
@@ -240,6 +264,9 @@ module _ {T K E : Type 0} (setting : T → K) (legal : K → List E → Type 0) 
       let sum : slice_index s.words 1 + k ≡ length all = omega (arith, long, found, counts) in
       let fits : length all < 18446744073709551616 = omega (arith, long, counts, space) in
       let word : (slice_index s.words 1 + k) % 18446744073709551616 ≡ length all = ap (λ (x : ℕ). x % 18446744073709551616) sum ∙ mod-eq_of_lt fits in
+      let noted : length new ≡ length made = length-enumerate_from (length me.0.seen) made in
+      let more : length all + length (claims me.0) ≡ length r.history + length (claims w) = (let seen_is : length me.0.seen ≡ length r.history = ap length hold.1 in
+      omega (arith, long, noted, seen_is, length-append me.0.mine me.0.met, length-append (me.0.mine ++ new) me.0.met, length-append me.0.mine new)) in
       let known : Sound me.0.seen me.0 = subst (λ h. Sound h me.0) (sym hold.1) old.sound in
       let sound : Sound all w = append_sound me.0.seen made me.0.mine me.0.met me.0.olds known in
       let away : (j : ℕ) (v : V) → j ≢ id → get_elem? s.views j ≡ some v → Disjoint (claims w) (claims v) = λ j v ne atj.
@@ -252,21 +279,52 @@ module _ {T K E : Type 0} (setting : T → K) (legal : K → List E → Type 0) 
         w,
         keeps,
         tt,
-        passes s r id w all r.holder (set s.words 1 ((slice_index s.words 1 + k) % 18446744073709551616)) s.homes grew
+        passes s r id me.0 w all r.holder (set s.words 1 ((slice_index s.words 1 + k) % 18446744073709551616)) s.homes at refl refl more grew
             (ap (λ ws. set ws 1 ((slice_index s.words 1 + k) % 18446744073709551616)) r.words ∙ ap (λ (x : ℕ). turn_word r.holder ∷ x ∷ []) word) r.one_slot r.seated lawful fits (λ e. absurd (omega (arith, holds, e)))
-            (λ j ne e. ne (omega (arith, holds, e))) (λ j ne e. ne (omega (arith, holds, e))) record { prefix = prefix_self all; phase = (holds, refl); keyed = old.keyed; sound = sound } away,
+            (λ j ne e. ne (omega (arith, holds, e))) (λ j ne e. ne (omega (arith, holds, e))) record { prefix = prefix_self all; phase = (holds, refl); keyed = old.keyed; sound = sound; lineage = old.lineage; done = not_done key w owned } away,
         (refl, found, sound),
       )
 
-  pub split_keeps : (id : ℕ) (v : V) → Splits Rule id v (after_split v) (split_view v)
-  split_keeps id v s r at =
+  split_descended : (views : List V) (id : ℕ) (v : V) → get_elem? views id ≡ some v → AreDescended views → AreDescended (set views id (after_split v) ++ split_view v ∷ [])
+  split_descended views id v at descended n =
+      let left : V = after_split v in
+      let right : V = split_view v in
+      let ls : V → ℕ = λ u. occurs n u.levels in
+      let cs : V → ℕ = λ u. occurs n u.children in
+      omega (arith, descended n, total_same ls views id v left at refl, total_set cs views id v left at, total_snoc ls (set views id left) right, total_snoc cs (set views id left) right)
+
+  join_claimed : (h : List E) (views : List V) (id other : ℕ) (v w : V) → get_elem? views id ≡ some v → get_elem? (set views id (after_join v w)) other ≡ some w → AreClaimed h views → AreClaimed h (set (set views id (after_join v w)) other spent_view)
+  join_claimed h views id other v w at set_at claimed =
+      let both : V = after_join v w in
+      let size : V → ℕ = λ u. length (claims u) in
+      omega (arith, claimed, total_set size views id v both at, total_set size (set views id both) other w spent_view set_at, length-append v.mine v.met, length-append v.mine (v.met ++ claims w), length-append v.met (claims w))
+
+  join_descended : (views : List V) (id other : ℕ) (v w : V) → get_elem? views id ≡ some v → get_elem? (set views id (after_join v w)) other ≡ some w → AreDescended views → AreDescended (set (set views id (after_join v w)) other spent_view)
+  join_descended views id other v w at set_at descended n =
+      let both : V = after_join v w in
+      let ls : V → ℕ = λ u. occurs n u.levels in
+      let cs : V → ℕ = λ u. occurs n u.children in
+      omega (
+        arith,
+        descended n,
+        total_set ls views id v both at,
+        total_set ls (set views id both) other w spent_view set_at,
+        total_set cs views id v both at,
+        total_set cs (set views id both) other w spent_view set_at,
+        occurs_append n v.levels w.levels,
+        occurs_append n v.children w.children,
+      )
+
+  pub split_keeps : (id : ℕ) (v : V) → v.setting ≡ Some key → Splits Rule id v (after_split v) (split_view v)
+  split_keeps id v owned s r at =
       let old = r.each id v at in
       let left : V = after_split v in
       let right : V = split_view v in
       let views : List V = set s.views id left in
       let many : length views ≡ length s.views = length-set s.views id left in
       let each : (j : ℕ) (u : V) → get_elem? views j ≡ some u → ViewInvariant key r.history r.holder j u = seats_stay key r.history r.history r.holder r.holder s.views id left r.each (λ j u ne k. k)
-      record { prefix = old.prefix; phase = old.phase; keyed = old.keyed; sound = old.sound } in
+      record { prefix = old.prefix; phase = old.phase; keyed = old.keyed; sound = old.sound; lineage = lineage_left v.setting key v.levels v.children owned old.lineage; done = not_done key left owned } in
+      let size : V → ℕ = λ u. length (claims u) in
       let apart : AreDisjoint views = apart_stay s.views id left r.apart (apart_same s.views id v left at refl r.apart) in
       let within = r.seated in
       record {
@@ -280,10 +338,12 @@ module _ {T K E : Type 0} (setting : T → K) (legal : K → List E → Type 0) 
         home = r.home;
         each = λ j u here. ⊎_elim (λ (a : get_elem? views j ≡ some u). each j u a)
             (λ (a : (j ≡ length views) × (right ≡ u)). subst (λ x. ViewInvariant key r.history r.holder j x) a.1
-            record { prefix = old.prefix; phase = λ e. omega (arith, many, within, a.0, e); keyed = old.keyed; sound = sound_none r.history }) (at_longer_by_one views right u j here);
+            record { prefix = old.prefix; phase = λ e. omega (arith, many, within, a.0, e); keyed = old.keyed; sound = sound_none r.history; lineage = lineage_right v.setting (level_of v.levels); done = not_done key right owned }) (at_longer_by_one views right u j here);
         apart = λ i j u x ne ati atj. ⊎_elim (λ (a : get_elem? views i ≡ some u). ⊎_elim (λ (b : get_elem? views j ≡ some x). apart i j u x ne a b)
             (λ (b : (j ≡ length views) × (right ≡ x)). subst (λ y. Disjoint (claims u) (claims y)) b.1 (away_none (claims u))) (at_longer_by_one views right x j atj))
             (λ (a : (i ≡ length views) × (right ≡ u)). subst (λ y. Disjoint (claims y) (claims x)) a.1 tt) (at_longer_by_one views right u i ati);
+        claimed = omega (arith, r.claimed, total_same size s.views id v left at refl, total_snoc size views right);
+        descended = split_descended s.views id v at r.descended;
       }
 
   -- what two seats know together
@@ -320,8 +380,8 @@ module _ {T K E : Type 0} (setting : T → K) (legal : K → List E → Type 0) 
       (λ (c : (i ≢ id) × (i ≢ other) × (get_elem? views i ≡ some u)). ⊎_elim (λ (d : (j ≡ id) × (both ≡ x)). subst (λ y. Disjoint (claims u) (claims y)) d.1 (away_back (claims both) (claims u) (away i u c.0 c.1 c.2)))
       (λ (d : (j ≢ id) × (j ≢ other) × (get_elem? views j ≡ some x)). apart i j u x ne c.2 d.2) b) a) (joined_at views id other both j x atj)) (joined_at views id other both i u ati)
 
-  pub join_keeps : (id : ℕ) (v : V) (other : ℕ) (w : V) → v.phase ≡ Free → w.phase ≡ Free → Joins Rule id v other w (after_join v w) spent_view
-  join_keeps id v other w vfree wfree s r atv apart_ids set_at =
+  pub join_keeps : (id : ℕ) (v : V) (other : ℕ) (w : V) → v.setting ≡ Some key → v.phase ≡ Free → w.phase ≡ Free → Joins Rule id v other w (after_join v w) spent_view
+  join_keeps id v other w owned vfree wfree s r atv apart_ids set_at =
       let both : V = after_join v w in
       let atw : get_elem? s.views other ≡ some w = sym (set_else s.views id other both apart_ids) ∙ set_at in
       let one = r.each id v atv in
@@ -335,6 +395,8 @@ module _ {T K E : Type 0} (setting : T → K) (legal : K → List E → Type 0) 
         phase = not_holding r.history r.holder id v.seen v.phase vfree one.phase;
         keyed = one.keyed;
         sound = met_sound r.history v w one.prefix two.prefix one.sound two.sound away;
+        lineage = lineage_both v.setting w.setting v.levels w.levels v.children w.children one.lineage two.lineage;
+        done = not_done key both owned;
       } in
       record {
         history = r.history;
@@ -350,8 +412,12 @@ module _ {T K E : Type 0} (setting : T → K) (legal : K → List E → Type 0) 
           phase = not_holding r.history r.holder other w.seen w.phase wfree two.phase;
           keyed = λ k given. absurd cc;
           sound = sound_none r.history;
+          lineage = lineage_spent;
+          done = λ e. (refl, refl);
         };
         apart = joined_apart s.views id other v w r.apart atv atw;
+        claimed = join_claimed r.history s.views id other v w atv set_at r.claimed;
+        descended = join_descended s.views id other v w atv set_at r.descended;
       }
 
   first_seat : (j : ℕ) (v : V) → get_elem? (opening_view key ∷ []) j ≡ some v → (j ≡ 0) × (opening_view key ≡ v)
@@ -368,6 +434,8 @@ module _ {T K E : Type 0} (setting : T → K) (legal : K → List E → Type 0) 
     lawful = lawful;
     small = omega arith;
     home = λ e. (x, refl, st, is);
-    each = λ j v at. let here = first_seat j v at in subst (λ u. ViewInvariant key [] 0 j u) here.1 record { prefix = ([], refl); phase = λ e. omega arith; keyed = λ k given. cc; sound = sound_none [] };
+    each = λ j v at. let here = first_seat j v at in subst (λ u. ViewInvariant key [] 0 j u) here.1 record { prefix = ([], refl); phase = λ e. omega arith; keyed = λ k given. cc; sound = sound_none []; lineage = lineage_first key; done = not_done key (opening_view key) refl };
     apart = λ i j v w ne a b. absurd (ne ((first_seat i v a).0 ∙ sym (first_seat j w b).0));
+    claimed = refl;
+    descended = λ n. omega arith;
   }

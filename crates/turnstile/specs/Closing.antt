@@ -5,7 +5,7 @@ use lib.ListN.{get_elem?}
 use Rattle.atomic_table.specs.Table.{State}
 use Rattle.turnstile.specs.declared.view.View.{View}
 use Rattle.turnstile.specs.declared.view.Phase.TheVariants.{Free}
-use Rattle.turnstile.specs.Rule.{TableInvariant}
+use Rattle.turnstile.specs.Rule.{TableInvariant, HasAllSeats, IsWhole}
 
 -- some seat has a turn that was never given
 abbrev pub IsHeld : {E K : Type 0} → List (View E K) → Type 0
@@ -21,3 +21,6 @@ pub record Closes {T K E : Type 0} (setting : T → K) (legal : K → List E →
   pub kept : TableInvariant setting legal stands key last
   pub seated : get_elem? last.views seat ≡ some me
   pub answered : MatchOption answer (IsHeld last.views × (slice_index last.words 0 ≡ 1)) (λ x. IsFree last.views × (slice_index last.words 0 ≡ 0) × stands x kept.history × (setting x ≡ key))
+  -- where no other seat is left, the history has no entries but this seat's, and there is no answer only where this seat's own turn was never given
+  pub whole : HasAllSeats me → IsWhole kept.history me
+  pub own : HasAllSeats me → MatchOption answer (me.phase ≢ Free) (λ _. me.phase ≡ Free)

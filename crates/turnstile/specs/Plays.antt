@@ -6,7 +6,7 @@ use Rattle.turnstile.specs.declared.view.View.{View}
 use Rattle.turnstile.specs.declared.view.Phase.{Phase}
 use Rattle.turnstile.specs.declared.view.Phase.TheVariants.{Free, Taken, Known, Told}
 use Rattle.turnstile.specs.Views.{in_phase, with_seen, with_entries}
-use Rattle.turnstile.specs.Rule.{Sound}
+use Rattle.turnstile.specs.Rule.{Sound, HasAllSeats, IsWhole}
 
 -- the seat has the turn, and has seen the whole history
 abbrev pub IsKnowing : {E : Type 0} → Phase E → Type 0
@@ -28,7 +28,7 @@ module _ {T K E : Type 0} (setting : T → K) (legal : K → List E → Type 0) 
 -- the seat has seen the whole history, and the answer is its length
 abbrev pub observed : {T K E : Type 0} → (K → List E → Type 0) → Me (Option T) (View E K) → ℕ → Me (Option T) (View E K) → Type 0
 observed {T} {K} {E} legal m r n = (n.1 ≡ m.1) × (n.0 ≡ with_seen n.0.seen m.0) × (r ≡ length n.0.seen) × IsPrefix m.0.seen n.0.seen × ((k : K) → m.0.setting ≡ Some k → legal k n.0.seen) × Sound n.0.seen n.0
-    × ((found : List E) → m.0.phase ≡ Taken found → n.0.seen ≡ found)
+    × ((found : List E) → m.0.phase ≡ Taken found → n.0.seen ≡ found) × (HasAllSeats n.0 → IsWhole n.0.seen n.0)
 
 -- the entries made were appended to all that the seat had seen
 abbrev pub appended : {T K E : Type 0} → List E → Me (Option T) (View E K) → ℕ → Me (Option T) (View E K) → Type 0

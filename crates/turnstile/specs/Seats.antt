@@ -5,6 +5,8 @@ use Rattle.atomic_table.specs.declared.shared.Seat.{Seat}
 use Rattle.turnstile.specs.declared.gate.Turnstile.{Turnstile}
 use Rattle.turnstile.specs.declared.view.View.{View}
 use Rattle.turnstile.specs.declared.view.Phase.TheVariants.{Free}
+use Rattle.turnstile.specs.Levels.{Out}
+use Rattle.turnstile.specs.Rule.{HasAllSeats}
 
 -- the setting of the turnstile's value
 abbrev pub setting_of : {T E K : Type 0} → (T → K) → Turnstile T E K → K
@@ -26,6 +28,18 @@ module _ {T E K : Type 0} where
   -- how many seats were split off it
   abbrev pub splits : Seat (Option T) (View E K) → ℕ
   splits s = s.me.0.splits
+
+  -- no other seat is left: all that were ever split off were joined to this one
+  abbrev pub IsAlone : Seat (Option T) (View E K) → Type 0
+  IsAlone s = HasAllSeats s.me.0
+
+  -- it is the first seat, and so many of the seats that were split off it are not joined to it
+  abbrev pub HasOut : ℕ → Seat (Option T) (View E K) → Type 0
+  HasOut count s = Out count s.me.0.levels s.me.0.children
+
+  -- it was split off the first seat, and no seat was split off it or joined to it
+  abbrev pub IsPart : Seat (Option T) (View E K) → Type 0
+  IsPart s = (s.me.0.levels ≡ 1 ∷ []) × (s.me.0.children ≡ [])
 
   -- the seat has no turn
   abbrev pub IsIdle : Seat (Option T) (View E K) → Type 0

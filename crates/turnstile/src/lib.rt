@@ -4,6 +4,7 @@
 mod board;
 mod gate;
 mod plays;
+mod sleepers;
 mod stands;
 #[cfg(test)]
 mod tests;

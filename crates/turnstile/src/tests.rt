@@ -9,6 +9,7 @@ ghost use Rattle.turnstile.specs.Seats.{IsSeatOf, IsSame, IsIdle, IsOut, seen, m
 ghost use Rattle.turnstile.specs.Turns.{IsTurnOf, turn_seen};
 
 use crate::{Made, Seat, Stands, Turn, Turnstile};
+use std::hint::spin_loop;
 use std::marker::Brand;
 use std::sync::Wait;
 use std::test::*;
@@ -80,6 +81,7 @@ fn add<R: Wait>(rt: &R, gate: &Turnstile<Tally>, seat: &mut Seat<Tally>, number:
     let mut tally = turn.value();
     tally.count += 1;
     tally.total = tally.total.wrapping_add(number);
+    linger();
     let total = tally.total;
     give_number::<Brand>(turn, tally, number);
     total
@@ -159,5 +161,92 @@ fn two_threads_add_to_one_history(rt: HostRuntime) -> Result<(), Fail> {
     add_both(&rt, &gate, &mut seat, 7, 5);
     let tally = gate.close(seat).ok_or("the turn is free")?;
     assert_eq!(rt; (tally.total, tally.count), (12, 2));
+    Ok(())
+}
+
+// A turn lasts for some microseconds, so that others sleep meanwhile.
+fn linger() {
+    for _ in 0..200 {
+        spin_loop();
+    }
+}
+
+// Adds 1 so many times at a seat of its own.
+fn add_often<R: Wait>(rt: &R, gate: &Turnstile<Tally>, seat: Seat<Tally>, times: u32) -> Seat<Tally>
+    requires own { IsSeatOf (λ (t : Tally). t.name) gate.now seat }
+    requires idle { IsIdle seat }
+    ensures own { IsSeatOf (λ (t : Tally). t.name) gate.now result }
+    ensures idle { IsIdle result }
+{
+    let mut seat = seat;
+    for _ in 0..times {
+        add(rt, gate, &mut seat, 1);
+    }
+    seat
+}
+
+// The same in two threads, each as often.
+fn add_often_in_two<R: Threads + Wait + Sync>(
+    rt: &R,
+    gate: &Turnstile<Tally>,
+    seat: Seat<Tally>,
+    times: u32,
+) -> Seat<Tally>
+    requires own { IsSeatOf (λ (t : Tally). t.name) gate.now seat }
+    requires idle { IsIdle seat }
+    ensures own { IsSeatOf (λ (t : Tally). t.name) gate.now result }
+    ensures idle { IsIdle result }
+{
+    let mut seat = seat;
+    let other = gate.split(&mut seat);
+    let (one, other) = join(
+        rt,
+        move ||
+            requires { IsSeatOf (λ (t : Tally). t.name) gate.now seat × IsIdle seat }
+        { add_often(rt, gate, seat, times) },
+        move ||
+            requires { IsSeatOf (λ (t : Tally). t.name) gate.now other × IsIdle other }
+        { add_often(rt, gate, other, times) },
+    );
+    let mut one = one;
+    gate.join(&mut one, other);
+    one
+}
+
+// The same in four threads.
+fn add_often_in_four<R: Threads + Wait + Sync>(
+    rt: &R,
+    gate: &Turnstile<Tally>,
+    seat: Seat<Tally>,
+    times: u32,
+) -> Seat<Tally>
+    requires own { IsSeatOf (λ (t : Tally). t.name) gate.now seat }
+    requires idle { IsIdle seat }
+    ensures own { IsSeatOf (λ (t : Tally). t.name) gate.now result }
+    ensures idle { IsIdle result }
+{
+    let mut seat = seat;
+    let other = gate.split(&mut seat);
+    let (one, other) = join(
+        rt,
+        move ||
+            requires { IsSeatOf (λ (t : Tally). t.name) gate.now seat × IsIdle seat }
+        { add_often_in_two(rt, gate, seat, times) },
+        move ||
+            requires { IsSeatOf (λ (t : Tally). t.name) gate.now other × IsIdle other }
+        { add_often_in_two(rt, gate, other, times) },
+    );
+    let mut one = one;
+    gate.join(&mut one, other);
+    one
+}
+
+// Where no wake follows a turn, some thread sleeps for ever, and the test does not end.
+#[test]
+fn each_sleeper_is_woken(rt: HostRuntime) -> Result<(), Fail> {
+    let (gate, seat) = Turnstile::open(rt.alloc(), empty(1))?;
+    let seat = add_often_in_four(&rt, &gate, seat, 2000);
+    let tally = gate.close(seat).ok_or("the turn is free")?;
+    assert_eq!(rt; (tally.total, tally.count), (8000, 8000));
     Ok(())
 }

@@ -27,6 +27,11 @@ pub struct View<E, K> {
     pub met: LinkedList<(u64, E)>,
     /// How many seats were split off it.
     pub splits: u64,
+    /// The levels of the seats that it is made of, its own first. The first seat has level 0, and a seat that
+    /// is split off another has one more than that one. A seat that was joined to another has none.
+    pub levels: LinkedList<u64>,
+    /// The levels of the seats that were split off the seats that it is made of.
+    pub children: LinkedList<u64>,
     /// What both seats had seen at each join, the last join first.
     pub olds: LinkedList<LinkedList<E>>,
 }

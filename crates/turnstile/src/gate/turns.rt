@@ -18,7 +18,7 @@ use std::sync::Wait;
 const MOST: u64 = u64::MAX - 1;
 
 impl<T: Stands> Turnstile<T> {
-    /// Waits for the turn: it spins a little, and then yields the processor between tries.
+    /// Waits for the turn: it spins a little, and then sleeps until a turn ends.
     pub fn take<'a, R: Wait>(&'a self, rt: &R, seat: &'a mut Seat<T>) -> Turn<'a, T>
         requires { IsSeatOf T.setting self.now seat.old }
         ensures borrows { result.seat.ghost_name ≡ seat.entry.ghost_name }
@@ -29,6 +29,7 @@ impl<T: Stands> Turnstile<T> {
         ensures value { HasValue T.setting T.stands result.seat.now }
     {
         let backoff = Backoff::new();
+        let mut spun = 0;
         for _ in rt.forever() {
             if self.try_acquire(seat) {
                 let count = self.observe(seat);
@@ -40,8 +41,9 @@ impl<T: Stands> Turnstile<T> {
                     };
                 }
                 self.release(seat);
+                self.wake();
             }
-            backoff.snooze();
+            spun = self.pause(rt, &backoff, spun);
         }
         unreachable!()
     }
@@ -81,5 +83,6 @@ impl<T: Stands> Turn<'_, T> {
         turnstile.append_any::<M>(seat, value.entries() - count);
         turnstile.put_in(seat, value);
         turnstile.release(seat);
+        turnstile.wake();
     }
 }
