@@ -1,3 +1,4 @@
 pub mod Dialogue
 pub mod EndLaw
 pub mod Round
+pub mod Visit

@@ -1,5 +1,5 @@
 //! The buffers for a connection's requests, and the requests that are taken into them.
-ghost use Rattle.std.specs.Prelude.{◌≡◌, ◌+◌, ◌<◌, ◌^◌, [], IfOk};
+ghost use Rattle.std.specs.Prelude.{◌≡◌, ◌==◌, ◌+◌, ◌<◌, ◌^◌, [], length, IfOk};
 ghost use Rattle.http_message.specs.Taken.{IsTaken, WaitsForNone, item_limit};
 
 use crate::buffers::Buffers;
@@ -57,8 +57,31 @@ impl RequestRoom {
         ensures bytes { self.new.bytes ≡ [] }
         ensures offset { self.new.offset ≡ 0 }
     {
+        self.resume(0);
+    }
+
+    /// Drops what is left, for a connection of which this number of bytes was used already and no other
+    /// was taken.
+    pub fn resume(&mut self, offset: usize)
+        ensures bytes { self.new.bytes ≡ [] }
+        ensures offset { self.new.offset ≡ offset }
+    {
         self.buffers.clear();
-        self.offset = 0;
+        self.offset = offset;
+    }
+
+    /// Whether no byte is held.
+    pub fn is_empty(&self) -> bool
+        ensures { result ≡ (length self.now.bytes == 0) }
+    {
+        self.buffers.input.len() == 0
+    }
+
+    /// The number of bytes that were used.
+    pub fn offset(&self) -> usize
+        ensures { result ≡ self.now.offset }
+    {
+        self.offset
     }
 }
 

@@ -335,6 +335,14 @@ impl Source for Patient<'_> {
         into[..count].copy_from_slice(&piece[..count]);
         Ok(count)
     }
+
+    fn begin(&mut self, _held: bool) {}
+
+    fn is_ready(&mut self) -> bool {
+        true
+    }
+
+    fn wait(&mut self) {}
 }
 
 /// Holds a dialogue over these pieces. How it was served, and how many bytes were given.

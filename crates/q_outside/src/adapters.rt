@@ -38,6 +38,14 @@ impl<R: Read + Drop> Source for ReadSource<R> {
             Err(_) => Ok(0),
         }
     }
+
+    fn begin(&mut self, _held: bool) {}
+
+    fn is_ready(&mut self) -> bool {
+        true
+    }
+
+    fn wait(&mut self) {}
 }
 
 /// The sink over a writer of std, such as standard output.

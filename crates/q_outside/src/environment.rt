@@ -20,6 +20,20 @@ pub trait Source {
     fn take(&mut self, into: &mut [u8]) -> Result<usize, Failed>
         requires { 0 < length into.old }
         ensures { Took (at self.old) (at self.new) into.new result };
+
+    /// A new request begins, of which bytes were taken already where `held` says so. A source with limits
+    /// of time begins to count.
+    fn begin(&mut self, held: bool)
+        ensures { at self.new ≡ at self.old };
+
+    /// Whether a byte or the end is there now. Either answer is right, and is of no effect on what is
+    /// served: it says whether a connection goes on at once, or gives its buffers back and waits.
+    fn is_ready(&mut self) -> bool
+        ensures { at self.new ≡ at self.old };
+
+    /// Returns when bytes, the end or a limit of time is there.
+    fn wait(&mut self)
+        ensures { at self.new ≡ at self.old };
 }
 
 /// Where bytes go to.

@@ -32,6 +32,14 @@ impl Source for PlainSource {
         self.at += taken;
         Ok(taken)
     }
+
+    fn begin(&mut self, _held: bool) {}
+
+    fn is_ready(&mut self) -> bool {
+        true
+    }
+
+    fn wait(&mut self) {}
 }
 
 /// A source over bytes in memory. A script says which calls fail and how much the others give. It shows
@@ -79,6 +87,14 @@ impl Source for ListSource {
         self.at += taken;
         Ok(taken)
     }
+
+    fn begin(&mut self, _held: bool) {}
+
+    fn is_ready(&mut self) -> bool {
+        true
+    }
+
+    fn wait(&mut self) {}
 }
 
 /// Copies at most `most` bytes from an offset on to the start of the buffer and returns their number.

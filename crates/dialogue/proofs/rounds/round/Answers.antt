@@ -1,6 +1,6 @@
 -- an item was taken, and then answered
 use Rattle.dialogue.proofs.RoundLemmas.{round_of_request, round_of_unframed}
-use Rattle.dialogue.proofs.dialogue.round.Goals as goal
+use Rattle.dialogue.proofs.rounds.round.Goals as goal
 
 pub returns-in-Request-clause-round : goal.returns-in-Request-clause-round
 returns-in-Request-clause-round g c =
