@@ -3,4 +3,5 @@ mod ConversationLemmas
 mod DeterminedLemmas
 mod PrefixLemmas
 mod TextLemmas
+mod VisitLemmas
 mod WellLemmas

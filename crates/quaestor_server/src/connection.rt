@@ -1,5 +1,5 @@
 //! One connection to a desk: each item is answered by one entry of the desk's history.
-ghost use Rattle.std.specs.Prelude.{◌≡◌, ℕ, List, IfOk};
+ghost use Rattle.std.specs.Prelude.{◌≡◌, ℕ, true, List, IfOk};
 ghost use Rattle.http_front.specs.Routes.{all_routes};
 ghost use Rattle.hub_core.specs.PageRoom.{IsRoomFor};
 ghost use Rattle.hub_model.specs.Legal.{IsLegal};
@@ -17,16 +17,21 @@ use q_doc::ReadBuffer;
 use q_outside::{Clock, Served, Sink, Source};
 use std::alloc::Global;
 
-/// The buffers of one connection, made once, and the routes, which are all that there are.
+/// The buffers of one connection, made once, and the routes, which are all that there are. The sizes
+/// of its pages are kept, so that a room can be asked for which hubs it was made.
 #[derive(Drop)]
 pub struct Room {
-    requests: RequestRoom,
-    routes: Routes,
-    documents: ReadBuffer,
-    reply: ReplyRoom,
+    pub(crate) requests: RequestRoom,
+    pub(crate) routes: Routes,
+    pub(crate) documents: ReadBuffer,
+    pub(crate) reply: ReplyRoom,
     /// The buffer for the pages that are fetched.
     pub pages: PageRoom,
+    log2_bits: u8,
+    hashes: u8,
     ghost all: { routes ≡ all_routes },
+    ghost bits_size: { pages.log2_bits ≡ log2_bits },
+    ghost hashes_size: { pages.hashes ≡ hashes },
 }
 
 impl Room {
@@ -40,12 +45,22 @@ impl Room {
             documents: ReadBuffer::new(alloc),
             reply: ReplyRoom::new(alloc)?,
             pages: PageRoom::new(alloc, config)?,
+            log2_bits: config.log2_bits(),
+            hashes: config.hashes(),
         })
+    }
+
+    /// Whether it serves a hub of this configuration.
+    pub fn is_for(&self, config: &Config) -> bool
+        ensures { result ≡ true → IsRoomFor config.now self.now.pages }
+    {
+        self.log2_bits == config.log2_bits() && self.hashes == config.hashes()
     }
 }
 
-/// Serves one connection to its end. A request for which there is no memory is answered 503, makes no
-/// entry, and the connection goes on. The sink is not ended: its owner does that.
+/// Serves one connection to its end, with the same buffers throughout. A request for which there is no
+/// memory is answered 503, makes no entry, and the connection goes on. The sink is not ended: its owner
+/// does that.
 pub fn serve_connection<D: Desk, S: Source, K: Sink, C: Clock>(
     alloc: Global,
     desk: &mut D,

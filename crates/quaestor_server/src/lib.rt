@@ -5,6 +5,7 @@ mod answer;
 mod connection;
 mod laws;
 mod responder;
+mod visits;
 
 pub use connection::{Room, serve_connection};
 pub use dialogue::{
@@ -21,3 +22,4 @@ pub use laws::{
     bytes_and_moments_determine_the_texts, own_entries_are_in_place, owned_histories_are_alone,
     well_served_stays,
 };
+pub use visits::{Rooms, serve_visits};
