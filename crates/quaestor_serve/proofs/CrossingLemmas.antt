@@ -82,7 +82,9 @@ use Rattle.hub_desk.specs.contracts.hub_value.HubValueStands.TheImpl as TheStand
 use Rattle.hub_desk.specs.contracts.hub_value.Noted as Noted
 use Rattle.quaestor_server.specs.contracts.connection.Room as Room
 use Rattle.quaestor_serve.specs.contracts.begun.Done as Done
+use Rattle.quaestor_serve.specs.contracts.endings.Endings as Endings
 use Rattle.quaestor_serve.specs.contracts.matcher.Rested as Rested
+use Rattle.quaestor_serve.specs.contracts.pool.Pool as Pool
 use Rattle.quaestor_serve.specs.contracts.stop.Stop as Stop
 
 pub doc_send : IsSend Doc.the_row
@@ -234,6 +236,9 @@ shared_turnstile_send = search (turnstile_send, turnstile_sync, crosses, sendabl
 pub shared_stop_send : IsSend (SharedRow Stop.the_row)
 shared_stop_send = search (crosses, sendable) depth 60 fits 20000
 
+pub shared_endings_send : IsSend (SharedRow Endings.the_row)
+shared_endings_send = search (crosses, sendable) depth 60 fits 20000
+
 pub tree_send : IsSend Tree.the_row
 tree_send = search (TheTree.crosses, crosses, sendable) depth 60 fits 20000
 
@@ -246,19 +251,22 @@ routes_send = search (router_send, crosses, sendable) depth 60 fits 20000
 pub room_send : IsSend Room.the_row
 room_send = search (TheRequests.the_send, routes_send, TheReply.the_send, ThePages.the_send, crosses, sendable) depth 60 fits 20000
 
+pub shared_pool_send : IsSend (SharedRow Pool.the_row)
+shared_pool_send = search (room_send, crosses, sendable) depth 60 fits 20000
+
 -- what a matcher leaves, and what a connection leaves
 pub rested_send : (C : RattleType) → IsSend C → IsSend (Rested.the_row C)
 rested_send C clock = search (seat_send, crosses, sendable) depth 60 fits 20000
 
 pub done_send : (S K : RattleType) → IsSend S → IsSend K → IsSend (Done.the_row S K)
-done_send S K source sink = declared_send (Done.the_type S K) (seat_send, (as_row_send (row_field S) source, (as_row_send (row_field K) sink, (room_send, (TheServed.the_send, tt)))))
+done_send S K source sink = declared_send (Done.the_type S K) (seat_send, (as_row_send (row_field S) source, (as_row_send (row_field K) sink, (TheServed.the_send, tt))))
 
 -- what a matcher's thread gets, and what a connection's thread gets; the name is that of a closure
 pub matcher_send : (name : Sym) (R C : RattleType) → IsSend R → IsSend C → IsSend (TupleAt name (R ∷ SharedRow TurnstileRow ∷ SeatRow ∷ C ∷ SharedRow Stop.the_row ∷ []))
 matcher_send name R C handle clock = search (shared_turnstile_send, seat_send, shared_stop_send, crosses, sendable) depth 60 fits 20000
 
-pub connection_send : (name : Sym) (R G S K C : RattleType) → IsSend R → IsSend G → IsSend S → IsSend K → IsSend C → IsSend (TupleAt name (R ∷ Global.the_row ∷ SharedRow TurnstileRow ∷ G ∷ UInt w32 ∷ SeatRow ∷ S ∷ K ∷ C ∷ Room.the_row ∷ []))
-connection_send name R G S K C handle gate source sink clock = search (shared_turnstile_send, seat_send, room_send, crosses, sendable) depth 60 fits 20000
+pub connection_send : (name : Sym) (R G S K C : RattleType) → IsSend R → IsSend G → IsSend S → IsSend K → IsSend C → IsSend (TupleAt name (R ∷ Global.the_row ∷ SharedRow TurnstileRow ∷ SharedRow Endings.the_row ∷ G ∷ UInt w32 ∷ SeatRow ∷ S ∷ K ∷ C ∷ SharedRow Pool.the_row ∷ []))
+connection_send name R G S K C handle gate source sink clock = search (shared_turnstile_send, shared_endings_send, shared_pool_send, seat_send, crosses, sendable) depth 60 fits 20000
 
 -- what is let go of as a parameter, of a type that may cross threads, leaves nothing that may not
 pub leaves : (i : ℕ) (R : RattleType) → IsSend R → (k : Kept) → Quiet (if_kept (k (of_param i)) (R.exit no) unseen)

@@ -1,7 +1,10 @@
 -- What a server has done after one step more.
-use Rattle.std.proofs.Common.{◌≡◌, ℕ, ◌+◌, ◌<◌, ◌≤◌, List, [], ◌∷◌, ◌++◌, map, length, Option, Some, None, IfSome, sym, ap, ◌∙◌, subst, arith, append-nil, append_assoc, length-append}
+use Rattle.std.proofs.Common.{◌≡◌, ℕ, ◌+◌, ◌<◌, ◌≤◌, List, [], ◌∷◌, ◌++◌, map, length, Option, Some, None, IfSome, refl, sym, ap, ◌∙◌, subst, arith, append-nil, append_assoc, length-append}
+use Rattle.std.specs.Arc.{arc_value}
 use Rattle.std.specs.List.{flat_map}
+use Rattle.std.specs.List.Sorted.{IsPermutation}
 use Rattle.std.proofs.lemmas.List.{map-append}
+use Rattle.std.proofs.lemmas.List.Sorted.{IsPermutation-refl, IsPermutation-sym, IsPermutation-cons, IsPermutation-to_front, IsPermutation-map, IsPermutation-append_left, IsPermutation-append_right, IsPermutation-middle, IsPermutation-trans}
 use Rattle.std.proofs.lemmas.Grind.{flat_map-append}
 use Rattle.hub_model.specs.declared.entry.Entry.{Entry}
 use Rattle.hub_model.specs.Setting.{Setting}
@@ -13,18 +16,19 @@ use Rattle.q_outside.proofs.DoorLemmas.{passed_nothing, passed_both}
 use Rattle.quaestor_serve.specs.declared.begun.Begun.{Begun}
 use Rattle.quaestor_serve.specs.declared.hall.Hall.{Hall}
 use Rattle.quaestor_serve.specs.declared.running.Running.{Running}
-use Rattle.quaestor_serve.specs.Going.{Going, began_with}
-use Rattle.quaestor_serve.specs.Halls.{begun_in, setting_in, seen_in, met_in, Stays, Admits, Releases}
+use Rattle.quaestor_serve.specs.Going.{Going, HaveRoom, HandsBack, began_with}
+use Rattle.quaestor_serve.specs.Halls.{begun_in, setting_in, seen_in, met_in, IsReady, Stays, Releases}
 use Rattle.quaestor_serve.specs.Kept.{setting_at}
 use Rattle.quaestor_serve.specs.Matchers.{IsAsBefore}
-use Rattle.quaestor_serve.specs.Running.{begun_of}
+use Rattle.quaestor_serve.specs.Running.{begun_of, HasBegun}
 use Rattle.quaestor_serve.specs.Visits.{Visit, given_of, back_of, own_of, IsWell}
 use Rattle.turnstile.specs.Places.{AllOf, Distinct}
 use Rattle.turnstile.proofs.PlaceLemmas.{all_append}
-use Rattle.quaestor_serve.proofs.VisitLemmas.{all_stay}
+use Rattle.quaestor_serve.proofs.OrderLemmas.{all_permuted, moves_behind, comes_waiting, waits_no_longer}
+use Rattle.quaestor_serve.proofs.VisitLemmas.{all_stay, some_least}
 
 -- no memory need be kept for none
-pub room_for_none : {X : Type 0} (away : Option ℕ) (items : List X) → items ≡ [] → IfSome away (λ n. length items ≤ n)
+pub room_for_none : {X : Type 0} (away : Option ℕ) (items : List X) → items ≡ [] → IfSome away (λ n. length items + 0 ≤ n)
 room_for_none None items none = tt
 room_for_none (Some n) items none = let size = ap length none in omega (arith, size)
 
@@ -37,52 +41,64 @@ away_still (Some b) (Some m) given handed n k c less room =
     let same : m ≡ c.0 = let e = c.1 in cc in
     omega (arith, same, c.2, less, room)
 
+module _ {S K C : Type 0} where
+  -- the doors keep memory for one more that came
+  pub room_for_one : (old new : DoorsView S K) (h : Hall S K C) (p : S × K) → Passes old new (p ∷ []) [] 0 → HaveRoom old h 0 → HaveRoom new h 1
+  room_for_one old new h p passed room = away_still old.away new.away 1 0 (length h.running.items + 0) (length h.running.items + 1) passed.away (omega arith) room
+
+  -- and for as many as before where none came
+  pub room_as_before : (old new : DoorsView S K) (h : Hall S K C) (closed : ℕ) → Passes old new [] [] closed → HaveRoom old h 0 → HaveRoom new h 0
+  room_as_before old new h closed passed room = away_still old.away new.away 0 0 (length h.running.items + 0) (length h.running.items + 0) passed.away (omega arith) room
+
+  -- the one that came is served
+  pub room_with : (away : Option ℕ) (old new : List (Running S K C)) (r : Running S K C) → new ≡ old ++ r ∷ [] → IfSome away (λ n. length old + 1 ≤ n) → IfSome away (λ n. length new + 0 ≤ n)
+  room_with away old new r more room =
+      let longer : length new ≡ length old + 1 = ap length more ∙ length-append old (r ∷ []) in
+      some_least away (length old + 1) (length new + 0) (omega (arith, longer)) room
+
 module _ {S K C : Type 0} (source_at : S → End) (sink_at : K → End) (tick : C → ℕ → C → Type 0) (may : C → Type 0) where
-  -- the oldest connection was handed back
-  pub goes_back : (first old new : DoorsView S K) (h l : Hall S K C) (count closed : ℕ) (source : S) (sink : K) (served : Served) → Stays h l → Releases source_at sink_at tick h l source sink served → Passes old new [] (record { source = source; sink = sink; served = Some served } ∷ []) 0 → Going source_at sink_at tick may first old h count closed → Going source_at sink_at tick may first new l count closed
-  goes_back first old new h l count closed source sink served same r passed going =
+  -- a connection was handed back
+  pub goes_back : (first old new : DoorsView S K) (h l : Hall S K C) (waiting : List (S × K)) (count closed : ℕ) (source : S) (sink : K) (served : Served) → Stays h l → Releases source_at sink_at tick h l source sink served → Passes old new [] (record { source = source; sink = sink; served = Some served } ∷ []) 0 → Going source_at sink_at tick may first old h waiting count closed → Going source_at sink_at tick may first new l waiting count closed
+  goes_back first old new h l waiting count closed source sink served same r passed going =
       let visit : Visit S K = record { source = r.begun.source.value; sink = r.begun.sink.value; source_left = source; sink_left = sink; served = served; own = r.own } in
       let setting : setting_in l ≡ setting_in h = ap setting_at same.0 in
-      let before = map given_of going.visits in
-      let others = map began_with (begun_in l) in
-      let came : map began_with (begun_in h) ≡ given_of visit ∷ others = ap (λ (bs : List (Begun S K C)). map began_with bs) r.begins in
-      let behind : map given_of (going.visits ++ visit ∷ []) ≡ before ++ given_of visit ∷ [] = map-append given_of going.visits (visit ∷ []) in
-      let given : (before ++ map began_with (begun_in h)) ++ [] ≡ map given_of (going.visits ++ visit ∷ []) ++ others =
-      append-nil (before ++ map began_with (begun_in h)) ∙ ap (λ (xs : List (S × K)). before ++ xs) came ∙ sym (append_assoc before (given_of visit ∷ []) others) ∙ ap (λ (xs : List (S × K)). xs ++ others) (sym behind) in
+      let behind : map given_of (going.visits ++ visit ∷ []) ≡ map given_of going.visits ++ given_of visit ∷ [] = map-append given_of going.visits (visit ∷ []) in
+      let left : IsPermutation (map began_with (begun_in h)) (given_of visit ∷ map began_with (begun_in l)) = IsPermutation-map began_with (begun_in h) (r.begun ∷ begun_in l) r.leaves in
+      let moved : IsPermutation going.came ((map given_of going.visits ++ given_of visit ∷ []) ++ (waiting ++ map began_with (begun_in l))) =
+      moves_behind going.came (map given_of going.visits) waiting (map began_with (begun_in h)) (map began_with (begun_in l)) (given_of visit) going.came_are left in
       let handed : map back_of (going.visits ++ visit ∷ []) ≡ map back_of going.visits ++ back_of visit ∷ [] = map-append back_of going.visits (visit ∷ []) in
-      let both : Passes first new ((before ++ map began_with (begun_in h)) ++ []) (map back_of going.visits ++ back_of visit ∷ []) (closed + 0) = passed_both first old new (before ++ map began_with (begun_in h)) [] (map back_of going.visits) (back_of visit ∷ []) closed 0 going.passed passed in
+      let both : Passes first new (going.came ++ []) (map back_of going.visits ++ back_of visit ∷ []) (closed + 0) = passed_both first old new going.came [] (map back_of going.visits) (back_of visit ∷ []) closed 0 going.passed passed in
       let none : closed + 0 ≡ closed = omega arith in
-      let count_still : length (going.visits ++ visit ∷ []) + length (begun_in l) ≡ count =
-      let more : length (going.visits ++ visit ∷ []) ≡ length going.visits + 1 = length-append going.visits (visit ∷ []) in
-      let one = ap length r.begins in
-      let is = going.count_is in
-      omega (arith, more, one, is) in
+      let allowed = all_permuted (λ b. may b.clock.value) (begun_in h) (r.begun ∷ begun_in l) r.leaves going.clocks in
       record {
+        came = going.came;
         visits = going.visits ++ visit ∷ [];
-        passed = subst (λ (n : ℕ). Passes first new (map given_of (going.visits ++ visit ∷ []) ++ others) (map back_of (going.visits ++ visit ∷ [])) n) none
-            (subst (λ (xs : List (Back S K)). Passes first new (map given_of (going.visits ++ visit ∷ []) ++ others) xs (closed + 0)) (sym handed)
-            (subst (λ (xs : List (S × K)). Passes first new xs (map back_of going.visits ++ back_of visit ∷ []) (closed + 0)) given both));
+        came_are = subst (λ (xs : List (S × K)). IsPermutation going.came (xs ++ (waiting ++ map began_with (begun_in l)))) (sym behind) moved;
+        passed = subst (λ (n : ℕ). Passes first new going.came (map back_of (going.visits ++ visit ∷ [])) n) none
+            (subst (λ (xs : List (Back S K)). Passes first new going.came xs (closed + 0)) (sym handed)
+            (subst (λ (xs : List (S × K)). Passes first new xs (map back_of going.visits ++ back_of visit ∷ []) (closed + 0)) (append-nil going.came) both));
         each = all_append (IsWell source_at sink_at tick may (setting_in l) (seen_in l)) going.visits (visit ∷ [])
             (all_stay source_at sink_at tick may (setting_in l) (seen_in h) (seen_in l) going.visits r.grew (subst (λ (g : Setting). AllOf (IsWell source_at sink_at tick may g (seen_in h)) going.visits) (sym setting) going.each))
-            ((r.begun.clock.value, (subst (λ (bs : List (Begun S K C)). AllOf (λ b. may b.clock.value) bs) r.begins going.clocks).0, r.is_served), tt);
+            ((r.begun.clock.value, allowed.0, r.is_served), tt);
         met =
             let all : flat_map own_of (going.visits ++ visit ∷ []) ≡ flat_map own_of going.visits ++ (r.own ++ []) = flat_map-append own_of going.visits (visit ∷ []) in
             let own : r.own ++ [] ≡ r.own = append-nil r.own in
             r.met ∙ ap (λ (xs : List (ℕ × Entry)). xs ++ r.own) going.met ∙ ap (λ (xs : List (ℕ × Entry)). flat_map own_of going.visits ++ xs) (sym own) ∙ sym all;
         once = r.once;
-        count_is = count_still;
-        clocks = (subst (λ (bs : List (Begun S K C)). AllOf (λ b. may b.clock.value) bs) r.begins going.clocks).1;
+        count_is = going.count_is;
+        clocks = allowed.1;
       }
 
   -- the doors gave no connection
-  pub goes_on : (first old new : DoorsView S K) (h : Hall S K C) (count closed more : ℕ) → Passes old new [] [] more → Going source_at sink_at tick may first old h count closed → Going source_at sink_at tick may first new h count (closed + more)
-  goes_on first old new h count closed more passed going =
-      let given = map given_of going.visits ++ map began_with (begun_in h) in
+  pub goes_on : (first old new : DoorsView S K) (h : Hall S K C) (waiting : List (S × K)) (count closed more : ℕ) → Passes old new [] [] more → Going source_at sink_at tick may first old h waiting count closed → Going source_at sink_at tick may first new h waiting count (closed + more)
+  goes_on first old new h waiting count closed more passed going =
       let handed = map back_of going.visits in
-      let both : Passes first new (given ++ []) (handed ++ []) (closed + more) = passed_both first old new given [] handed [] closed more going.passed passed in
+      let both : Passes first new (going.came ++ []) (handed ++ []) (closed + more) = passed_both first old new going.came [] handed [] closed more going.passed passed in
       record {
+        came = going.came;
         visits = going.visits;
-        passed = subst (λ (xs : List (S × K)). Passes first new xs handed (closed + more)) (append-nil given) (subst (λ (xs : List (Back S K)). Passes first new (given ++ []) xs (closed + more)) (append-nil handed) both);
+        came_are = going.came_are;
+        passed = subst (λ (xs : List (S × K)). Passes first new xs handed (closed + more)) (append-nil going.came) (subst (λ (xs : List (Back S K)). Passes first new (going.came ++ []) xs (closed + more)) (append-nil handed) both);
         each = going.each;
         met = going.met;
         once = going.once;
@@ -90,58 +106,121 @@ module _ {S K C : Type 0} (source_at : S → End) (sink_at : K → End) (tick : 
         clocks = going.clocks;
       }
 
-  -- a connection came in
-  pub goes_in : (first old new : DoorsView S K) (h l : Hall S K C) (count : ℕ) (source : S) (sink : K) (clock : C) → Stays h l → Admits h l source sink clock → may clock → Passes old new ((source, sink) ∷ []) [] 0 → Going source_at sink_at tick may first old h count 0 → Going source_at sink_at tick may first new l (count + 1) 0
-  goes_in first old new h l count source sink clock same a allowed passed going =
-      let setting : setting_in l ≡ setting_in h = ap setting_at same.0 in
-      let given = map given_of going.visits in
-      let before = map began_with (begun_in h) in
+  -- a connection came, and waits for a thread
+  pub comes : (first old new : DoorsView S K) (h : Hall S K C) (count : ℕ) (source : S) (sink : K) → Passes old new ((source, sink) ∷ []) [] 0 → Going source_at sink_at tick may first old h [] count 0 → Going source_at sink_at tick may first new h ((source, sink) ∷ []) (count + 1) 0
+  comes first old new h count source sink passed going =
       let handed = map back_of going.visits in
-      let pair : began_with a.begun ≡ (source, sink) = ap (λ (s : S). (s, a.begun.sink.value)) a.with_these.1 ∙ ap (λ (k : K). (source, k)) a.with_these.2 in
-      let now : map began_with (begun_in l) ≡ before ++ (source, sink) ∷ [] =
-      ap (λ (bs : List (Begun S K C)). map began_with bs) a.begins ∙ map-append began_with (begun_in h) (a.begun ∷ []) ∙ ap (λ (p : S × K). before ++ p ∷ []) pair in
-      let all : (given ++ before) ++ (source, sink) ∷ [] ≡ given ++ map began_with (begun_in l) = append_assoc given before ((source, sink) ∷ []) ∙ ap (λ (xs : List (S × K)). given ++ xs) (sym now) in
-      let both : Passes first new ((given ++ before) ++ (source, sink) ∷ []) (handed ++ []) (0 + 0) = passed_both first old new (given ++ before) ((source, sink) ∷ []) handed [] 0 0 going.passed passed in
-      let one : length (begun_in l) ≡ length (begun_in h) + 1 = ap length a.begins ∙ length-append (begun_in h) (a.begun ∷ []) in
+      let both : Passes first new (going.came ++ (source, sink) ∷ []) (handed ++ []) (0 + 0) = passed_both first old new going.came ((source, sink) ∷ []) handed [] 0 0 going.passed passed in
       record {
+        came = going.came ++ (source, sink) ∷ [];
         visits = going.visits;
-        passed = subst (λ (xs : List (S × K)). Passes first new xs handed 0) all (subst (λ (xs : List (Back S K)). Passes first new ((given ++ before) ++ (source, sink) ∷ []) xs 0) (append-nil handed) both);
-        each = subst (λ (g : Setting). AllOf (IsWell source_at sink_at tick may g (seen_in l)) going.visits) (sym setting) (subst (λ (s : List Entry). AllOf (IsWell source_at sink_at tick may (setting_in h) s) going.visits) (sym a.seen) going.each);
-        met = a.met ∙ going.met;
-        once = subst (λ (ps : List (ℕ × Entry)). Distinct ps) (sym a.met) going.once;
-        count_is = (let is = going.count_is in omega (arith, one, is));
-        clocks = subst (λ (bs : List (Begun S K C)). AllOf (λ b. may b.clock.value) bs) (sym a.begins) (all_append (λ b. may b.clock.value) (begun_in h) (a.begun ∷ []) going.clocks (subst may (sym a.with_these.3) allowed, tt));
+        came_are = comes_waiting going.came (map given_of going.visits) (map began_with (begun_in h)) (source, sink) going.came_are;
+        passed = subst (λ (xs : List (Back S K)). Passes first new (going.came ++ (source, sink) ∷ []) xs 0) (append-nil handed) both;
+        each = going.each;
+        met = going.met;
+        once = going.once;
+        count_is = length-append going.came ((source, sink) ∷ []) ∙ ap (λ (n : ℕ). n + 1) going.count_is;
+        clocks = going.clocks;
+      }
+
+  -- it has a thread
+  pub goes_in : (first now : DoorsView S K) (h l : Hall S K C) (r : Running S K C) (count : ℕ) (source : S) (sink : K) (clock : C) → arc_value l.turnstile ≡ arc_value h.turnstile → l.running.items ≡ h.running.items ++ r ∷ [] → (begun_of r).source.value ≡ source → (begun_of r).sink.value ≡ sink → (begun_of r).clock.value ≡ clock → seen_in l ≡ seen_in h → met_in l ≡ met_in h → may clock → Going source_at sink_at tick may first now h ((source, sink) ∷ []) count 0 → Going source_at sink_at tick may first now l [] count 0
+  goes_in first now h l r count source sink clock same more source_is sink_is clock_is seen_same met_same allowed going =
+      let setting : setting_in l ≡ setting_in h = ap setting_at same in
+      let given = map given_of going.visits in
+      let begins : begun_in l ≡ begun_in h ++ begun_of r ∷ [] = ap (λ (rs : List (Running S K C)). map begun_of rs) more ∙ map-append begun_of h.running.items (r ∷ []) in
+      let pair : began_with (begun_of r) ≡ (source, sink) = ap (λ (s : S). (s, (begun_of r).sink.value)) source_is ∙ ap (λ (k : K). (source, k)) sink_is in
+      let now_with : map began_with (begun_in l) ≡ map began_with (begun_in h) ++ (source, sink) ∷ [] =
+      ap (λ (bs : List (Begun S K C)). map began_with bs) begins ∙ map-append began_with (begun_in h) (begun_of r ∷ []) ∙ ap (λ (p : S × K). map began_with (begun_in h) ++ p ∷ []) pair in
+      record {
+        came = going.came;
+        visits = going.visits;
+        came_are = subst (λ (xs : List (S × K)). IsPermutation going.came (given ++ xs)) (sym now_with) (waits_no_longer going.came given (map began_with (begun_in h)) (source, sink) going.came_are);
+        passed = going.passed;
+        each = subst (λ (g : Setting). AllOf (IsWell source_at sink_at tick may g (seen_in l)) going.visits) (sym setting) (subst (λ (s : List Entry). AllOf (IsWell source_at sink_at tick may (setting_in h) s) going.visits) (sym seen_same) going.each);
+        met = met_same ∙ going.met;
+        once = subst (λ (ps : List (ℕ × Entry)). Distinct ps) (sym met_same) going.once;
+        count_is = going.count_is;
+        clocks = subst (λ (bs : List (Begun S K C)). AllOf (λ b. may b.clock.value) bs) (sym begins) (all_append (λ b. may b.clock.value) (begun_in h) (begun_of r ∷ []) going.clocks (subst may (sym clock_is) allowed, tt));
       }
 
   -- the doors failed
-  pub fails : (first old new : DoorsView S K) (h : Hall S K C) (count : ℕ) → Passes old new [] [] 0 → old.faults < new.faults → Going source_at sink_at tick may first old h count 0 → Going source_at sink_at tick may first new h count 0 × (first.faults < new.faults)
-  fails first old new h count passed rose going = (goes_on first old new h count 0 0 passed going, (let before = going.passed.count in omega (arith, before, rose)))
+  pub fails : (first old new : DoorsView S K) (h : Hall S K C) (count : ℕ) → Passes old new [] [] 0 → old.faults < new.faults → Going source_at sink_at tick may first old h [] count 0 → Going source_at sink_at tick may first new h [] count 0 × (first.faults < new.faults)
+  fails first old new h count passed rose going = (goes_on first old new h [] count 0 0 passed going, (let before = going.passed.count in omega (arith, before, rose)))
 
   -- nothing was done yet
-  pub going_begins : (first : DoorsView S K) (h : Hall S K C) → h.running.items ≡ [] → met_in h ≡ [] → Going source_at sink_at tick may first first h 0 0
+  pub going_begins : (first : DoorsView S K) (h : Hall S K C) → h.running.items ≡ [] → met_in h ≡ [] → Going source_at sink_at tick may first first h [] 0 0
   going_begins first h none met_none =
       let nobody : begun_in h ≡ [] = ap (λ (rs : List (Running S K C)). map begun_of rs) none in
       record {
+        came = [];
         visits = [];
-        passed = subst (λ (bs : List (Begun S K C)). Passes first first (map began_with bs) [] 0) (sym nobody) (passed_nothing first);
+        came_are = subst (λ (bs : List (Begun S K C)). IsPermutation [] (map began_with bs)) (sym nobody) (IsPermutation-refl []);
+        passed = passed_nothing first;
         each = tt;
         met = met_none;
         once = subst (λ (ps : List (ℕ × Entry)). Distinct ps) (sym met_none) tt;
-        count_is = (let size = ap length nobody in omega (arith, size));
+        count_is = refl;
         clocks = subst (λ (bs : List (Begun S K C)). AllOf (λ b. may b.clock.value) bs) (sym nobody) tt;
       }
 
   -- the hall is the same to connections
-  pub going_same : (first now : DoorsView S K) (h l : Hall S K C) (count closed : ℕ) → IsAsBefore h l → Going source_at sink_at tick may first now h count closed → Going source_at sink_at tick may first now l count closed
-  going_same first now h l count closed same going =
+  pub going_same : (first now : DoorsView S K) (h l : Hall S K C) (waiting : List (S × K)) (count closed : ℕ) → IsAsBefore h l → Going source_at sink_at tick may first now h waiting count closed → Going source_at sink_at tick may first now l waiting count closed
+  going_same first now h l waiting count closed same going =
       let begun : begun_in l ≡ begun_in h = ap (λ (rs : List (Running S K C)). map begun_of rs) same.2 in
       let setting : setting_in l ≡ setting_in h = ap setting_at same.0 in
       record {
+        came = going.came;
         visits = going.visits;
-        passed = subst (λ (bs : List (Begun S K C)). Passes first now (map given_of going.visits ++ map began_with bs) (map back_of going.visits) closed) (sym begun) going.passed;
+        came_are = subst (λ (bs : List (Begun S K C)). IsPermutation going.came (map given_of going.visits ++ (waiting ++ map began_with bs))) (sym begun) going.came_are;
+        passed = going.passed;
         each = subst (λ (g : Setting). AllOf (IsWell source_at sink_at tick may g (seen_in l)) going.visits) (sym setting) (subst (λ (s : List Entry). AllOf (IsWell source_at sink_at tick may (setting_in h) s) going.visits) (sym same.4) going.each);
         met = same.3 ∙ going.met;
         once = subst (λ (ps : List (ℕ × Entry)). Distinct ps) (sym same.3) going.once;
-        count_is = ap (λ (bs : List (Begun S K C)). length going.visits + length bs) begun ∙ going.count_is;
+        count_is = going.count_is;
         clocks = subst (λ (bs : List (Begun S K C)). AllOf (λ b. may b.clock.value) bs) (sym begun) going.clocks;
       }
+
+module _ {S K C : Type 0} (source_at : S → End) (sink_at : K → End) (tick : C → ℕ → C → Type 0) (is_clone : C → C → Type 0) where
+  -- none was handed back
+  pub hands_none : (now : DoorsView S K) (h : Hall S K C) → IsReady h → HandsBack source_at sink_at tick is_clone now now h h
+  hands_none now h ready = record {
+    stays = (refl, refl, refl);
+    ready = ready;
+    fewer = omega arith;
+    room = λ more room. room;
+    faults = omega arith;
+    going = λ clock first waiting count closed going. going;
+  }
+
+  -- some were, and then others
+  pub hands_both : (a b c : DoorsView S K) (h i j : Hall S K C) → HandsBack source_at sink_at tick is_clone a b h i → HandsBack source_at sink_at tick is_clone b c i j → HandsBack source_at sink_at tick is_clone a c h j
+  hands_both a b c h i j p q = record {
+    stays = (q.stays.0 ∙ p.stays.0, q.stays.1 ∙ p.stays.1, q.stays.2 ∙ p.stays.2);
+    ready = q.ready;
+    fewer = (let p_fewer = p.fewer in let q_fewer = q.fewer in omega (arith, p_fewer, q_fewer));
+    room = λ more room. q.room more (p.room more room);
+    faults = (let p_faults = p.faults in let q_faults = q.faults in omega (arith, p_faults, q_faults));
+    going = λ clock first waiting count closed going. q.going clock first waiting count closed (p.going clock first waiting count closed going);
+  }
+
+  -- one was
+  pub hands_one : (old new : DoorsView S K) (h l : Hall S K C) (source : S) (sink : K) (served : Served) → Stays h l → IsReady l → length l.running.items + 1 ≡ length h.running.items → Releases source_at sink_at tick h l source sink served → Passes old new [] (record { source = source; sink = sink; served = Some served } ∷ []) 0 → HandsBack source_at sink_at tick is_clone old new h l
+  hands_one old new h l source sink served same ready less r passed = record {
+    stays = same;
+    ready = ready;
+    fewer = omega (arith, less);
+    room = λ more room. away_still old.away new.away 0 1 (length h.running.items + more) (length l.running.items + more) passed.away (omega (arith, less)) room;
+    faults = passed.count;
+    going = λ clock first waiting count closed going. goes_back source_at sink_at tick (is_clone clock) first old new h l waiting count closed source sink served same r passed going;
+  }
+
+  -- memory for those that are served is kept where some were handed back
+  pub room_kept : (a b : DoorsView S K) (h i : Hall S K C) → HandsBack source_at sink_at tick is_clone a b h i → HaveRoom a h 0 → HaveRoom b i 0
+  room_kept a b h i p room = p.room 0 room
+
+-- what a series of connections that are handed back comes to
+pub ruleset handing = (hands_none, hands_both, room_kept)
+
+-- what a call of the doors comes to
+pub ruleset ringing = (comes, goes_on, room_for_one, room_as_before)

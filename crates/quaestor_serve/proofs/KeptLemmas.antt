@@ -1,20 +1,18 @@
 -- What a thread that served a connection leaves.
 use Rattle.std.proofs.Common.{◌≡◌, ℕ, List, [], sym, ap, ◌∙◌, subst}
-use Rattle.hub_core.specs.PageRoom.{IsRoomFor}
 use Rattle.hub_desk.specs.HubValue.{hub_setting}
 use Rattle.hub_model.specs.declared.entry.Entry.{Entry}
 use Rattle.q_outside.specs.Ends.{End, Ticks}
 use Rattle.q_outside.specs.declared.served.Served.{Served}
 use Rattle.quaestor_server.specs.Conversation.{Conversation}
-use Rattle.quaestor_server.specs.declared.connection.Room.{Room}
 use Rattle.quaestor_serve.specs.Kept.{HubTurnstile, HubSeat, IsFreshAt, Kept, setting_at}
 use Rattle.quaestor_serve.specs.Served.{sides_of}
 use Rattle.turnstile.specs.Seats.{IsSeatOf, IsIdle, seen, mine, met}
 use Rattle.turnstile.proofs.Prefixes.{prefix_self}
 
 -- a conversation at a fresh seat was well served; `turn_before` and `before` are the turnstile and the seat of the desk at first, `turn_after` and `after` at last
-pub kept_after : {S K C : Type 0} (source_at : S → End) (sink_at : K → End) (tick : C → ℕ → C → Type 0) (turnstile turn_before turn_after : HubTurnstile) (seat before after last : HubSeat) (source source_left : S) (sink sink_left sink_last : K) (clock late : C) (room : Room) (served : Served) → turn_before ≡ turnstile → before ≡ seat → turn_after ≡ turn_before → met after ≡ met before → last ≡ after → IsSeatOf hub_setting turn_after last → IsIdle last → IsFreshAt turnstile seat → IsRoomFor (setting_at turn_before) room.pages → sink_at sink_last ≡ sink_at sink_left → Conversation (setting_at turn_before) (λ moments. Ticks tick clock moments late) (seen before) (seen after) (mine before) (mine after) (sides_of source_at sink_at source sink) (sides_of source_at sink_at source_left sink_left) served → Kept source_at sink_at tick turnstile source sink clock (record { seat = last; source = source_left; sink = sink_last; room = room; served = served })
-kept_after source_at sink_at tick turnstile turn_before turn_after seat before after last source source_left sink sink_left sink_last clock late room served at here same met_same last_is own idle fresh for ended talk =
+pub kept_after : {S K C : Type 0} (source_at : S → End) (sink_at : K → End) (tick : C → ℕ → C → Type 0) (turnstile turn_before turn_after : HubTurnstile) (seat before after last : HubSeat) (source source_left : S) (sink sink_left sink_last : K) (clock late : C) (served : Served) → turn_before ≡ turnstile → before ≡ seat → turn_after ≡ turn_before → met after ≡ met before → last ≡ after → IsSeatOf hub_setting turn_after last → IsIdle last → IsFreshAt turnstile seat → sink_at sink_last ≡ sink_at sink_left → Conversation (setting_at turn_before) (λ moments. Ticks tick clock moments late) (seen before) (seen after) (mine before) (mine after) (sides_of source_at sink_at source sink) (sides_of source_at sink_at source_left sink_left) served → Kept source_at sink_at tick turnstile source sink clock (record { seat = last; source = source_left; sink = sink_last; served = served })
+kept_after source_at sink_at tick turnstile turn_before turn_after seat before after last source source_left sink sink_left sink_last clock late served at here same met_same last_is own idle fresh ended talk =
     let timed : List ℕ → Type 0 = λ moments. Ticks tick clock moments late in
     let first = sides_of source_at sink_at source sink in
     let none : mine before ≡ [] = ap mine here ∙ fresh.mine in
@@ -26,7 +24,6 @@ kept_after source_at sink_at tick turnstile turn_before turn_after seat before a
       own = subst (λ (t : HubTurnstile). IsSeatOf hub_setting t last) (same ∙ at) own;
       idle = idle;
       met = ap met last_is ∙ met_same ∙ ap met here ∙ fresh.met;
-      room = subst (λ (t : HubTurnstile). IsRoomFor (setting_at t) room.pages) at for;
       served = record {
         moments = whole.moments;
         entered = whole.entered;

@@ -3,5 +3,7 @@ mod GoingLemmas
 mod HallLemmas
 mod KeptLemmas
 mod MatchLemmas
+mod OrderLemmas
+mod RestLemmas
 mod ServesLemmas
 mod VisitLemmas

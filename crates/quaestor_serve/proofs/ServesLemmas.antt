@@ -1,6 +1,9 @@
 -- What a server has done when it ends.
 use Rattle.std.proofs.Common.{◌≡◌, ℕ, ◌<◌, ◌≤◌, List, [], ◌∷◌, ◌++◌, map, length, refl, sym, ap, ◌∙◌, subst, arith, append-nil, append_assoc}
 use Rattle.std.specs.Arc.{arc_value}
+use Rattle.std.specs.List.Sorted.{IsPermutation}
+use Rattle.std.proofs.lemmas.List.{length-map}
+use Rattle.std.proofs.lemmas.List.Sorted.{IsPermutation-refl, length_permutation}
 use Rattle.hub_model.specs.declared.entry.Entry.{Entry}
 use Rattle.hub_model.specs.Legal.{IsLegal}
 use Rattle.hub_model.specs.Setting.{Setting}
@@ -17,14 +20,16 @@ use Rattle.quaestor_serve.specs.declared.serve_end.ServeWhy.TheVariants.{Limit, 
 use Rattle.quaestor_serve.specs.Going.{Going, began_with}
 use Rattle.quaestor_serve.specs.Halls.{begun_in, setting_in, seen_in, met_in}
 use Rattle.quaestor_serve.specs.Kept.{HubTurnstile, setting_at}
-use Rattle.quaestor_serve.specs.Matches.{IsMatching}
-use Rattle.quaestor_serve.specs.Matchers.{WorksAt, WorkIn, Gathers}
+use Rattle.quaestor_serve.specs.declared.matcher.Matcher.TheVariants.{Thread, Here}
+use Rattle.quaestor_serve.specs.Matches.{IsMatched}
+use Rattle.quaestor_serve.specs.Matchers.{HasRested, WorksAt, WorkIn, Gathers}
 use Rattle.quaestor_serve.specs.Running.{begun_of}
 use Rattle.quaestor_serve.specs.Serves.{closings_by, Ends, EndsBy, IsUnbegun, Serves}
 use Rattle.quaestor_serve.specs.Visits.{given_of, back_of, IsWell}
 use Rattle.turnstile.specs.Places.{AllOf, Distinct}
 use Rattle.turnstile.proofs.PlaceLemmas.{all_append}
 use Rattle.turnstile.proofs.Prefixes.{prefix_self, prefix_trans}
+use Rattle.quaestor_serve.proofs.MatchLemmas.{matched_longer}
 use Rattle.quaestor_serve.proofs.VisitLemmas.{all_stay}
 
 module _ {S K : Type 0} where
@@ -50,31 +55,37 @@ pub none_of : {X : Type 0} (size : ℕ) (xs : List X) → size ≡ length xs →
 none_of size [] is none = refl
 none_of size (x ∷ xs) is none = absurd (omega (arith, is, none))
 
-module _ {C : Type 0} where
+module _ {C : Type 0} (tick : C → ℕ → C → Type 0) where
+  -- a matcher whose clock is one that it may have
+  pub works_with : (may : C → Type 0) (clock : C) (given turnstile : HubTurnstile) (m : Matcher C) → given ≡ turnstile → may clock → WorksAt tick (λ c. c ≡ clock) given m → WorksAt tick may turnstile m
+  works_with may clock given turnstile (Thread handle stop) same allowed works = (works.0 ∙ same, subst may (sym works.1) allowed)
+  works_with may clock given turnstile (Here rested) same allowed works = (works.0, subst may (sym works.1) allowed, subst (λ (t : HubTurnstile). HasRested tick t works.0 rested) same works.2)
+
+module _ {C : Type 0} (tick : C → ℕ → C → Type 0) (may : C → Type 0) where
   -- one matcher more works at the turnstile
-  pub work_more : (turnstile : HubTurnstile) (old new : List (Matcher C)) (last : Matcher C) → new ≡ old ++ last ∷ [] → AllOf (λ (m : Matcher C). WorksAt turnstile m) old → WorksAt turnstile last → AllOf (λ (m : Matcher C). WorksAt turnstile m) new
+  pub work_more : (turnstile : HubTurnstile) (old new : List (Matcher C)) (last : Matcher C) → new ≡ old ++ last ∷ [] → AllOf (λ (m : Matcher C). WorksAt tick may turnstile m) old → WorksAt tick may turnstile last → AllOf (λ (m : Matcher C). WorksAt tick may turnstile m) new
   work_more turnstile old new last items work works =
-      subst (λ (ms : List (Matcher C)). AllOf (λ (m : Matcher C). WorksAt turnstile m) ms) (sym items) (all_append (λ (m : Matcher C). WorksAt turnstile m) old (last ∷ []) work (works, tt))
+      subst (λ (ms : List (Matcher C)). AllOf (λ (m : Matcher C). WorksAt tick may turnstile m) ms) (sym items) (all_append (λ (m : Matcher C). WorksAt tick may turnstile m) old (last ∷ []) work (works, tt))
 
   -- the first had its turn, and is behind the others
-  pub work_turned : (turnstile : HubTurnstile) (old left new : List (Matcher C)) (first last : Matcher C) → old ≡ first ∷ left → new ≡ left ++ last ∷ [] → AllOf (λ (m : Matcher C). WorksAt turnstile m) old → WorksAt turnstile last → AllOf (λ (m : Matcher C). WorksAt turnstile m) new
+  pub work_turned : (turnstile : HubTurnstile) (old left new : List (Matcher C)) (first last : Matcher C) → old ≡ first ∷ left → new ≡ left ++ last ∷ [] → AllOf (λ (m : Matcher C). WorksAt tick may turnstile m) old → WorksAt tick may turnstile last → AllOf (λ (m : Matcher C). WorksAt tick may turnstile m) new
   work_turned turnstile old left new first last taken items work works =
-      let all : AllOf (λ (m : Matcher C). WorksAt turnstile m) (first ∷ left) = subst (λ (ms : List (Matcher C)). AllOf (λ (m : Matcher C). WorksAt turnstile m) ms) taken work in
+      let all : AllOf (λ (m : Matcher C). WorksAt tick may turnstile m) (first ∷ left) = subst (λ (ms : List (Matcher C)). AllOf (λ (m : Matcher C). WorksAt tick may turnstile m) ms) taken work in
       work_more turnstile left new last items all.1 works
 
-module _ {S K C : Type 0} where
+module _ {S K C : Type 0} (tick : C → ℕ → C → Type 0) (may : C → Type 0) where
   -- the matchers that are left still work in the hall, once the first has ended
-  pub work_rest : (h l : Hall S K C) (old new : List (Matcher C)) (first : Matcher C) → old ≡ first ∷ new → arc_value l.turnstile ≡ arc_value h.turnstile → WorkIn h old → WorkIn l new
+  pub work_rest : (h l : Hall S K C) (old new : List (Matcher C)) (first : Matcher C) → old ≡ first ∷ new → arc_value l.turnstile ≡ arc_value h.turnstile → WorkIn tick may h old → WorkIn tick may l new
   work_rest h l old new first left same work =
-      let all : AllOf (λ (m : Matcher C). WorksAt (arc_value h.turnstile) m) (first ∷ new) = subst (λ (ms : List (Matcher C)). AllOf (λ (m : Matcher C). WorksAt (arc_value h.turnstile) m) ms) left work in
-      subst (λ (t : HubTurnstile). AllOf (λ (m : Matcher C). WorksAt t m) new) (sym same) all.1
+      let all : AllOf (λ (m : Matcher C). WorksAt tick may (arc_value h.turnstile) m) (first ∷ new) = subst (λ (ms : List (Matcher C)). AllOf (λ (m : Matcher C). WorksAt tick may (arc_value h.turnstile) m) ms) left work in
+      subst (λ (t : HubTurnstile). AllOf (λ (m : Matcher C). WorksAt tick may t m) new) (sym same) all.1
 
   -- so do all, where the turnstile is the same
-  pub work_stays : (h l : Hall S K C) (matchers : List (Matcher C)) → arc_value l.turnstile ≡ arc_value h.turnstile → WorkIn h matchers → WorkIn l matchers
-  work_stays h l matchers same work = subst (λ (t : HubTurnstile). AllOf (λ (m : Matcher C). WorksAt t m) matchers) (sym same) work
+  pub work_stays : (h l : Hall S K C) (matchers : List (Matcher C)) → arc_value l.turnstile ≡ arc_value h.turnstile → WorkIn tick may h matchers → WorkIn tick may l matchers
+  work_stays h l matchers same work = subst (λ (t : HubTurnstile). AllOf (λ (m : Matcher C). WorksAt tick may t m) matchers) (sym same) work
 
   -- no matcher was joined
-  pub gathered_none : (h : Hall S K C) → Gathers h h
+  pub gathered_none : (h : Hall S K C) → Gathers tick may h h
   gathered_none h = record {
     own = [];
     turnstile = refl;
@@ -85,28 +96,32 @@ module _ {S K C : Type 0} where
   }
 
   -- matchers were joined, and then others
-  pub gathered_both : (a b c : Hall S K C) → Gathers a b → Gathers b c → Gathers a c
-  gathered_both a b c p q = record {
-    own = p.own ++ q.own;
-    turnstile = q.turnstile ∙ p.turnstile;
-    grew = prefix_trans (seen_in a) (seen_in b) (seen_in c) p.grew q.grew;
-    met = q.met ∙ ap (λ (l : List (ℕ × Entry)). l ++ q.own) p.met ∙ append_assoc (met_in a) p.own q.own;
-    matching = all_append (λ (e : ℕ × Entry). IsMatching e.1) p.own q.own p.matching q.matching;
-    once = λ once. q.once (p.once once);
-  }
+  pub gathered_both : (a b c : Hall S K C) → Gathers tick may a b → Gathers tick may b c → Gathers tick may a c
+  gathered_both a b c p q =
+      let setting : setting_in c ≡ setting_in b = ap setting_at q.turnstile in
+      record {
+        own = p.own ++ q.own;
+        turnstile = q.turnstile ∙ p.turnstile;
+        grew = prefix_trans (seen_in a) (seen_in b) (seen_in c) p.grew q.grew;
+        met = q.met ∙ ap (λ (l : List (ℕ × Entry)). l ++ q.own) p.met ∙ append_assoc (met_in a) p.own q.own;
+        matching = all_append (IsMatched tick may (setting_in c) (seen_in c)) p.own q.own
+            (matched_longer tick may (setting_in c) (seen_in b) (seen_in c) p.own q.grew (subst (λ (g : Setting). AllOf (IsMatched tick may g (seen_in b)) p.own) (sym setting) p.matching))
+            q.matching;
+        once = λ once. q.once (p.once once);
+      }
 
 module _ {S K C : Type 0} (source_at : S → End) (sink_at : K → End) (tick : C → ℕ → C → Type 0) (may : C → Type 0) where
   -- a cause that was found is the cause
-  pub ended_by : (first now : DoorsView S K) (h : Hall S K C) (count most : ℕ) (why found : ServeWhy) → why ≡ found → Going source_at sink_at tick may first now h count (closings_by found) → EndsBy found first now count most → Going source_at sink_at tick may first now h count (closings_by why) × EndsBy why first now count most
+  pub ended_by : (first now : DoorsView S K) (h : Hall S K C) (count most : ℕ) (why found : ServeWhy) → why ≡ found → Going source_at sink_at tick may first now h [] count (closings_by found) → EndsBy found first now count most → Going source_at sink_at tick may first now h [] count (closings_by why) × EndsBy why first now count most
   ended_by first now h count most why found is going ends = (
-    subst (λ (w : ServeWhy). Going source_at sink_at tick may first now h count (closings_by w)) (sym is) going,
+    subst (λ (w : ServeWhy). Going source_at sink_at tick may first now h [] count (closings_by w)) (sym is) going,
     subst (λ (w : ServeWhy). EndsBy w first now count most) (sym is) ends,
   )
 
   -- a server that did not begin has ended
-  pub ends_none : (first : DoorsView S K) (h : Hall S K C) (most : ℕ) (end : ServeEnd) → 0 < most → IsUnbegun end → Going source_at sink_at tick may first first h 0 0 → Ends source_at sink_at tick may first first h most end
+  pub ends_none : (first : DoorsView S K) (h : Hall S K C) (most : ℕ) (end : ServeEnd) → 0 < most → IsUnbegun end → Going source_at sink_at tick may first first h [] 0 0 → Ends source_at sink_at tick may first first h most end
   ends_none first h most end some unbegun going = (
-    subst (λ (n : ℕ). Going source_at sink_at tick may first first h n (closings_by end.why)) (sym unbegun.0) (subst (λ (n : ℕ). Going source_at sink_at tick may first first h 0 n) (sym (none_closed end unbegun)) going),
+    subst (λ (n : ℕ). Going source_at sink_at tick may first first h [] n (closings_by end.why)) (sym unbegun.0) (subst (λ (n : ℕ). Going source_at sink_at tick may first first h [] 0 n) (sym (none_closed end unbegun)) going),
     ends_unbegun first most end some unbegun,
   )
 
@@ -116,7 +131,9 @@ module _ {S K C : Type 0} (source_at : S → End) (sink_at : K → End) (tick : 
   serves_at_once g first most end nobody not_closed ends = record {
     history = [];
     legal = tt;
+    came = [];
     visits = [];
+    came_are = IsPermutation-refl [];
     passed = subst (λ (n : ℕ). Passes first first [] [] n) (sym not_closed) (passed_nothing first);
     each = tt;
     others = [];
@@ -131,22 +148,23 @@ module _ {S K C : Type 0} (source_at : S → End) (sink_at : K → End) (tick : 
   serves_none g first most end some unbegun = serves_at_once g first most end unbegun.0 (none_closed end unbegun) (ends_unbegun first most end some unbegun)
 
   -- once all connections were handed back and the matchers joined, the server has served them
-  pub serves_all : (g : Setting) (first last : DoorsView S K) (h l : Hall S K C) (most : ℕ) (end : ServeEnd) → setting_in h ≡ g → h.running.items ≡ [] → IsLegal (setting_in l) (seen_in l) → Gathers h l → EndsBy end.why first last end.connections most → Going source_at sink_at tick may first last h end.connections (closings_by end.why) → Serves source_at sink_at tick may g first last most end
+  pub serves_all : (g : Setting) (first last : DoorsView S K) (h l : Hall S K C) (most : ℕ) (end : ServeEnd) → setting_in h ≡ g → h.running.items ≡ [] → IsLegal (setting_in l) (seen_in l) → Gathers tick may h l → EndsBy end.why first last end.connections most → Going source_at sink_at tick may first last h [] end.connections (closings_by end.why) → Serves source_at sink_at tick may g first last most end
   serves_all g first last h l most end setting none legal gathers ends going =
       let nobody : begun_in h ≡ [] = ap (λ (rs : List (Running S K C)). map begun_of rs) none in
-      let given : map given_of going.visits ++ map began_with (begun_in h) ≡ map given_of going.visits = ap (λ (bs : List (Begun S K C)). map given_of going.visits ++ map began_with bs) nobody ∙ append-nil (map given_of going.visits) in
+      let given : map given_of going.visits ++ ([] ++ map began_with (begun_in h)) ≡ map given_of going.visits = ap (λ (bs : List (Begun S K C)). map given_of going.visits ++ map began_with bs) nobody ∙ append-nil (map given_of going.visits) in
+      let came_are : IsPermutation going.came (map given_of going.visits) = subst (λ (xs : List (S × K)). IsPermutation going.came xs) given going.came_are in
       let last_setting : setting_in l ≡ g = ap setting_at gathers.turnstile ∙ setting in
-      let none_left : length (begun_in h) ≡ 0 = ap length nobody in
-      let all = going.count_is in
       record {
         history = seen_in l;
         legal = subst (λ (s : Setting). IsLegal s (seen_in l)) last_setting legal;
+        came = going.came;
         visits = going.visits;
-        passed = subst (λ xs. Passes first last xs (map back_of going.visits) (closings_by end.why)) given going.passed;
+        came_are = came_are;
+        passed = going.passed;
         each = all_stay source_at sink_at tick may g (seen_in h) (seen_in l) going.visits gathers.grew (subst (λ (s : Setting). AllOf (IsWell source_at sink_at tick may s (seen_in h)) going.visits) setting going.each);
         others = gathers.own;
-        matching = gathers.matching;
+        matching = subst (λ (s : Setting). AllOf (IsMatched tick may s (seen_in l)) gathers.own) last_setting gathers.matching;
         apart = subst (λ (ps : List (ℕ × Entry)). Distinct ps) (gathers.met ∙ ap (λ (ps : List (ℕ × Entry)). ps ++ gathers.own) going.met) (gathers.once going.once);
-        count_is = omega (arith, none_left, all);
+        count_is = sym (length-map going.visits given_of) ∙ length_permutation going.came (map given_of going.visits) came_are ∙ going.count_is;
         ends = ends;
       }

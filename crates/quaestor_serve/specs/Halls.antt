@@ -1,7 +1,7 @@
--- Internal. What a hall shows, and how it changes as connections come and leave.
-use Rattle.std.specs.Prelude.{◌≡◌, ℕ, List, [], ◌∷◌, ◌++◌, map}
+-- Internal. What a hall shows, and how it changes as connections leave.
+use Rattle.std.specs.Prelude.{◌≡◌, ℕ, ◌+◌, List, ◌∷◌, ◌++◌, length, map, vec_len}
 use Rattle.std.specs.Arc.{arc_value}
-use Rattle.hub_core.specs.PageRoom.{IsRoomFor}
+use Rattle.std.specs.List.Sorted.{IsPermutation}
 use Rattle.hub_model.specs.declared.entry.Entry.{Entry}
 use Rattle.hub_model.specs.Desk.{IsPrefix}
 use Rattle.hub_model.specs.Legal.{IsLegal}
@@ -11,13 +11,13 @@ use Rattle.q_outside.specs.declared.served.Served.{Served}
 use Rattle.quaestor_serve.specs.declared.begun.Begun.{Begun}
 use Rattle.quaestor_serve.specs.declared.hall.Hall.{Hall}
 use Rattle.quaestor_serve.specs.Kept.{setting_at}
-use Rattle.quaestor_serve.specs.Running.{begun_of, HasBegun}
+use Rattle.quaestor_serve.specs.Running.{begun_of}
 use Rattle.quaestor_serve.specs.Served.{IsServed, sides_of}
 use Rattle.turnstile.specs.Places.{AllOf, Distinct}
 use Rattle.turnstile.specs.Seats.{seen, met}
 
 module _ {S K C : Type 0} where
-  -- what the connections that are served began with, the oldest first
+  -- what the connections that are served began with, in no order
   abbrev pub begun_in : Hall S K C → List (Begun S K C)
   begun_in h = map begun_of h.running.items
 
@@ -33,27 +33,23 @@ module _ {S K C : Type 0} where
   abbrev pub met_in : Hall S K C → List (ℕ × Entry)
   met_in h = met h.seat
 
-  -- all connections are at the hall's turnstile, all rooms are for its hub, and the main seat has seen a legal history
+  -- all connections are at the hall's turnstile, and the main seat has seen a legal history
   abbrev pub IsReady : Hall S K C → Type 0
-  IsReady h = AllOf (λ b. b.turnstile.value ≡ arc_value h.turnstile) (begun_in h) × AllOf (λ r. IsRoomFor (setting_in h) r.pages) h.rooms.items × IsLegal (setting_in h) (seen_in h)
+  IsReady h = AllOf (λ b. b.turnstile.value ≡ arc_value h.turnstile) (begun_in h) × IsLegal (setting_in h) (seen_in h)
 
-  -- the hub is the same, and so is the number of workers
+  -- how many places are vacant or have a connection
+  abbrev pub places_in : Hall S K C → ℕ
+  places_in h = length h.running.items + vec_len h.vacant
+
+  -- the hub is the same, and so is the number of places, none of which is lost
   abbrev pub Stays : Hall S K C → Hall S K C → Type 0
-  Stays old new = (arc_value new.turnstile ≡ arc_value old.turnstile) × (new.workers ≡ old.workers)
+  Stays old new = (arc_value new.turnstile ≡ arc_value old.turnstile) × (new.places ≡ old.places) × (places_in new ≡ places_in old)
 
-  -- One connection more is served, behind the others.
-  pub record Admits (old new : Hall S K C) (source : S) (sink : K) (clock : C) : Type 0 where
-    pub begun : Begun S K C
-    pub begins : begun_in new ≡ begun_in old ++ begun ∷ []
-    pub with_these : HasBegun begun (arc_value old.turnstile) source sink clock
-    pub seen : seen_in new ≡ seen_in old
-    pub met : met_in new ≡ met_in old
-
-  -- The oldest connection has left. It was well served in what the main seat has seen now, by entries that this seat has met now, each at a position of its own.
+  -- A connection has left. It was well served in what the main seat has seen now, by entries that this seat has met now, each at a position of its own.
   pub record Releases (source_at : S → End) (sink_at : K → End) (tick : C → ℕ → C → Type 0) (old new : Hall S K C) (source : S) (sink : K) (served : Served) : Type 0 where
     pub begun : Begun S K C
     pub own : List (ℕ × Entry)
-    pub begins : begun_in old ≡ begun ∷ begun_in new
+    pub leaves : IsPermutation (begun_in old) (begun ∷ begun_in new)
     pub met : met_in new ≡ met_in old ++ own
     pub once : Distinct (met_in new)
     pub grew : IsPrefix (seen_in old) (seen_in new)

@@ -1,14 +1,13 @@
 -- Internal. What a thread that serves a connection needs, and what it leaves.
 use Rattle.std.specs.Prelude.{◌≡◌, ℕ, [], Option}
-use Rattle.hub_core.specs.PageRoom.{IsRoomFor}
 use Rattle.hub_desk.specs.HubValue.{HubValueView, hub_setting}
 use Rattle.hub_model.specs.declared.entry.Entry.{Entry}
 use Rattle.hub_model.specs.Legal.{IsLegal}
 use Rattle.hub_model.specs.Setting.{Setting}
 use Rattle.q_outside.specs.Ends.{End}
-use Rattle.quaestor_server.specs.declared.connection.Room.{Room}
 use Rattle.quaestor_serve.specs.declared.begun.Begun.{Begun}
 use Rattle.quaestor_serve.specs.declared.begun.Done.{Done}
+use Rattle.quaestor_serve.specs.declared.pool.Pool.{Pool}
 use Rattle.quaestor_serve.specs.Served.{IsServed, sides_of}
 use Rattle.atomic_table.specs.declared.shared.Seat.{Seat}
 use Rattle.turnstile.specs.Seats.{IsSeatOf, IsIdle, seen, mine, met, setting_of}
@@ -35,17 +34,16 @@ pub record IsFreshAt (turnstile : HubTurnstile) (seat : HubSeat) : Type 0 where
   pub met : met seat ≡ []
   pub legal : IsLegal (setting_at turnstile) (seen seat)
 
--- the seat is fresh, and the buffers are for the turnstile's hub
-abbrev pub MayBegin : HubTurnstile → HubSeat → Room → Type 0
-MayBegin turnstile seat room = IsFreshAt turnstile seat × IsRoomFor (setting_at turnstile) room.pages
+-- the seat is fresh, and the pool's buffers are for the turnstile's hub
+abbrev pub MayBegin : HubTurnstile → HubSeat → Pool → Type 0
+MayBegin turnstile seat pool = IsFreshAt turnstile seat × (pool.config ≡ setting_at turnstile)
 
 module _ {S K C : Type 0} (source_at : S → End) (sink_at : K → End) (tick : C → ℕ → C → Type 0) where
-  -- A connection that began with these was well served in what its seat has seen, by the seat's own entries. The seat has no turn and has met no others, and the buffers are as they were made.
+  -- A connection that began with these was well served in what its seat has seen, by the seat's own entries. The seat has no turn and has met no others.
   pub record Kept (turnstile : HubTurnstile) (source : S) (sink : K) (clock : C) (done : Done S K) : Type 0 where
     pub own : IsSeatOf hub_setting turnstile done.seat
     pub idle : IsIdle done.seat
     pub met : met done.seat ≡ []
-    pub room : IsRoomFor (setting_at turnstile) done.room.pages
     pub served : IsServed tick (setting_at turnstile) (seen done.seat) clock (sides_of source_at sink_at source sink) (sides_of source_at sink_at done.source done.sink) (mine done.seat) done.served
 
   -- the same of all that it began with

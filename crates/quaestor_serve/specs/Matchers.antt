@@ -4,40 +4,50 @@ use Rattle.std.specs.Arc.{arc_value}
 use Rattle.hub_desk.specs.HubValue.{hub_setting}
 use Rattle.hub_model.specs.declared.entry.Entry.{Entry}
 use Rattle.hub_model.specs.Desk.{IsPrefix}
+use Rattle.q_outside.specs.Ends.{Ticks}
 use Rattle.quaestor_serve.specs.declared.hall.Hall.{Hall}
 use Rattle.quaestor_serve.specs.declared.matcher.Matcher.{Matcher}
 use Rattle.quaestor_serve.specs.declared.matcher.Matcher.TheVariants.{Thread, Here}
-use Rattle.quaestor_serve.specs.Halls.{seen_in, met_in}
-use Rattle.quaestor_serve.specs.Kept.{HubTurnstile, HubSeat}
-use Rattle.quaestor_serve.specs.Matches.{AreMatching}
+use Rattle.quaestor_serve.specs.declared.matcher.Rested.{Rested}
+use Rattle.quaestor_serve.specs.Halls.{setting_in, seen_in, met_in}
+use Rattle.quaestor_serve.specs.Kept.{HubTurnstile, HubSeat, setting_at}
+use Rattle.quaestor_serve.specs.Matches.{IsMatchingAt, IsMatched}
 use Rattle.turnstile.specs.Places.{AllOf, Distinct}
-use Rattle.turnstile.specs.Seats.{IsSeatOf, IsIdle, mine, met}
+use Rattle.turnstile.specs.Seats.{IsSeatOf, IsIdle, seen, mine, met}
 
--- A matcher's seat is one of the turnstile's, has no turn, has met no others, and its entries are matches and ticks.
-pub record HasMatched (turnstile : HubTurnstile) (seat : HubSeat) : Type 0 where
-  pub own : IsSeatOf hub_setting turnstile seat
-  pub idle : IsIdle seat
-  pub met : met seat ≡ []
-  pub matching : AreMatching (mine seat)
+module _ {C : Type 0} (tick : C → ℕ → C → Type 0) where
+  -- A matcher's seat is one of the turnstile's, has no turn, has met no others, and its entries match all commits before them, at moments that its clock gave.
+  pub record HasMatched (turnstile : HubTurnstile) (clock : C) (seat : HubSeat) (late : C) : Type 0 where
+    pub own : IsSeatOf hub_setting turnstile seat
+    pub idle : IsIdle seat
+    pub met : met seat ≡ []
+    pub moments : List ℕ
+    pub ticks : Ticks tick clock moments late
+    pub matching : AllOf (IsMatchingAt (setting_at turnstile) (seen seat) moments) (mine seat)
 
--- the matcher works at this turnstile
-abbrev pub WorksAt : {C : Type 0} → HubTurnstile → Matcher C → Type 0
-WorksAt turnstile (Thread handle stop) = handle.promise.turnstile.value ≡ turnstile
-WorksAt turnstile (Here rested) = HasMatched turnstile rested.seat
+  -- the same of one who rests
+  abbrev pub HasRested : HubTurnstile → C → Rested C → Type 0
+  HasRested turnstile clock rested = HasMatched turnstile clock rested.seat rested.clock
 
--- all matchers work at the turnstile of the hall
-abbrev pub WorkIn : {S K C : Type 0} → Hall S K C → List (Matcher C) → Type 0
-WorkIn {S} {K} {C} h matchers = AllOf (λ (m : Matcher C). WorksAt (arc_value h.turnstile) m) matchers
+module _ {C : Type 0} (tick : C → ℕ → C → Type 0) (may : C → Type 0) where
+  -- the matcher works at this turnstile, with a clock that it may have
+  abbrev pub WorksAt : HubTurnstile → Matcher C → Type 0
+  WorksAt turnstile (Thread handle stop) = (handle.promise.turnstile.value ≡ turnstile) × may handle.promise.clock.value
+  WorksAt turnstile (Here rested) = (clock : C) × may clock × HasRested tick turnstile clock rested
+
+  -- all matchers work at the turnstile of the hall
+  abbrev pub WorkIn : {S K : Type 0} → Hall S K C → List (Matcher C) → Type 0
+  WorkIn {S} {K} h matchers = AllOf (λ (m : Matcher C). WorksAt (arc_value h.turnstile) m) matchers
+
+  -- Matchers' seats were joined to the main seat: it has met their entries, which match all commits before them, each at a position of its own.
+  pub record Gathers {S K : Type 0} (old new : Hall S K C) : Type 0 where
+    pub own : List (ℕ × Entry)
+    pub turnstile : arc_value new.turnstile ≡ arc_value old.turnstile
+    pub grew : IsPrefix (seen_in old) (seen_in new)
+    pub met : met_in new ≡ met_in old ++ own
+    pub matching : AllOf (IsMatched tick may (setting_in new) (seen_in new)) own
+    pub once : Distinct (met_in old) → Distinct (met_in new)
 
 -- the hall has the same connections, and the main seat has met the same entries
 abbrev pub IsAsBefore : {S K C : Type 0} → Hall S K C → Hall S K C → Type 0
-IsAsBefore old new = (arc_value new.turnstile ≡ arc_value old.turnstile) × (new.workers ≡ old.workers) × (new.running.items ≡ old.running.items) × (met_in new ≡ met_in old) × (seen_in new ≡ seen_in old)
-
--- Matchers' seats were joined to the main seat: it has met their entries, which are matches and ticks, each at a position of its own.
-pub record Gathers {S K C : Type 0} (old new : Hall S K C) : Type 0 where
-  pub own : List (ℕ × Entry)
-  pub turnstile : arc_value new.turnstile ≡ arc_value old.turnstile
-  pub grew : IsPrefix (seen_in old) (seen_in new)
-  pub met : met_in new ≡ met_in old ++ own
-  pub matching : AreMatching own
-  pub once : Distinct (met_in old) → Distinct (met_in new)
+IsAsBefore old new = (arc_value new.turnstile ≡ arc_value old.turnstile) × (new.places ≡ old.places) × (new.running.items ≡ old.running.items) × (met_in new ≡ met_in old) × (seen_in new ≡ seen_in old)

@@ -1,6 +1,7 @@
 -- Believed. What a server has done when it ends.
-use Rattle.std.specs.Prelude.{◌≡◌, ℕ, ◌<◌, List, ◌++◌, map, length}
+use Rattle.std.specs.Prelude.{◌≡◌, ℕ, ◌<◌, List, [], ◌++◌, map, length}
 use Rattle.std.specs.List.{flat_map}
+use Rattle.std.specs.List.Sorted.{IsPermutation}
 use Rattle.hub_model.specs.declared.entry.Entry.{Entry}
 use Rattle.hub_model.specs.Legal.{IsLegal}
 use Rattle.hub_model.specs.Setting.{Setting}
@@ -11,7 +12,7 @@ use Rattle.quaestor_serve.specs.declared.serve_end.ServeEnd.{ServeEnd}
 use Rattle.quaestor_serve.specs.declared.serve_end.ServeWhy.{ServeWhy}
 use Rattle.quaestor_serve.specs.declared.serve_end.ServeWhy.TheVariants.{Limit, Closed, DoorFault, Memory}
 use Rattle.quaestor_serve.specs.Going.{Going}
-use Rattle.quaestor_serve.specs.Matches.{AreMatching}
+use Rattle.quaestor_serve.specs.Matches.{IsMatched}
 use Rattle.quaestor_serve.specs.Visits.{Visit, given_of, back_of, own_of, IsWell}
 use Rattle.turnstile.specs.Places.{AllOf, Distinct}
 
@@ -37,18 +38,21 @@ module _ {S K : Type 0} where
 module _ {S K C : Type 0} (source_at : S → End) (sink_at : K → End) (tick : C → ℕ → C → Type 0) (may : C → Type 0) where
   -- no further connection is waited for, and this is why
   abbrev pub Ends : (first now : DoorsView S K) → Hall S K C → ℕ → ServeEnd → Type 0
-  Ends first now h most end = Going source_at sink_at tick may first now h end.connections (closings_by end.why) × EndsBy end.why first now end.connections most
+  Ends first now h most end = Going source_at sink_at tick may first now h [] end.connections (closings_by end.why) × EndsBy end.why first now end.connections most
 
-  -- Each connection that came was handed back, once and in order, with how it was served: well, in one legal history, by entries of its own. Matchers made matches and ticks alone. No position belongs to two of them. The cause of the end is exact.
+  -- Each connection that came was handed back once, in the order in which they ended, with how it was served: well, in one legal history, by entries of its own. Matchers made entries that match all commits before them, and no others. No position belongs to two of them. The cause of the end is exact.
   pub record Serves (g : Setting) (first last : DoorsView S K) (most : ℕ) (end : ServeEnd) : Type 0 where
     pub history : List Entry
     pub legal : IsLegal g history
+    -- the connections in the order in which they came, and in that in which they were handed back
+    pub came : List (S × K)
     pub visits : List (Visit S K)
-    pub passed : Passes first last (map given_of visits) (map back_of visits) (closings_by end.why)
+    pub came_are : IsPermutation came (map given_of visits)
+    pub passed : Passes first last came (map back_of visits) (closings_by end.why)
     pub each : AllOf (IsWell source_at sink_at tick may g history) visits
     -- the entries of the matchers, each with its position
     pub others : List (ℕ × Entry)
-    pub matching : AreMatching others
+    pub matching : AllOf (IsMatched tick may g history) others
     pub apart : Distinct (flat_map own_of visits ++ others)
     pub count_is : length visits ≡ end.connections
     pub ends : EndsBy end.why first last end.connections most

@@ -2,7 +2,6 @@
 
 use hub_desk::{HubValue, Seat, Turnstile};
 use q_outside::Served;
-use quaestor_server::Room;
 use std::snapshot::Snapshot;
 
 /// What a connection begins with. It has no bytes: only contracts see it.
@@ -14,12 +13,17 @@ pub struct Begun<S, K, C> {
     pub turnstile: Snapshot<Turnstile<HubValue>>,
 }
 
+/// The same as the promise of a thread, which may be made again where no thread could be.
+#[derive(Drop)]
+pub struct Beginning<S, K, C> {
+    pub begun: Snapshot<Begun<S, K, C>>,
+}
+
 /// What is left of a connection that has ended.
 #[derive(Drop)]
 pub struct Done<S, K> {
     pub seat: Seat<HubValue>,
     pub source: S,
     pub sink: K,
-    pub room: Room,
     pub served: Served,
 }

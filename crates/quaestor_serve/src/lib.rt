@@ -2,10 +2,13 @@
 #![tactic(auto)]
 
 mod begun;
+mod crew;
+mod endings;
 mod hall;
 mod matcher;
 mod matchers;
 mod matching;
+mod pool;
 mod rounds;
 mod running;
 mod serve_end;
@@ -14,6 +17,7 @@ mod stop;
 mod threads;
 mod visits;
 
+pub use crew::Crew;
 pub use matching::work_until_stopped;
 pub use serve_end::{ServeEnd, ServeWhy};
 pub use serving::serve;

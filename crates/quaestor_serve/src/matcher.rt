@@ -2,15 +2,17 @@
 
 use crate::stop::Stop;
 use hub_desk::{HubValue, Seat, Turnstile};
+use q_outside::Clock;
 use std::alloc::Global;
 use std::snapshot::Snapshot;
 use std::sync::Arc;
 use std::thread::{Promise, PromisedHandle};
 
-/// What a matcher works at. It has no bytes: only contracts see it.
+/// What a matcher begins with. It has no bytes: only contracts see it.
 #[derive(Drop)]
-pub struct Place {
+pub struct Place<C> {
     pub turnstile: Snapshot<Turnstile<HubValue>>,
+    pub clock: Snapshot<C>,
 }
 
 /// A matcher that rests, with its seat and its clock.
@@ -20,19 +22,19 @@ pub struct Rested<C> {
     pub clock: C,
 }
 
-impl<C> Promise<Rested<C>> for Place {
-    ghost use Rattle.quaestor_serve.specs.Matchers.{HasMatched};
+impl<C: Clock> Promise<Rested<C>> for Place<C> {
+    ghost use Rattle.quaestor_serve.specs.Matchers.{HasRested};
 
-    ghost kept_by = { λ place rested. HasMatched place.turnstile.value rested.seat };
+    ghost kept_by = { λ place rested. HasRested C.tick place.turnstile.value place.clock.value rested };
 }
 
 /// One who matches.
 #[derive(Drop)]
-pub enum Matcher<C: Drop> {
+pub enum Matcher<C: Clock + Drop> {
     /// A thread, until its flag is set.
     Thread {
         /// The thread.
-        handle: PromisedHandle<Rested<C>, Place>,
+        handle: PromisedHandle<Rested<C>, Place<C>>,
         /// Its flag.
         stop: Arc<Stop, Global>,
     },

@@ -2,10 +2,12 @@
 ghost use Rattle.std.specs.Prelude.{◌≡◌, ◌+◌, ◌≤◌, [], ◌∷◌, length};
 ghost use Rattle.std.specs.Arc.{arc_value};
 ghost use Rattle.std.specs.VecDeque.{deque_len, deque_capacity};
-ghost use Rattle.quaestor_serve.specs.Halls.{IsReady, Stays};
+ghost use Rattle.hub_desk.specs.HubValue.{hub_setting};
+ghost use Rattle.quaestor_serve.specs.Halls.{IsReady};
 ghost use Rattle.quaestor_serve.specs.Kept.{IsFreshAt};
 ghost use Rattle.turnstile.specs.Places.{AllOf};
-ghost use Rattle.quaestor_serve.specs.Matchers.{HasMatched, WorksAt, WorkIn, IsAsBefore, Gathers};
+ghost use Rattle.turnstile.specs.Seats.{IsSeatOf, IsIdle};
+ghost use Rattle.quaestor_serve.specs.Matchers.{HasMatched, HasRested, WorksAt, WorkIn, IsAsBefore, Gathers};
 
 use crate::hall::Hall;
 use crate::matcher::{Matcher, Place, Rested};
@@ -30,7 +32,7 @@ fn match_there<R: Wait + Copy, C: Clock>(
     stop: Arc<Stop, Global>,
 ) -> Rested<C>
     requires { IsFreshAt (arc_value turnstile) seat }
-    ensures { HasMatched (arc_value turnstile) result.seat }
+    ensures { HasRested C.tick (arc_value turnstile) clock result }
 {
     let mut desk = Seated::new(&rt, &turnstile, seat);
     work_until_stopped(&rt, &mut desk, &mut clock, &stop);
@@ -41,6 +43,7 @@ fn match_there<R: Wait + Copy, C: Clock>(
 }
 
 /// Begins to match in a thread. Where no thread can be made the matcher rests with the caller.
+#[tactic(auto, using(crate::proofs::RestLemmas::works_here))]
 fn begin_matcher<C, R>(
     rt: &R,
     turnstile: Arc<Turnstile<HubValue>, Global>,
@@ -53,11 +56,12 @@ where
     C: Clock + Send + Drop + 'static,
     R: Threads + Wait + Copy + Send + 'static,
     requires { IsFreshAt (arc_value turnstile) seat }
-    ensures { WorksAt (arc_value turnstile) result }
+    ensures { WorksAt C.tick (λ c. c ≡ clock) (arc_value turnstile) result }
 {
     let handle = *rt;
     let place = Place {
         turnstile: Snapshot::of(&*turnstile),
+        clock: Snapshot::of(&clock),
     };
     let spawned = thread::spawn_with(rt, place, move || {
         match_there(handle, turnstile, seat, clock, stop)
@@ -91,7 +95,7 @@ where
     requires capacity { count ≤ deque_capacity matchers.old }
     ensures ready { IsReady hall.new }
     ensures same { IsAsBefore hall.old hall.new }
-    ensures work { WorkIn hall.new matchers.new.items }
+    ensures work { WorkIn C.tick (C.is_clone clock.now) hall.new matchers.new.items }
 {
     for _n in 0..count {
         let clock = clock.clone()?;
@@ -105,80 +109,90 @@ where
     Ok(())
 }
 
-/// Matches once, where the matcher has no thread.
-fn step<C: Clock + Drop, R: Wait>(
+/// Matches once, and rests again.
+fn match_here<C: Clock, R: Wait>(
+    rt: &R,
+    turnstile: &Turnstile<HubValue>,
+    rested: Rested<C>,
+) -> Rested<C>
+    requires { IsSeatOf hub_setting turnstile.now rested.seat × IsIdle rested.seat }
+    ensures { (begun : C) → HasRested C.tick turnstile.now begun rested → HasRested C.tick turnstile.now begun result }
+{
+    let Rested { seat, mut clock } = rested;
+    let mut desk = Seated::new(rt, turnstile, seat);
+    match_once(&mut desk, &mut clock);
+    Rested {
+        seat: desk.into_seat(),
+        clock,
+    }
+}
+
+/// Matches once, where the matcher has no thread. Of the clock that was given, of which each matcher has
+/// a clone, only the contract speaks.
+#[tactic(auto, using(crate::proofs::RestLemmas::works_on))]
+fn step<C: Clock + Clone + Drop, R: Wait>(
     rt: &R,
     turnstile: &Turnstile<HubValue>,
     matcher: Matcher<C>,
+    _given: &C,
 ) -> Matcher<C>
-    requires { WorksAt turnstile.now matcher }
-    ensures { WorksAt turnstile.now result }
+    requires { WorksAt C.tick (C.is_clone _given.now) turnstile.now matcher }
+    ensures { WorksAt C.tick (C.is_clone _given.now) turnstile.now result }
 {
     match matcher {
         Matcher::Thread { handle, stop } => Matcher::Thread { handle, stop },
-        Matcher::Here(Rested { seat, mut clock }) => {
-            let mut desk = Seated::new(rt, turnstile, seat);
-            match_once(&mut desk, &mut clock);
-            Matcher::Here(Rested {
-                seat: desk.into_seat(),
-                clock,
-            })
-        }
+        Matcher::Here(rested) => Matcher::Here(match_here(rt, turnstile, rested)),
     }
 }
 
 /// Lets each matcher that has no thread match once.
-pub(crate) fn step_all<C: Clock + Drop, R: Wait>(
+pub(crate) fn step_all<C: Clock + Clone + Drop, R: Wait>(
     rt: &R,
     turnstile: &Turnstile<HubValue>,
     matchers: &mut VecDeque<Matcher<C>>,
+    given: &C,
 )
-    requires { AllOf (λ m. WorksAt turnstile.now m) matchers.old.items }
-    ensures { AllOf (λ m. WorksAt turnstile.now m) matchers.new.items }
+    requires { AllOf (λ m. WorksAt C.tick (C.is_clone given.now) turnstile.now m) matchers.old.items }
+    ensures { AllOf (λ m. WorksAt C.tick (C.is_clone given.now) turnstile.now m) matchers.new.items }
 {
     for _n in 0..matchers.len() {
         let Some(matcher) = matchers.pop_front() else {
             return;
         };
-        let matcher = step(rt, turnstile, matcher);
+        let matcher = step(rt, turnstile, matcher, given);
         matchers.push_back_reserved(matcher);
     }
 }
 
 /// Waits for the end of a matcher.
-fn finish_matcher<C: Clock + Drop, R: Threads>(
+fn finish_matcher<C: Clock + Clone + Drop, R: Threads>(
     rt: &R,
     turnstile: &Turnstile<HubValue>,
     matcher: Matcher<C>,
-) -> Seat<HubValue>
-    requires { WorksAt turnstile.now matcher }
-    ensures { HasMatched turnstile.now result }
+    _given: &C,
+) -> Rested<C>
+    requires { WorksAt C.tick (C.is_clone _given.now) turnstile.now matcher }
+    ensures { (clock : C) × C.is_clone _given.now clock × HasRested C.tick turnstile.now clock result }
 {
     match matcher {
-        Matcher::Thread { handle, stop: _ } => {
-            let Rested { seat, clock: _ } = handle.join(rt);
-            seat
-        }
-        Matcher::Here(rested) => {
-            let Rested { seat, clock: _ } = rested;
-            seat
-        }
+        Matcher::Thread { handle, stop: _ } => handle.join(rt),
+        Matcher::Here(rested) => rested,
     }
 }
 
 /// Waits for the end of a matcher, and joins its seat to the main one.
-fn end_matcher<S, K, C, R>(rt: &R, hall: &mut Hall<S, K, C>, matcher: Matcher<C>)
+fn end_matcher<S, K, C, R>(rt: &R, hall: &mut Hall<S, K, C>, matcher: Matcher<C>, given: &C)
 where
     S: Source + Drop,
     K: Sink + Drop,
-    C: Clock + Drop,
+    C: Clock + Clone + Drop,
     R: Threads,
     requires ready { IsReady hall.old }
-    requires work { WorksAt (arc_value hall.old.turnstile) matcher }
+    requires work { WorksAt C.tick (C.is_clone given.now) (arc_value hall.old.turnstile) matcher }
     ensures ready { IsReady hall.new }
-    ensures gathers { Gathers hall.old hall.new }
+    ensures gathers { Gathers C.tick (C.is_clone given.now) hall.old hall.new }
 {
-    let seat = finish_matcher(rt, &hall.turnstile, matcher);
+    let Rested { seat, clock: _ } = finish_matcher(rt, &hall.turnstile, matcher, given);
     hall.turnstile.join(&mut hall.seat, seat);
 }
 
@@ -187,16 +201,17 @@ pub(crate) fn stop_matchers<S, K, C, R>(
     rt: &R,
     hall: &mut Hall<S, K, C>,
     mut matchers: VecDeque<Matcher<C>>,
+    given: &C,
 )
 where
     S: Source + Drop,
     K: Sink + Drop,
-    C: Clock + Drop,
+    C: Clock + Clone + Drop,
     R: Threads,
     requires ready { IsReady hall.old }
-    requires work { WorkIn hall.old matchers.items }
+    requires work { WorkIn C.tick (C.is_clone given.now) hall.old matchers.items }
     ensures ready { IsReady hall.new }
-    ensures gathers { Gathers hall.old hall.new }
+    ensures gathers { Gathers C.tick (C.is_clone given.now) hall.old hall.new }
 {
     for matcher in matchers.iter() {
         if let Matcher::Thread { handle: _, stop } = matcher {
@@ -207,6 +222,6 @@ where
         let Some(matcher) = matchers.pop_front() else {
             return;
         };
-        end_matcher(rt, hall, matcher);
+        end_matcher(rt, hall, matcher, given);
     }
 }

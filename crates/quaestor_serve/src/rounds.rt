@@ -1,16 +1,26 @@
-//! The rounds of a server: a connection comes in each, and the oldest leaves where all workers are busy.
-ghost use Rattle.std.specs.Prelude.{◌≡◌, ℕ, ◌+◌, ◌<◌, ◌≤◌, vec_len};
+//! The rounds of a server: in each the connections that have ended leave, and then one comes.
+ghost use Rattle.std.specs.Prelude.{◌≡◌, ℕ, ◌+◌, ◌<◌, ◌≤◌, [], ◌∷◌, vec_len};
+ghost use Rattle.std.specs.Arc.{arc_value};
 ghost use Rattle.std.specs.VecDeque.{deque_len};
 ghost use Rattle.q_outside.specs.Doors.{DoorsView};
-ghost use Rattle.quaestor_serve.specs.Halls.{IsReady, Stays};
-ghost use Rattle.quaestor_serve.specs.Going.{Going, HaveRoom, GoesOn};
+ghost use Rattle.quaestor_serve.specs.declared.begun.Done.{Done};
+ghost use Rattle.quaestor_serve.specs.Halls.{IsReady, Stays, setting_in};
+ghost use Rattle.quaestor_serve.specs.Going.{Going, HaveRoom, GoesOn, HandsBack};
+ghost use Rattle.quaestor_serve.specs.Kept.{KeptOf};
 
+use crate::begun::{Beginning, Begun, Done};
+use crate::endings::Endings;
 use crate::hall::Hall;
-use crate::visits::{Leaving, admit, release};
+use crate::pool::Pool;
+use crate::running::Running;
+use crate::threads::{serve_there, try_start};
+use crate::visits::{Leaving, note_position, release};
+use hub_desk::{HubValue, Turnstile};
 use q_outside::{Clock, Doors, Gate, Next};
 use std::alloc::Global;
+use std::snapshot::Snapshot;
 use std::sync::{Arc, Wait};
-use std::thread::Threads;
+use std::thread::{PromisedHandle, Threads};
 
 /// What came of one round.
 #[derive(Clone, Copy, Debug, PartialEq, Eq)]
@@ -25,70 +35,196 @@ pub(crate) enum Round {
     Fault,
 }
 
-/// Waits for the end of the oldest connection and hands it back.
-pub(crate) fn hand_back<P, C, R>(rt: &R, doors: &mut P, hall: &mut Hall<P::From, P::To, C>)
+/// Waits for the end of a connection and hands it back.
+fn hand_back<P, C, R>(rt: &R, doors: &mut P, hall: &mut Hall<P::From, P::To, C>, position: usize)
 where
     P: Doors,
     C: Clock + Clone + Drop,
     R: Threads,
-    requires some { 0 < deque_len hall.old.running }
+    requires some { position < deque_len hall.old.running }
     requires ready { IsReady hall.old }
-    requires room { HaveRoom (P.at doors.old) hall.old }
-    ensures stays { Stays hall.old hall.new }
-    ensures ready { IsReady hall.new }
-    ensures room { HaveRoom (P.at doors.new) hall.new }
-    ensures fewer { deque_len hall.new.running + 1 ≡ deque_len hall.old.running }
-    ensures count { (P.at doors.old).faults ≤ (P.at doors.new).faults }
-    ensures going { (clock : C) (first : DoorsView P.From P.To) (count : ℕ) (closed : ℕ) → Going P.From.at P.To.at C.tick (C.is_clone clock) first (P.at doors.old) hall.old count closed → Going P.From.at P.To.at C.tick (C.is_clone clock) first (P.at doors.new) hall.new count closed }
+    requires room { HaveRoom (P.at doors.old) hall.old 0 }
+    ensures { HandsBack P.From.at P.To.at C.tick C.is_clone (P.at doors.old) (P.at doors.new) hall.old hall.new }
 {
     let Leaving {
         source,
         sink,
         served,
-    } = release(rt, hall);
+    } = release(rt, hall, position);
     doors.back(source, sink, Some(served));
 }
 
-/// Hands all connections back, the oldest first.
+/// Hands back the connection at a place.
+#[tactic(auto, using(crate::proofs::GoingLemmas::handing))]
+fn hand_back_at<P, C, R>(rt: &R, doors: &mut P, hall: &mut Hall<P::From, P::To, C>, place: u32)
+where
+    P: Doors,
+    C: Clock + Clone + Drop,
+    R: Threads,
+    requires ready { IsReady hall.old }
+    requires room { HaveRoom (P.at doors.old) hall.old 0 }
+    ensures { HandsBack P.From.at P.To.at C.tick C.is_clone (P.at doors.old) (P.at doors.new) hall.old hall.new }
+{
+    let Some(&position) = hall.positions.get(place as usize) else {
+        return;
+    };
+    if position < hall.running.len() {
+        hand_back(rt, doors, hall, position);
+    }
+}
+
+/// Hands back the connections that have ended, in the order in which they did.
+#[tactic(auto, using(crate::proofs::GoingLemmas::handing))]
+fn hand_back_ended<P, C, R>(rt: &R, doors: &mut P, hall: &mut Hall<P::From, P::To, C>)
+where
+    P: Doors,
+    C: Clock + Clone + Drop,
+    R: Threads + Wait,
+    requires ready { IsReady hall.old }
+    requires room { HaveRoom (P.at doors.old) hall.old 0 }
+    ensures { HandsBack P.From.at P.To.at C.tick C.is_clone (P.at doors.old) (P.at doors.new) hall.old hall.new }
+{
+    hall.endings.silence();
+    for _n in 0..hall.places {
+        let Some(place) = hall.endings.next(rt) else {
+            return;
+        };
+        hand_back_at(rt, doors, hall, place);
+    }
+}
+
+/// Hands all connections back, in the order in which they end.
+#[tactic(auto, using(crate::proofs::GoingLemmas::handing))]
 pub(crate) fn drain<P, C, R>(rt: &R, doors: &mut P, hall: &mut Hall<P::From, P::To, C>)
 where
     P: Doors,
     C: Clock + Clone + Drop,
-    R: Threads,
+    R: Threads + Wait,
     requires ready { IsReady hall.old }
-    requires room { HaveRoom (P.at doors.old) hall.old }
-    ensures stays { Stays hall.old hall.new }
-    ensures ready { IsReady hall.new }
+    requires room { HaveRoom (P.at doors.old) hall.old 0 }
     ensures empty { deque_len hall.new.running ≡ 0 }
-    ensures count { (P.at doors.old).faults ≤ (P.at doors.new).faults }
-    ensures going { (clock : C) (first : DoorsView P.From P.To) (count : ℕ) (closed : ℕ) → Going P.From.at P.To.at C.tick (C.is_clone clock) first (P.at doors.old) hall.old count closed → Going P.From.at P.To.at C.tick (C.is_clone clock) first (P.at doors.new) hall.new count closed }
+    ensures hands { HandsBack P.From.at P.To.at C.tick C.is_clone (P.at doors.old) (P.at doors.new) hall.old hall.new }
 {
-    while !hall.running.is_empty() {
-        hand_back(rt, doors, hall);
+    for _ in rt.forever() {
+        hand_back_ended(rt, doors, hall);
+        if hall.running.is_empty() {
+            return;
+        }
+        hall.endings.rest(rt);
     }
+    unreachable!()
 }
 
-/// Waits until a worker serves no connection.
-fn free_worker<P, C, R>(rt: &R, doors: &mut P, hall: &mut Hall<P::From, P::To, C>)
+/// Hands back the connections that have ended, and waits until a place is vacant.
+#[tactic(auto, using(crate::proofs::GoingLemmas::handing))]
+fn wait_for_place<P, C, R>(rt: &R, doors: &mut P, hall: &mut Hall<P::From, P::To, C>)
 where
     P: Doors,
     C: Clock + Clone + Drop,
-    R: Threads,
-    requires workers { 0 < hall.old.workers }
+    R: Threads + Wait,
     requires ready { IsReady hall.old }
-    requires room { HaveRoom (P.at doors.old) hall.old }
-    ensures stays { Stays hall.old hall.new }
-    ensures ready { IsReady hall.new }
-    ensures room { HaveRoom (P.at doors.new) hall.new }
-    ensures free { 0 < vec_len hall.new.rooms }
-    ensures going { (clock : C) (first : DoorsView P.From P.To) (count : ℕ) (closed : ℕ) → Going P.From.at P.To.at C.tick (C.is_clone clock) first (P.at doors.old) hall.old count closed → Going P.From.at P.To.at C.tick (C.is_clone clock) first (P.at doors.new) hall.new count closed }
+    requires room { HaveRoom (P.at doors.old) hall.old 0 }
+    ensures vacant { 0 < vec_len hall.new.vacant }
+    ensures hands { HandsBack P.From.at P.To.at C.tick C.is_clone (P.at doors.old) (P.at doors.new) hall.old hall.new }
 {
-    if hall.rooms.is_empty() {
-        hand_back(rt, doors, hall);
+    for _ in rt.forever() {
+        hand_back_ended(rt, doors, hall);
+        if !hall.vacant.is_empty() {
+            return;
+        }
+        hall.endings.rest(rt);
     }
+    unreachable!()
 }
 
-/// Takes the memory for one connection, and then waits for one and begins to serve it.
+/// Starts a thread that works for a connection. While none can be made, connections that end are
+/// handed back, and it is tried again when one has or after a tenth of a second.
+#[tactic(auto, using(crate::proofs::GoingLemmas::handing))]
+fn start<P, C, F, R>(
+    rt: &R,
+    doors: &mut P,
+    hall: &mut Hall<P::From, P::To, C>,
+    begun: &Begun<P::From, P::To, C>,
+    work: F,
+) -> PromisedHandle<Done<P::From, P::To>, Beginning<P::From, P::To, C>>
+where
+    P: Doors,
+    C: Clock + Clone + Drop,
+    F: FnOnce() -> Done<P::From, P::To> + Send + 'static,
+    R: Threads + Wait,
+    requires runs { F.pre work }
+    requires keeps { (done : Done P.From P.To) → F.post work done → KeptOf P.From.at P.To.at C.tick begun.now done }
+    requires ready { IsReady hall.old }
+    requires room { HaveRoom (P.at doors.old) hall.old 0 }
+    ensures started { result.promise.begun.value ≡ begun.now }
+    ensures hands { HandsBack P.From.at P.To.at C.tick C.is_clone (P.at doors.old) (P.at doors.new) hall.old hall.new }
+{
+    let mut work = work;
+    for _ in rt.forever() {
+        match try_start(rt, begun, work) {
+            Ok(handle) => return handle,
+            Err(back) => work = back,
+        }
+        hand_back_ended(rt, doors, hall);
+        hall.endings.rest(rt);
+    }
+    unreachable!()
+}
+
+/// Begins to serve a connection that came, at a vacant place.
+#[tactic(auto, using(crate::proofs::HallLemmas::ready_split))]
+fn admit<P, C, G, R>(
+    rt: &R,
+    alloc: Global,
+    doors: &mut P,
+    hall: &mut Hall<P::From, P::To, C>,
+    turnstile: Arc<Turnstile<HubValue>, Global>,
+    endings: Arc<Endings, Global>,
+    pool: Arc<Pool, Global>,
+    gate: G,
+    clock: C,
+    source: P::From,
+    sink: P::To,
+)
+where
+    P: Doors,
+    C: Clock + Clone + Send + Drop + 'static,
+    G: Gate + Send + Drop + 'static,
+    R: Threads + Wait + Copy + Send + 'static,
+    requires vacant { 0 < vec_len hall.old.vacant }
+    requires pool { (arc_value pool).config ≡ setting_in hall.old }
+    requires ready { IsReady hall.old }
+    requires room { HaveRoom (P.at doors.old) hall.old 1 }
+    requires turnstile { arc_value turnstile ≡ arc_value hall.old.turnstile }
+    ensures stays { Stays hall.old hall.new }
+    ensures ready { IsReady hall.new }
+    ensures room { HaveRoom (P.at doors.new) hall.new 0 }
+    ensures going { (given : C) (first : DoorsView P.From P.To) (count : ℕ) → C.is_clone given clock → Going P.From.at P.To.at C.tick (C.is_clone given) first (P.at doors.old) hall.old ((source, sink) ∷ []) count 0 → Going P.From.at P.To.at C.tick (C.is_clone given) first (P.at doors.new) hall.new [] count 0 }
+{
+    let Some(place) = hall.vacant.pop() else {
+        unreachable!()
+    };
+    let seat = hall.turnstile.split(&mut hall.seat);
+    let begun = Begun {
+        source: Snapshot::of(&source),
+        sink: Snapshot::of(&sink),
+        clock: Snapshot::of(&clock),
+        turnstile: Snapshot::of(&*turnstile),
+    };
+    let own = *rt;
+    let work = move || {
+        serve_there(
+            own, alloc, turnstile, endings, gate, place, seat, source, sink, clock, pool,
+        )
+    };
+    let handle = start(rt, doors, hall, &begun, work);
+    note_position(&mut hall.positions, place, hall.running.len());
+    hall.running.push_back_reserved(Running { place, handle });
+}
+
+/// Waits for a vacant place, takes the memory for one connection, and then waits for one and begins to
+/// serve it.
+#[tactic(auto, using(crate::proofs::GoingLemmas::ringing))]
 pub(crate) fn ring<P, C, G, R>(
     rt: &R,
     alloc: Global,
@@ -96,22 +232,20 @@ pub(crate) fn ring<P, C, G, R>(
     hall: &mut Hall<P::From, P::To, C>,
     clock: &C,
     gate: &G,
-    worker: u32,
 ) -> Round
 where
     P: Doors,
     C: Clock + Clone + Send + Drop + 'static,
     G: Gate + Clone + Send + Drop + 'static,
     R: Threads + Wait + Copy + Send + 'static,
-    requires workers { 0 < hall.old.workers }
     requires ready { IsReady hall.old }
-    requires room { HaveRoom (P.at doors.old) hall.old }
+    requires room { HaveRoom (P.at doors.old) hall.old 0 }
     ensures stays { Stays hall.old hall.new }
     ensures ready { IsReady hall.new }
-    ensures room { HaveRoom (P.at doors.new) hall.new }
-    ensures going { (first : DoorsView P.From P.To) (count : ℕ) → Going P.From.at P.To.at C.tick (C.is_clone clock.now) first (P.at doors.old) hall.old count 0 → GoesOn P.From.at P.To.at C.tick (C.is_clone clock.now) first (P.at doors.new) hall.new count result }
+    ensures room { HaveRoom (P.at doors.new) hall.new 0 }
+    ensures going { (first : DoorsView P.From P.To) (count : ℕ) → Going P.From.at P.To.at C.tick (C.is_clone clock.now) first (P.at doors.old) hall.old [] count 0 → GoesOn P.From.at P.To.at C.tick (C.is_clone clock.now) first (P.at doors.new) hall.new count result }
 {
-    free_worker(rt, doors, hall);
+    wait_for_place(rt, doors, hall);
     let Ok(clock) = clock.clone() else {
         return Round::NoMemory;
     };
@@ -121,10 +255,16 @@ where
     let Ok(turnstile) = Arc::try_clone(&hall.turnstile) else {
         return Round::NoMemory;
     };
+    let Ok(endings) = Arc::try_clone(&hall.endings) else {
+        return Round::NoMemory;
+    };
+    let Ok(pool) = Arc::try_clone(&hall.pool) else {
+        return Round::NoMemory;
+    };
     match doors.next() {
         Ok(Next::Connection { source, sink }) => {
             admit(
-                rt, alloc, hall, turnstile, gate, worker, clock, source, sink,
+                rt, alloc, doors, hall, turnstile, endings, pool, gate, clock, source, sink,
             );
             Round::Came
         }

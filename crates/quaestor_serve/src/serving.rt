@@ -1,65 +1,77 @@
 //! A server from its beginning to its end.
-ghost use Rattle.std.specs.Prelude.{◌≡◌, ℕ, ◌<◌, ◌≤◌, [], vec_len, IfOk};
+ghost use Rattle.std.specs.Prelude.{◌≡◌, ℕ, ◌<◌, ◌≤◌, [], vec_len, vec_capacity, IfOk};
 ghost use Rattle.std.specs.VecDeque.{deque_capacity};
-ghost use Rattle.hub_core.specs.PageRoom.{IsRoomFor};
 ghost use Rattle.q_outside.specs.Doors.{DoorsView};
-ghost use Rattle.turnstile.specs.Places.{AllOf};
-ghost use Rattle.quaestor_serve.specs.Halls.{IsReady, Stays, begun_in, met_in, setting_in};
+ghost use Rattle.quaestor_serve.specs.Halls.{IsReady, Stays, met_in, setting_in};
 ghost use Rattle.quaestor_serve.specs.Going.{Going, HaveRoom};
 ghost use Rattle.quaestor_serve.specs.Matchers.{WorkIn};
 ghost use Rattle.quaestor_serve.specs.Serves.{Ends, IsUnbegun, Serves};
 
+use crate::crew::Crew;
+use crate::endings::Endings;
 use crate::hall::Hall;
 use crate::matcher::Matcher;
 use crate::matchers::{start_matchers, step_all, stop_matchers};
+use crate::pool::Pool;
 use crate::rounds::{Round, drain, ring};
 use crate::serve_end::{ServeEnd, ServeWhy};
 use hub_desk::{Config, HubValue, Turnstile};
 use hub_model::laws::no_entry_is_legal;
 use q_base::Memory;
 use q_outside::{Clock, Doors, Gate, Sink, Source};
-use quaestor_server::Room;
 use std::alloc::Global;
 use std::collections::VecDeque;
 use std::sync::{Arc, Wait};
 use std::thread::Threads;
 
-/// A room for each worker.
-fn rooms_of(alloc: Global, config: &Config, workers: usize) -> Result<Vec<Room>, Memory>
-    ensures count { IfOk result (λ rooms. vec_len rooms ≡ workers) }
-    ensures room { IfOk result (λ rooms. AllOf (λ r. IsRoomFor config.now r.pages) rooms.items) }
+/// All places, the first one last.
+fn places_of(alloc: Global, places: u32) -> Result<Vec<u32>, Memory>
+    ensures count { IfOk result (λ vacant. vec_len vacant ≡ places) }
+    ensures capacity { IfOk result (λ vacant. places ≤ vec_capacity vacant) }
 {
-    let mut rooms = Vec::with_capacity(alloc, workers)?;
-    for _n in 0..workers {
-        rooms.push_reserved(Room::new(alloc, config)?);
+    let mut vacant = Vec::with_capacity(alloc, places as usize)?;
+    for place in 0..places {
+        vacant.push_reserved(places - 1 - place);
     }
-    Ok(rooms)
+    Ok(vacant)
+}
+
+/// A position for each place.
+fn positions_of(alloc: Global, places: u32) -> Result<Vec<usize>, Memory> {
+    let mut positions = Vec::with_capacity(alloc, places as usize)?;
+    positions.resize(places as usize, 0)?;
+    Ok(positions)
 }
 
 /// The hall of a server, before the first connection.
-fn hall_of<S, K, C>(alloc: Global, config: Config, workers: u32) -> Result<Hall<S, K, C>, Memory>
+fn hall_of<S, K, C>(alloc: Global, config: Config, crew: Crew) -> Result<Hall<S, K, C>, Memory>
 where
     S: Source + Drop,
     K: Sink + Drop,
     C: Clock + Drop,
-    ensures workers { IfOk result (λ h. h.workers ≡ workers) }
     ensures ready { IfOk result (λ h. IsReady h) }
     ensures setting { IfOk result (λ h. setting_in h ≡ config) }
     ensures empty { IfOk result (λ h. (h.running.items ≡ []) × (met_in h ≡ [])) }
 {
     // The law that an empty history is legal.
     no_entry_is_legal();
-    let workers = workers as usize;
-    let rooms = rooms_of(alloc, &config, workers)?;
-    let running = VecDeque::with_capacity(alloc, workers)?;
+    let places = crew.places;
+    let pool = Arc::new(alloc, Pool::new(alloc, &config, crew.workers)?)?;
+    let vacant = places_of(alloc, places)?;
+    let positions = positions_of(alloc, places)?;
+    let running = VecDeque::with_capacity(alloc, places as usize)?;
+    let endings = Arc::new(alloc, Endings::new(alloc, places)?)?;
     let (turnstile, seat) = Turnstile::open(alloc, HubValue::new(alloc, config)?)?;
     let turnstile = Arc::new(alloc, turnstile)?;
     Ok(Hall {
         turnstile,
         seat,
         running,
-        rooms,
-        workers,
+        positions,
+        vacant,
+        pool,
+        endings,
+        places,
     })
 }
 
@@ -82,7 +94,6 @@ fn ring_all<P, C, G, R>(
     clock: &C,
     gate: &G,
     matchers: &mut VecDeque<Matcher<C>>,
-    workers: u32,
     connections: u64,
 ) -> ServeEnd
 where
@@ -90,21 +101,19 @@ where
     C: Clock + Clone + Send + Drop + 'static,
     G: Gate + Clone + Send + Drop + 'static,
     R: Threads + Wait + Copy + Send + 'static,
-    requires workers { (0 < workers) × (hall.old.workers ≡ workers) }
     requires ready { IsReady hall.old }
-    requires room { HaveRoom (P.at doors.old) hall.old }
-    requires work { WorkIn hall.old matchers.old.items }
+    requires room { HaveRoom (P.at doors.old) hall.old 0 }
+    requires work { WorkIn C.tick (C.is_clone clock.now) hall.old matchers.old.items }
     ensures stays { Stays hall.old hall.new }
     ensures ready { IsReady hall.new }
-    ensures room { HaveRoom (P.at doors.new) hall.new }
-    ensures work { WorkIn hall.new matchers.new.items }
-    ensures ends { (first : DoorsView P.From P.To) → Going P.From.at P.To.at C.tick (C.is_clone clock.now) first (P.at doors.old) hall.old 0 0 → Ends P.From.at P.To.at C.tick (C.is_clone clock.now) first (P.at doors.new) hall.new connections result }
+    ensures room { HaveRoom (P.at doors.new) hall.new 0 }
+    ensures work { WorkIn C.tick (C.is_clone clock.now) hall.new matchers.new.items }
+    ensures ends { (first : DoorsView P.From P.To) → Going P.From.at P.To.at C.tick (C.is_clone clock.now) first (P.at doors.old) hall.old [] 0 0 → Ends P.From.at P.To.at C.tick (C.is_clone clock.now) first (P.at doors.new) hall.new connections result }
 {
     for given in 0..connections {
-        let worker = (given % u64::from(workers)) as u32;
-        let why = match ring(rt, alloc, doors, hall, clock, gate, worker) {
+        let why = match ring(rt, alloc, doors, hall, clock, gate) {
             Round::Came => {
-                step_all(rt, &hall.turnstile, matchers);
+                step_all(rt, &hall.turnstile, matchers, clock);
                 continue;
             }
             Round::NoMemory => ServeWhy::Memory,
@@ -132,7 +141,6 @@ fn serve_all<P, C, G, R>(
     gate: &G,
     matchers: &mut VecDeque<Matcher<C>>,
     count: u32,
-    workers: u32,
     connections: u64,
 ) -> ServeEnd
 where
@@ -140,7 +148,6 @@ where
     C: Clock + Clone + Send + Drop + 'static,
     G: Gate + Clone + Send + Drop + 'static,
     R: Threads + Wait + Copy + Send + 'static,
-    requires workers { (0 < workers) × (hall.old.workers ≡ workers) }
     requires ready { IsReady hall.old }
     requires empty { (hall.old.running.items ≡ []) × (met_in hall.old ≡ []) }
     requires none { matchers.old.items ≡ [] }
@@ -148,31 +155,22 @@ where
     requires some { 0 < connections }
     ensures setting { setting_in hall.new ≡ setting_in hall.old }
     ensures ready { IsReady hall.new }
-    ensures room { HaveRoom (P.at doors.new) hall.new }
-    ensures work { WorkIn hall.new matchers.new.items }
+    ensures room { HaveRoom (P.at doors.new) hall.new 0 }
+    ensures work { WorkIn C.tick (C.is_clone clock.now) hall.new matchers.new.items }
     ensures ends { Ends P.From.at P.To.at C.tick (C.is_clone clock.now) (P.at doors.old) (P.at doors.new) hall.new connections result }
 {
     if start_matchers(rt, alloc, hall, matchers, clock, count).is_err() {
         return no_memory();
     }
-    ring_all(
-        rt,
-        alloc,
-        doors,
-        hall,
-        clock,
-        gate,
-        matchers,
-        workers,
-        connections,
-    )
+    ring_all(rt, alloc, doors, hall, clock, gate, matchers, connections)
 }
 
 /// Serves the connections that come through the doors, each at a hub of this configuration, in a thread
-/// of its own. At most `workers` are served at the same time: then the oldest is waited for, so a long
-/// connection may hold back later ones. Each connection is handed back once, in the order in which they
-/// came. All memory for a connection is taken before the doors are asked for it. Where none is to come,
-/// none is taken.
+/// of its own. At most `places` connections are there at the same time; then one that ends is waited
+/// for, whichever it is. At most `workers` of them have buffers at the same time, and none while it waits
+/// for a request. Each is handed back once, in the order in which they end. All memory for a
+/// connection is taken before the doors are asked for it. Where no thread can be made for one, it waits
+/// until one can. Where none is to come, no memory is taken.
 pub fn serve<P, C, G, R>(
     rt: &R,
     alloc: Global,
@@ -180,8 +178,7 @@ pub fn serve<P, C, G, R>(
     doors: &mut P,
     clock: &C,
     gate: &G,
-    workers: u32,
-    matchers: u32,
+    crew: Crew,
     connections: u64,
 ) -> ServeEnd
 where
@@ -189,7 +186,8 @@ where
     C: Clock + Clone + Send + Drop + 'static,
     G: Gate + Clone + Send + Drop + 'static,
     R: Threads + Wait + Copy + Send + 'static,
-    requires { 0 < workers }
+    requires places { 0 < crew.places }
+    requires workers { 0 < crew.workers }
     ensures { Serves P.From.at P.To.at C.tick (C.is_clone clock.now) config (P.at doors.old) (P.at doors.new) connections result }
 {
     if connections == 0 {
@@ -198,11 +196,11 @@ where
             why: ServeWhy::Limit,
         };
     }
-    let count = matchers;
+    let count = crew.matchers;
     let Ok(mut matchers) = VecDeque::with_capacity(alloc, count as usize) else {
         return no_memory();
     };
-    let Ok(mut hall) = hall_of(alloc, config, workers) else {
+    let Ok(mut hall) = hall_of(alloc, config, crew) else {
         return no_memory();
     };
     let end = serve_all(
@@ -214,10 +212,9 @@ where
         gate,
         &mut matchers,
         count,
-        workers,
         connections,
     );
     drain(rt, doors, &mut hall);
-    stop_matchers(rt, &mut hall, matchers);
+    stop_matchers(rt, &mut hall, matchers, clock);
     end
 }

@@ -1,18 +1,25 @@
 //! A connection in a thread of its own.
+ghost use Rattle.std.specs.Prelude.{◌≡◌, IfOk, IfErr};
 ghost use Rattle.std.specs.Arc.{arc_value};
+ghost use Rattle.quaestor_serve.specs.declared.begun.Done.{Done};
 ghost use Rattle.quaestor_serve.specs.Kept.{Kept, KeptOf, MayBegin};
-ghost use Rattle.quaestor_serve.specs.Running.{begun_of, HasBegun};
+ghost use Rattle.quaestor_serve.specs.Running.{begun_of};
 
-use crate::begun::{Begun, Done};
-use crate::running::{Finished, Running};
+use crate::begun::{Beginning, Begun, Done};
+use crate::endings::Endings;
+use crate::pool::{Pool, PoolRooms};
+use crate::running::Running;
 use hub_desk::{HubValue, Seat, Seated, Turnstile};
 use q_outside::{Clock, Gate, Sink, Source};
-use quaestor_server::{Room, serve_connection};
+use quaestor_server::serve_visits;
 use std::alloc::Global;
 use std::snapshot::Snapshot;
 use std::sync::{Arc, Wait};
 use std::thread;
-use std::thread::Threads;
+use std::thread::{PromisedHandle, Threads};
+
+/// The stack of a thread that serves a connection, in bytes.
+const STACK: usize = 512 * 1024;
 
 /// Serves a connection at a seat, and ends its sink.
 fn serve_at<R: Wait, S: Source, K: Sink, C: Clock + Drop>(
@@ -23,97 +30,80 @@ fn serve_at<R: Wait, S: Source, K: Sink, C: Clock + Drop>(
     mut source: S,
     mut sink: K,
     mut clock: C,
-    mut room: Room,
+    pool: &Pool,
 ) -> Done<S, K>
-    requires { MayBegin turnstile.now seat room }
+    requires { MayBegin turnstile.now seat pool.now }
     ensures { Kept S.at K.at C.tick turnstile.now source sink clock result }
 {
     let mut desk = Seated::new(rt, turnstile, seat);
-    let served = serve_connection(
+    let mut rooms = PoolRooms { rt, pool };
+    let served = serve_visits(
         alloc,
         &mut desk,
         &mut source,
         &mut sink,
         &mut clock,
-        &mut room,
+        &mut rooms,
     );
     sink.end();
     Done {
         seat: desk.into_seat(),
         source,
         sink,
-        room,
         served,
     }
 }
 
-/// The same in a thread, with all that it needs, behind the gate.
-fn serve_there<R: Wait + Copy, S: Source, K: Sink, C: Clock + Drop, G: Gate + Drop>(
+/// The same in a thread, with all that it needs, behind the gate. As its last act it tells that the
+/// connection has ended.
+pub(crate) fn serve_there<R: Wait + Copy, S: Source, K: Sink, C: Clock + Drop, G: Gate + Drop>(
     rt: R,
     alloc: Global,
     turnstile: Arc<Turnstile<HubValue>, Global>,
+    endings: Arc<Endings, Global>,
     gate: G,
-    worker: u32,
+    place: u32,
     seat: Seat<HubValue>,
     source: S,
     sink: K,
     clock: C,
-    room: Room,
+    pool: Arc<Pool, Global>,
 ) -> Done<S, K>
-    requires { MayBegin (arc_value turnstile) seat room }
+    requires { MayBegin (arc_value turnstile) seat (arc_value pool) }
     ensures { Kept S.at K.at C.tick (arc_value turnstile) source sink clock result }
 {
-    gate.pass(worker);
-    serve_at(&rt, alloc, &turnstile, seat, source, sink, clock, room)
+    gate.pass(place);
+    let done = serve_at(&rt, alloc, &turnstile, seat, source, sink, clock, &pool);
+    endings.tell(&rt, place);
+    done
 }
 
-/// Begins to serve a connection in a thread. Where no thread can be made the caller serves it.
-pub(crate) fn begin<S, K, C, G, R>(
+/// Starts a thread that works for a connection. Where none can be made the work comes back.
+pub(crate) fn try_start<S, K, C, F, R>(
     rt: &R,
-    alloc: Global,
-    turnstile: Arc<Turnstile<HubValue>, Global>,
-    gate: G,
-    worker: u32,
-    seat: Seat<HubValue>,
-    source: S,
-    sink: K,
-    clock: C,
-    room: Room,
-) -> Running<S, K, C>
+    begun: &Begun<S, K, C>,
+    work: F,
+) -> Result<PromisedHandle<Done<S, K>, Beginning<S, K, C>>, F>
 where
     S: Source + Send + Drop + 'static,
     K: Sink + Send + Drop + 'static,
-    C: Clock + Send + Drop + 'static,
-    G: Gate + Send + Drop + 'static,
-    R: Threads + Wait + Copy + Send + 'static,
-    requires { MayBegin (arc_value turnstile) seat room }
-    ensures { HasBegun (begun_of result) (arc_value turnstile) source sink clock }
+    C: Clock + Drop,
+    F: FnOnce() -> Done<S, K> + Send + 'static,
+    R: Threads,
+    requires runs { F.pre work }
+    requires keeps { (done : Done S K) → F.post work done → KeptOf S.at K.at C.tick begun.now done }
+    ensures started { IfOk result (λ handle. handle.promise.begun.value ≡ begun.now) }
+    ensures refused { IfErr result (λ back. back ≡ work) }
 {
-    let handle = *rt;
-    let begun = Begun {
-        source: Snapshot::of(&source),
-        sink: Snapshot::of(&sink),
-        clock: Snapshot::of(&clock),
-        turnstile: Snapshot::of(&*turnstile),
+    let promise = Beginning {
+        begun: Snapshot::of(begun),
     };
-    // A promise is dropped where the thread starts, so there are two of them.
-    let again = Begun {
-        source: Snapshot::of(&source),
-        sink: Snapshot::of(&sink),
-        clock: Snapshot::of(&clock),
-        turnstile: Snapshot::of(&*turnstile),
-    };
-    let spawned = thread::spawn_with(rt, begun, move || {
-        serve_there(
-            handle, alloc, turnstile, gate, worker, seat, source, sink, clock, room,
-        )
-    });
-    match spawned {
-        Ok(handle) => Running::Thread(handle),
-        Err(refused) => Running::Here(Finished {
-            begun: again,
-            done: (refused.value)(),
-        }),
+    match thread::Builder::new()
+        .stack_size(STACK)
+        .spawn_with(rt, promise, work)
+    {
+        Ok(handle) => Ok(handle),
+        Err(refused) => Err(refused.value),
     }
 }
 
@@ -126,11 +116,6 @@ where
     R: Threads,
     ensures { KeptOf S.at K.at C.tick (begun_of running) result }
 {
-    match running {
-        Running::Thread(handle) => handle.join(rt),
-        Running::Here(finished) => {
-            let Finished { begun: _, done } = finished;
-            done
-        }
-    }
+    let Running { place: _, handle } = running;
+    handle.join(rt)
 }

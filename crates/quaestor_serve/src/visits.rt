@@ -1,16 +1,14 @@
-//! A connection comes into the hall, and leaves it.
-ghost use Rattle.std.specs.Prelude.{◌≡◌, ◌+◌, ◌<◌, vec_len};
-ghost use Rattle.std.specs.Arc.{arc_value};
+//! A connection leaves the hall.
+ghost use Rattle.std.specs.Prelude.{◌≡◌, ◌+◌, ◌<◌};
 ghost use Rattle.std.specs.VecDeque.{deque_len};
-ghost use Rattle.quaestor_serve.specs.Halls.{IsReady, Stays, Admits, Releases};
+ghost use Rattle.quaestor_serve.specs.Halls.{IsReady, Stays, Releases};
 
 use crate::begun::Done;
 use crate::hall::Hall;
-use crate::threads::{begin, finish};
-use hub_desk::{HubValue, Turnstile};
-use q_outside::{Clock, Gate, Served, Sink, Source};
-use std::alloc::Global;
-use std::sync::{Arc, Wait};
+use crate::running::Running;
+use crate::threads::finish;
+use q_outside::{Clock, Served, Sink, Source};
+use std::collections::VecDeque;
 use std::thread::Threads;
 
 /// A connection that leaves, with how it was served.
@@ -21,67 +19,59 @@ pub(crate) struct Leaving<S, K> {
     pub served: Served,
 }
 
-/// Begins to serve a connection. It takes no memory.
-pub(crate) fn admit<S, K, C, G, R>(
-    rt: &R,
-    alloc: Global,
-    hall: &mut Hall<S, K, C>,
-    turnstile: Arc<Turnstile<HubValue>, Global>,
-    gate: G,
-    worker: u32,
-    clock: C,
-    source: S,
-    sink: K,
-)
-where
-    S: Source + Send + Drop + 'static,
-    K: Sink + Send + Drop + 'static,
-    C: Clock + Send + Drop + 'static,
-    G: Gate + Send + Drop + 'static,
-    R: Threads + Wait + Copy + Send + 'static,
-    requires room { 0 < vec_len hall.old.rooms }
-    requires ready { IsReady hall.old }
-    requires turnstile { arc_value turnstile ≡ arc_value hall.old.turnstile }
-    ensures stays { Stays hall.old hall.new }
-    ensures ready { IsReady hall.new }
-    ensures admits { Admits hall.old hall.new source sink clock }
-{
-    let Some(room) = hall.rooms.pop() else {
-        unreachable!()
-    };
-    let seat = hall.turnstile.split(&mut hall.seat);
-    let running = begin(
-        rt, alloc, turnstile, gate, worker, seat, source, sink, clock, room,
-    );
-    hall.running.push_back_reserved(running);
+/// Notes where among those that are served the connection of a place is.
+pub(crate) fn note_position(positions: &mut Vec<usize>, place: u32, position: usize) {
+    if let Some(noted) = positions.get_mut(place as usize) {
+        *noted = position;
+    }
 }
 
-/// Waits for the end of the oldest connection, and joins its seat to the main one.
-pub(crate) fn release<S, K, C, R>(rt: &R, hall: &mut Hall<S, K, C>) -> Leaving<S, K>
+/// The place of the connection at a position, or this one where none is there.
+fn place_at<S, K, C>(running: &VecDeque<Running<S, K, C>>, position: usize, otherwise: u32) -> u32
+where
+    S: Source + Drop,
+    K: Sink + Drop,
+    C: Clock + Drop,
+{
+    match running.get(position) {
+        Some(there) => there.place,
+        None => otherwise,
+    }
+}
+
+/// Waits for the end of a connection, and joins its seat to the main one. Its place is vacant then, and
+/// the last of the others has its position.
+pub(crate) fn release<S, K, C, R>(
+    rt: &R,
+    hall: &mut Hall<S, K, C>,
+    position: usize,
+) -> Leaving<S, K>
 where
     S: Source + Drop,
     K: Sink + Drop,
     C: Clock + Drop,
     R: Threads,
-    requires some { 0 < deque_len hall.old.running }
+    requires some { position < deque_len hall.old.running }
     requires ready { IsReady hall.old }
     ensures stays { Stays hall.old hall.new }
     ensures ready { IsReady hall.new }
     ensures fewer { deque_len hall.new.running + 1 ≡ deque_len hall.old.running }
     ensures releases { Releases S.at K.at C.tick hall.old hall.new result.source result.sink result.served }
 {
-    let Some(running) = hall.running.pop_front() else {
+    let Some(running) = hall.running.swap_remove_back(position) else {
         unreachable!()
     };
+    let place = running.place;
+    let moved = place_at(&hall.running, position, place);
+    note_position(&mut hall.positions, moved, position);
     let Done {
         seat,
         source,
         sink,
-        room,
         served,
     } = finish(rt, running);
     hall.turnstile.join(&mut hall.seat, seat);
-    hall.rooms.push_reserved(room);
+    hall.vacant.push_reserved(place);
     Leaving {
         source,
         sink,

@@ -1,11 +1,11 @@
 //! How a server ends, and what it hands back.
 ghost use Rattle.std.specs.Prelude.{◌≡◌, ◌<◌};
 
-use crate::sinks::{GET, KeptSink, connections_of, one_request};
+use crate::sinks::{GET, KeptSink, connections_of, requests};
 use hub_core::Config;
 use q_base::{Memory, Moment};
 use q_outside::{FixedClock, ListDoors, OpenGate, PlainSource, Script, Served};
-use quaestor_serve::{ServeEnd, ServeWhy, serve};
+use quaestor_serve::{Crew, ServeEnd, ServeWhy, serve};
 use std::alloc::Global;
 use std::marker::Brand;
 use std::sync::Wait;
@@ -21,14 +21,13 @@ struct Outcome {
     handed: Vec<(Option<Served>, usize)>,
 }
 
-/// A case: how many connections there are, which call of the doors fails, how many workers and matchers
-/// there are, and how many connections are to be served.
+/// A case: how many connections there are, which call of the doors fails, how many places, workers and
+/// matchers there are, and how many connections are to be served.
 #[derive(Clone, Copy, Debug)]
 struct Case {
     connections: usize,
     failing: Option<u64>,
-    workers: u32,
-    matchers: u32,
+    crew: Crew,
     most: u64,
 }
 
@@ -42,7 +41,8 @@ fn serve_counted<L: Ledger, R: Threads + Wait + Copy + Send + 'static>(
     requires name { blank.name ≡ L.name }
     requires parts { blank.parts ≡ L.parts }
     requires some { 0 < L.parts }
-    requires workers { 0 < case.workers }
+    requires places { 0 < case.crew.places }
+    requires workers { 0 < case.crew.workers }
 {
     let connections = connections_of(alloc, case.connections)?;
     let mut failing = Vec::new(alloc);
@@ -61,8 +61,7 @@ fn serve_counted<L: Ledger, R: Threads + Wait + Copy + Send + 'static>(
         &mut doors,
         &clock,
         &OpenGate,
-        case.workers,
-        case.matchers,
+        case.crew,
         case.most,
     );
     let mut handed = Vec::new(alloc);
@@ -78,20 +77,26 @@ fn serve_case<R: Threads + Wait + Copy + Send + 'static>(
     alloc: Global,
     case: Case,
 ) -> Result<Outcome, Memory>
-    requires { 0 < case.workers }
+    requires places { 0 < case.crew.places }
+    requires workers { 0 < case.crew.workers }
 {
     serve_counted::<Brand, R>(rt, alloc, case, Blank::new(1))
 }
 
-/// A case without matchers.
-fn case_of(connections: usize, failing: Option<u64>, workers: u32, most: u64) -> Case
-    ensures { result.workers ≡ workers }
+/// A case without matchers, with a worker for each place.
+fn case_of(connections: usize, failing: Option<u64>, places: u32, most: u64) -> Case
+    ensures places { result.crew.places ≡ places }
+    ensures workers { result.crew.workers ≡ places }
 {
+    let crew = Crew {
+        places,
+        workers: places,
+        matchers: 0,
+    };
     Case {
         connections,
         failing,
-        workers,
-        matchers: 0,
+        crew,
         most,
     }
 }
@@ -113,7 +118,7 @@ fn a_server_ends_for_each_cause(rt: HostRuntime) -> Result<(), Fail> {
         assert_eq!(rt; outcome.end, ServeEnd { connections, why });
         assert_eq!(rt; outcome.handed.len() as u64, connections);
         for (served, bytes) in &outcome.handed {
-            assert_eq!(rt; *served, Some(one_request()));
+            assert_eq!(rt; *served, Some(requests(1)));
             assert!(rt; *bytes > GET.len());
         }
     }
@@ -125,15 +130,18 @@ fn many_connections_are_served_beside_matchers(rt: HostRuntime) -> Result<(), Fa
     let case = Case {
         connections: 100,
         failing: None,
-        workers: 4,
-        matchers: 2,
+        crew: Crew {
+            places: 4,
+            workers: 4,
+            matchers: 2,
+        },
         most: 100,
     };
     let outcome = serve_case(&rt, rt.alloc(), case)?;
     assert_eq!(rt; outcome.end.why, ServeWhy::Limit);
     assert_eq!(rt; outcome.handed.len(), 100);
     for (served, _) in &outcome.handed {
-        assert_eq!(rt; *served, Some(one_request()));
+        assert_eq!(rt; *served, Some(requests(1)));
     }
     Ok(())
 }

@@ -8,10 +8,10 @@ use std::collections::VecDeque;
 /// A request.
 pub(crate) const GET: &[u8] = b"GET /v1/stats HTTP/1.1\r\nHost: a\r\n\r\n";
 
-/// How a connection of one request is served.
-pub(crate) fn one_request() -> Served {
+/// How a connection of so many requests is served.
+pub(crate) fn requests(count: u64) -> Served {
     Served {
-        requests: 1,
+        requests: count,
         why: Why::InputEnd,
     }
 }
@@ -45,12 +45,17 @@ impl Sink for KeptSink {
     }
 }
 
-/// A connection of one request.
+/// A connection of so many requests.
 pub(crate) fn connection_of(
     alloc: Global,
+    count: usize,
     opens: Option<HoldGate>,
 ) -> Result<(PlainSource, KeptSink), Memory> {
-    let source = PlainSource::of(Vec::from_slice(alloc, GET)?);
+    let mut bytes = Vec::new(alloc);
+    for _ in 0..count {
+        bytes.extend_from_slice(GET)?;
+    }
+    let source = PlainSource::of(bytes);
     let sink = KeptSink {
         bytes: Vec::new(alloc),
         faults: 0,
@@ -66,7 +71,7 @@ pub(crate) fn connections_of(
 ) -> Result<VecDeque<(PlainSource, KeptSink)>, Memory> {
     let mut connections = VecDeque::new(alloc);
     for _ in 0..count {
-        connections.push_back(connection_of(alloc, None)?)?;
+        connections.push_back(connection_of(alloc, 1, None)?)?;
     }
     Ok(connections)
 }

@@ -1,14 +1,15 @@
 -- one matcher more works in the hall
 use Rattle.std.proofs.Common.{rules}
 use Rattle.std.specs.Arc.{arc_value}
-use Rattle.quaestor_serve.proofs.ServesLemmas.{work_more}
+use Rattle.quaestor_serve.proofs.ServesLemmas.{work_more, works_with}
 use Rattle.quaestor_serve.proofs.matchers.start_matchers.Goals as goal
 
 pub loop-n-preserved : goal.loop-n-preserved
 loop-n-preserved g c = (
   search rules,
   search rules,
-  work_more (arc_value c.loop-n.hall.turnstile) c.loop-n.matchers.items c.push_back_reserved.new.self.items c.begin_matcher-matcher.result (search rules) c.loop-n.invariant.2 (search rules),
+  work_more g.C.Clock.tick (g.C.Clone.is_clone c.args.clock.now) (arc_value c.loop-n.hall.turnstile) c.loop-n.matchers.items c.push_back_reserved.new.self.items c.begin_matcher-matcher.result (search rules) c.loop-n.invariant.2
+      (works_with g.C.Clock.tick (g.C.Clone.is_clone c.args.clock.now) c.in_ok-clock.clock _ _ c.begin_matcher-matcher.result (search rules) c.in_ok-clock.ensures.cases c.begin_matcher-matcher.ensures),
   search rules,
   search rules,
 )

@@ -6,4 +6,4 @@ use Rattle.quaestor_serve.specs.Matchers.{WorkIn, IsAsBefore}
 use Rattle.quaestor_serve.proofs.matchers.start_matchers.Given as goal
 
 abbrev pub invariant-loop-n : goal.invariant-loop-n
-invariant-loop-n g l = IsReady l.hall × IsAsBefore l.initial.hall l.hall × WorkIn l.hall l.matchers.items × (deque_len l.matchers ≡ l._n) × (l.count ≤ deque_capacity l.matchers)
+invariant-loop-n g l = IsReady l.hall × IsAsBefore l.initial.hall l.hall × WorkIn g.C.Clock.tick (g.C.Clone.is_clone l.clock) l.hall l.matchers.items × (deque_len l.matchers ≡ l._n) × (l.count ≤ deque_capacity l.matchers)

@@ -1,7 +1,11 @@
--- the connection that has left is one of those that were handed back
-use Rattle.quaestor_serve.proofs.GoingLemmas.{goes_back}
+-- the connection that has left was handed back
+use Rattle.std.proofs.Common.{arith}
+use Rattle.quaestor_serve.proofs.GoingLemmas.{hands_one}
 use Rattle.quaestor_serve.proofs.rounds.hand_back.Goals as goal
 
-pub returns-clause-going : goal.returns-clause-going
-returns-clause-going g c = λ clock first count closed going.
-    goes_back g.P.From.Source.at g.P.To.Sink.at g.C.Clock.tick (g.C.Clone.is_clone clock) first _ _ c.args.hall.now c.release-source.new.hall count closed c.release-source.result.source c.release-source.result.sink c.release-source.result.served c.release-source.ensures.stays c.release-source.ensures.releases c.back.ensures going
+pub returns : goal.returns
+returns g c =
+    let less = c.release-source.ensures.fewer in
+    let old_length = c.args.hall.now.running.ok.0 in
+    let new_length = c.release-source.new.hall.running.ok.0 in
+    hands_one g.P.From.Source.at g.P.To.Sink.at g.C.Clock.tick g.C.Clone.is_clone _ _ c.args.hall.now c.release-source.new.hall c.release-source.result.source c.release-source.result.sink c.release-source.result.served c.release-source.ensures.stays c.release-source.ensures.ready (omega (arith, less, old_length, new_length)) c.release-source.ensures.releases c.back.ensures

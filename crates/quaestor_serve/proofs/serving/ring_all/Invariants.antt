@@ -1,4 +1,5 @@
 -- the number of connections that came is that of the rounds, and the doors were not closed
+use Rattle.std.proofs.Common.{[]}
 use Rattle.q_outside.specs.Doors.{DoorsView}
 use Rattle.quaestor_serve.specs.Going.{Going, HaveRoom}
 use Rattle.quaestor_serve.specs.Halls.{IsReady, Stays}
@@ -8,9 +9,9 @@ use Rattle.quaestor_serve.proofs.serving.ring_all.Given as goal
 abbrev pub invariant-loop-given : goal.invariant-loop-given
 invariant-loop-given g l =
     IsReady l.hall
-    × HaveRoom (g.P.Doors.at l.doors) l.hall
+    × HaveRoom (g.P.Doors.at l.doors) l.hall 0
     × Stays l.initial.hall l.hall
-    × WorkIn l.hall l.matchers.items
+    × WorkIn g.C.Clock.tick (g.C.Clone.is_clone l.clock) l.hall l.matchers.items
     × ((first : DoorsView g.row.P-From.Denot g.row.P-To.Denot)
-    → Going g.P.From.Source.at g.P.To.Sink.at g.C.Clock.tick (g.C.Clone.is_clone l.clock) first (g.P.Doors.at l.initial.doors) l.initial.hall 0 0
-    → Going g.P.From.Source.at g.P.To.Sink.at g.C.Clock.tick (g.C.Clone.is_clone l.clock) first (g.P.Doors.at l.doors) l.hall l.given 0)
+    → Going g.P.From.Source.at g.P.To.Sink.at g.C.Clock.tick (g.C.Clone.is_clone l.clock) first (g.P.Doors.at l.initial.doors) l.initial.hall [] 0 0
+    → Going g.P.From.Source.at g.P.To.Sink.at g.C.Clock.tick (g.C.Clone.is_clone l.clock) first (g.P.Doors.at l.doors) l.hall [] l.given 0)

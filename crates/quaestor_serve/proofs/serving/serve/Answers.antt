@@ -1,5 +1,5 @@
 -- all connections were handed back and all matchers joined
-use Rattle.std.proofs.Common.{rules, refl, ap, ◌∙◌}
+use Rattle.std.proofs.Common.{[], rules, refl, ap, ◌∙◌}
 use Rattle.quaestor_serve.specs.Kept.{setting_at}
 use Rattle.quaestor_serve.specs.Serves.{closings_by}
 use Rattle.quaestor_serve.specs.declared.serve_end.ServeWhy.TheVariants.{Limit}
@@ -16,15 +16,15 @@ pub returns-in_default-hall_of : goal.returns-in_default-hall_of
 returns-in_default-hall_of g c = serves_none g.P.From.Source.at g.P.To.Sink.at g.C.Clock.tick (g.C.Clone.is_clone c.args.clock.now) c.args.config (g.P.Doors.at c.args.doors.now) c.args.connections _ (search rules) c.no_memory-in_default-hall_of.ensures
 
 pub stop_matchers-requires-clause-work : goal.stop_matchers-requires-clause-work
-stop_matchers-requires-clause-work g c = work_stays c.serve_all-end.new.hall c.drain.new.hall c.serve_all-end.new.matchers.items c.drain.ensures.stays.0 c.serve_all-end.ensures.work
+stop_matchers-requires-clause-work g c = work_stays g.C.Clock.tick (g.C.Clone.is_clone c.args.clock.now) c.serve_all-end.new.hall c.drain.new.hall c.serve_all-end.new.matchers.items c.drain.ensures.hands.stays.0 c.serve_all-end.ensures.work
 
 pub returns : goal.returns
 returns g c =
     let end = c.serve_all-end.result in
     serves_all g.P.From.Source.at g.P.To.Sink.at g.C.Clock.tick (g.C.Clone.is_clone c.args.clock.now) c.args.config (g.P.Doors.at c.args.doors.now) (g.P.Doors.at c.drain.new.doors) c.drain.new.hall c.stop_matchers.new.hall c.args.connections end
-    (ap setting_at c.drain.ensures.stays.0 ∙ c.serve_all-end.ensures.setting ∙ c.in-Ok-hall_of.ensures.setting)
+    (ap setting_at c.drain.ensures.hands.stays.0 ∙ c.serve_all-end.ensures.setting ∙ c.in-Ok-hall_of.ensures.setting)
     (none_of _ c.drain.new.hall.running.items c.drain.new.hall.running.ok.0 c.drain.ensures.empty)
-    c.stop_matchers.ensures.ready.2
+    c.stop_matchers.ensures.ready.1
     c.stop_matchers.ensures.gathers
-    (ends_later end.why _ _ _ end.connections c.args.connections c.drain.ensures.count c.serve_all-end.ensures.ends.1)
-    (c.drain.ensures.going c.args.clock.now _ end.connections (closings_by end.why) c.serve_all-end.ensures.ends.0)
+    (ends_later end.why _ _ _ end.connections c.args.connections c.drain.ensures.hands.faults c.serve_all-end.ensures.ends.1)
+    (c.drain.ensures.hands.going c.args.clock.now _ [] end.connections (closings_by end.why) c.serve_all-end.ensures.ends.0)

@@ -1,0 +1,25 @@
+-- the connection has a thread, and is one of those that are served
+use denote.Param.{param, copied}
+use Rattle.std.proofs.Common.{rules, [], ◌∷◌, refl, ap}
+use Rattle.std.specs.Arc.{arc_value}
+use Rattle.quaestor_serve.proofs.CrossingLemmas.{leaves, connection_send}
+use Rattle.quaestor_serve.proofs.GoingLemmas.{goes_in, going_same, room_with}
+use Rattle.quaestor_serve.proofs.HallLemmas.{ready_more}
+use Rattle.quaestor_serve.proofs.rounds.admit.Goals as goal
+
+pub start-handle-requires-send-F : goal.start-handle-requires-send-F
+start-handle-requires-send-F g c κs within =
+    let sent = connection_send [] (copied 3 g.row.R) (param 2 g.row.G) (param 4 g.row.P-From) (param 5 g.row.P-To) (param 1 g.row.C) c.type_bounds.send-R c.type_bounds.send-G c.type_bounds.send-P-From c.type_bounds.send-P-To c.type_bounds.send-C in
+    record { owned = sent.owned; leaving = leaves 2 _ sent }
+
+pub returns-clause-ready : goal.returns-clause-ready
+returns-clause-ready g c = ready_more (arc_value c.start-handle.new.hall.turnstile) c.start-handle.new.hall.running.items c.push_back_reserved.new.self.items _ _ c.push_back_reserved.ensures.items (search rules) c.start-handle.ensures.hands.ready
+
+pub returns-clause-room : goal.returns-clause-room
+returns-clause-room g c = room_with (g.P.Doors.at c.start-handle.new.doors).away c.start-handle.new.hall.running.items c.push_back_reserved.new.self.items _ c.push_back_reserved.ensures.items (c.start-handle.ensures.hands.room 1 c.requires.room)
+
+pub returns-clause-going : goal.returns-clause-going
+returns-clause-going g c = λ given first count is_clone going.
+    goes_in g.P.From.Source.at g.P.To.Sink.at g.C.Clock.tick (g.C.Clone.is_clone given) first (g.P.Doors.at c.start-handle.new.doors) c.start-handle.new.hall _ _ count c.args.source c.args.sink c.args.clock refl c.push_back_reserved.ensures.items (search rules) (search rules) (search rules) refl refl is_clone
+    (c.start-handle.ensures.hands.going given first ((c.args.source, c.args.sink) ∷ []) count 0
+    (going_same g.P.From.Source.at g.P.To.Sink.at g.C.Clock.tick (g.C.Clone.is_clone given) first (g.P.Doors.at c.args.doors.now) c.args.hall.now _ ((c.args.source, c.args.sink) ∷ []) count 0 (refl, refl, refl, ap (λ m. m.0.met) c.split-seat.ensures.view, ap (λ m. m.0.seen) c.split-seat.ensures.view) going))

@@ -1,0 +1,12 @@
+//! How many there are of what a server has.
+
+/// How many connections, buffers and matchers a server has.
+#[derive(Clone, Copy, Debug, PartialEq, Eq)]
+pub struct Crew {
+    /// How many connections may be there at the same time, each with a thread of its own.
+    pub places: u32,
+    /// How many of them may be served at the same time, each with buffers.
+    pub workers: u32,
+    /// How many threads match.
+    pub matchers: u32,
+}
