@@ -26,6 +26,8 @@ run: ## [at once, or 1 min] runs the program over standard input: make run ARGS=
 	@./quaestor $(ARGS)
 example: ## [at once, or 3 min] runs the examples and compares their output with the stored replies
 	@sh tools/example.sh
+lasts: ## [30 s] tries the server with clients that are silent, slow or many, and ends it
+	@python3 tools/lasts.py
 bench: ## [1 min] measures the server with wrk and prints a table
 	@sh tools/bench.sh
 ci: fmt lint ## [5 to 60 min] the gate, as a merge runs it, after the layout and the style
@@ -37,4 +39,4 @@ verify-dist: ## [5 to 60 min] runs the gate and compares what it built with dist
 
 named:
 	@test -n "$(CRATE)" || { echo "say which: CRATE=name" >&2; exit 2; }
-.PHONY: help try test check fmt lint edits plant crate program run example bench ci dist verify-dist named
+.PHONY: help try test check fmt lint edits plant crate program run example lasts bench ci dist verify-dist named

@@ -5,7 +5,8 @@ ghost use Rattle.quaestor_prog.specs.ListPlaces.{AreUnused};
 use crate::worked::GIVEN;
 use q_base::{Memory, Moment};
 use q_outside::{
-    EndlessSink, FixedClock, ListDoors, ListSink, ListSource, PlainSource, Script, Served, Sink,
+    EndlessSink, FixedClock, Limits, ListDoors, ListSink, ListSource, PlainSource, Script, Served,
+    Sink,
 };
 use quaestor_prog::{ListPlaces, Status, run};
 use std::alloc::Global;
@@ -55,13 +56,21 @@ pub(crate) struct Comers {
     pub failing: Option<u64>,
 }
 
-/// How a run ended, what it wrote, and how the connections were served that the places have back, where
-/// they have doors.
+/// How a run ended, what it wrote, how the connections were served that the places have back, where they
+/// have doors, and which limits of time the places were asked for.
 #[derive(Debug, Drop)]
 pub(crate) struct Outcome {
     pub status: Status,
     pub written: Vec<u8>,
     pub handed: Option<Vec<Option<Served>>>,
+    pub limits: Option<Limits>,
+}
+
+/// What the places have at the end of a run.
+#[derive(Debug, Drop)]
+pub(crate) struct Kept {
+    pub handed: Option<Vec<Option<Served>>>,
+    pub limits: Option<Limits>,
 }
 
 /// A script of such calls.
@@ -125,8 +134,8 @@ fn handed_of<M: Ledger>(
     Ok(Some(handed))
 }
 
-/// Runs the program over doors and places whose counts are those of these ledgers. Its status, and how
-/// the connections were served that the places have back, where they have doors.
+/// Runs the program over doors and places whose counts are those of these ledgers. Its status, and what
+/// the places have at the end.
 pub(crate) fn run_with<K, M, F, R>(
     rt: &R,
     alloc: Global,
@@ -136,7 +145,7 @@ pub(crate) fn run_with<K, M, F, R>(
     comers: Option<Comers>,
     doors: Blank,
     places: Blank,
-) -> Result<(Status, Option<Vec<Option<Served>>>), Memory>
+) -> Result<(Status, Kept), Memory>
 where
     K: Sink,
     M: Ledger,
@@ -152,7 +161,11 @@ where
     let doors = doors_of::<M>(alloc, comers, doors)?;
     let mut places = ListPlaces::<PlainSource, EndlessSink, M, F>::new(address, doors, places);
     let status = run(rt, alloc, words, source, sink, &mut clock, &mut places);
-    Ok((status, handed_of(alloc, places.kept)?))
+    let kept = Kept {
+        handed: handed_of(alloc, places.kept)?,
+        limits: places.limits,
+    };
+    Ok((status, kept))
 }
 
 /// The same, over a sink that keeps what it is given.
@@ -178,13 +191,14 @@ where
     requires places { (places.name ≡ F.name) × (places.parts ≡ F.parts) × (0 < F.parts) }
 {
     let mut sink = ListSink::<L>::new(alloc, capacity, script, sink)?;
-    let (status, handed) = run_with::<ListSink<L>, M, F, R>(
+    let (status, kept) = run_with::<ListSink<L>, M, F, R>(
         rt, alloc, words, source, &mut sink, comers, doors, places,
     )?;
     Ok(Outcome {
         status,
         written: sink.bytes,
-        handed,
+        handed: kept.handed,
+        limits: kept.limits,
     })
 }
 

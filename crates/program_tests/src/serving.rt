@@ -1,7 +1,7 @@
 //! Servers at an address in memory.
 
 use crate::calls::{AMPLE, Comers, Outcome, WHOLE, calls_of, run_at};
-use q_outside::{Served, Why};
+use q_outside::{Limits, Served, Why};
 use quaestor_prog::Status;
 use std::test::Fail;
 
@@ -129,6 +129,55 @@ fn a_server_ends_by_the_first_fault(rt: HostRuntime) -> Result<(), Fail> {
             assert_eq!(rt; outcome.written.as_slice(), written, "at {capacity}");
             assert_eq!(rt; count_of(&outcome), Some(count), "at {capacity}");
         }
+    }
+    Ok(())
+}
+
+#[test]
+fn the_places_get_the_limits_of_time(rt: HostRuntime) -> Result<(), Fail> {
+    let defaults = Limits {
+        idle: 30,
+        head_time: 10,
+        reply_time: 10,
+        least_rate: 1_000,
+        grace: 10,
+    };
+    let rows: [(&[&str], Option<Limits>); 3] = [
+        (&["serve", "here"], Some(defaults)),
+        (
+            &[
+                "serve",
+                "here",
+                "--idle",
+                "7",
+                "--head-time=8",
+                "--reply-time",
+                "9",
+                "--least-rate",
+                "20000",
+                "--grace=0",
+            ],
+            Some(Limits {
+                idle: 7,
+                head_time: 8,
+                reply_time: 9,
+                least_rate: 20_000,
+                grace: 0,
+            }),
+        ),
+        (&["serve", "there"], None),
+    ];
+    for (line, limits) in rows {
+        let outcome = run_at(
+            &rt,
+            line,
+            b"",
+            calls_of(WHOLE),
+            AMPLE,
+            calls_of(WHOLE),
+            coming(1),
+        )?;
+        assert_eq!(rt; outcome.limits, limits);
     }
     Ok(())
 }

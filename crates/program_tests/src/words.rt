@@ -91,7 +91,13 @@ fn options_are_numbers_within_their_limits(rt: HostRuntime) -> Result<(), Fail> 
         ("serve here --matchers 17", Status::Words),
         ("serve here --connections 0", Status::Words),
         ("serve here --connections 1099511627777", Status::Words),
+        ("serve here --places 0", Status::Words),
+        ("serve here --places 32769", Status::Words),
         ("serve here --idle 3601", Status::Words),
+        ("serve here --head-time 0", Status::Words),
+        ("serve here --reply-time 3601", Status::Words),
+        ("serve here --least-rate 1000001", Status::Words),
+        ("serve here --grace 3601", Status::Words),
         ("serve here --idle 1 --idle 1", Status::Words),
         ("serve here --frobnicate 1", Status::Words),
     ];
@@ -189,7 +195,7 @@ fn help_and_version_are_written(rt: HostRuntime) -> Result<(), Fail> {
 
 #[test]
 fn refused_words_have_a_message(rt: HostRuntime) -> Result<(), Fail> {
-    let rows: [(&[&str], &str); 4] = [
+    let rows: [(&[&str], &str); 5] = [
         (
             &["pipe", "--bits", "9"],
             "error: --bits is a decimal number from 10 to 22, not '9'\n",
@@ -201,6 +207,10 @@ fn refused_words_have_a_message(rt: HostRuntime) -> Result<(), Fail> {
         (
             &["serve", "here", "--idle=x"],
             "error: --idle is a decimal number from 0 to 3600, not 'x'\n",
+        ),
+        (
+            &["serve", "here", "--least-rate", "0"],
+            "error: --least-rate is a decimal number from 1 to 1000000, not '0'\n",
         ),
         (
             &["serve", "--workers", "2"],

@@ -1,23 +1,30 @@
 //! Places of this machine, where connections are listened for over TCP.
-use q_outside::Failed;
+ghost use Rattle.std.specs.Prelude.{◌≡◌};
+
+use q_outside::{Failed, Limits};
 use quaestor_prog::Places;
+use std::fs::{File, Files};
+use std::io;
 use std::net::{Net, TcpListener, TcpStream};
 use std::rt::Clock;
-use std::sync::Wait;
+use std::sync::{OnceLock, Wait};
 use tcp_doors::TcpDoors;
 
 /// The addresses of this machine. Why one of them cannot be listened at is said on standard error.
+/// The address that is told is that of the first doors: a run has one listener.
 #[derive(Drop)]
 pub struct TcpPlaces<R: Drop> {
     rt: R,
     faults: u64,
+    address: OnceLock<String>,
     kept: Option<TcpDoors<R>>,
 }
 
-impl<R: Drop> TcpPlaces<R> {
+impl<R: AllocGlobal + Drop> TcpPlaces<R> {
     /// Places without a fault yet.
     pub fn new(rt: R) -> TcpPlaces<R> {
         TcpPlaces {
+            address: OnceLock::new(),
             rt,
             faults: 0,
             kept: None,
@@ -25,9 +32,57 @@ impl<R: Drop> TcpPlaces<R> {
     }
 }
 
+/// The address at which doors are, as it is told: with the port that the system chose, where it was to.
+/// Where it cannot be told, for want of memory, it is empty.
+fn told_by<R: AllocGlobal + Drop>(rt: &R, doors: &TcpDoors<R>, address: &str) -> String {
+    match address_of(rt, doors, address) {
+        Ok(told) => told,
+        Err(_) => String::new(rt.alloc()),
+    }
+}
+
+/// The same, or why it cannot be told.
+fn address_of<R: AllocGlobal + Drop>(
+    rt: &R,
+    doors: &TcpDoors<R>,
+    address: &str,
+) -> io::Result<String> {
+    match asked_port(address) {
+        Some(host) => {
+            let port = doors.address()?.port();
+            Ok(format!(in rt.alloc(); "{host}:{port}")?)
+        }
+        None => Ok(String::from_str(rt.alloc(), address)?),
+    }
+}
+
+/// The doors, whose address is noted as it is told.
+fn noted<R: AllocGlobal + Drop>(
+    note: &OnceLock<String>,
+    rt: &R,
+    doors: TcpDoors<R>,
+    address: &str,
+) -> TcpDoors<R>
+    ensures { result ≡ doors }
+{
+    let _ = note.try_set(told_by(rt, &doors, address));
+    doors
+}
+
+/// The address before its port, where the system is to choose the port.
+fn asked_port(address: &str) -> Option<&str> {
+    let (host, port) = address.rsplit_once(':')?;
+    if port.parse::<u16>() == Ok(0) {
+        Some(host)
+    } else {
+        None
+    }
+}
+
 impl<R> Places for TcpPlaces<R>
 where
     R: Net<Listener = TcpListener, Stream = TcpStream>
+        + Files<File = File>
         + AllocGlobal
         + Eprint
         + Wait
@@ -43,10 +98,12 @@ where
 
     ghost gives = { λ _ _ _ _ _. Unit {0} };
 
-    fn listen(&mut self, address: &str, idle: u32) -> Result<TcpDoors<R>, Failed> {
+    ghost tells = { λ _ _. Unit {0} };
+
+    fn listen(&mut self, address: &str, limits: Limits) -> Result<TcpDoors<R>, Failed> {
         for _ in self.rt.forever() {
-            match TcpDoors::bind(self.rt, address, idle) {
-                Ok(doors) => return Ok(doors),
+            match TcpDoors::bind(self.rt, address, limits) {
+                Ok(doors) => return Ok(noted(&self.address, &self.rt, doors, address)),
                 Err(error) => {
                     if self.faults < u64::MAX {
                         let _ = eprint!(self.rt; "quaestor: cannot listen on {address}: {error}\n");
@@ -57,6 +114,13 @@ where
             }
         }
         unreachable!()
+    }
+
+    fn address(&self) -> &str {
+        match self.address.get() {
+            Some(told) => told.as_str(),
+            None => "",
+        }
     }
 
     fn keep_doors(&mut self, doors: TcpDoors<R>) {

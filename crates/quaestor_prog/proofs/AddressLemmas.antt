@@ -44,7 +44,7 @@ plain command is =
 -- the first argument of the command is the address
 with_first : (command : Command) (m : ArgMatches) (xs : List Arg) → args_of command ≡ xs → map rule_of xs ≡ serve_app.top.rules → app_of command ≡ serve_app → IsParsedFrom command m
     → is_some (first_of (codes "address") (rows_of (found_of m))) ≡ true
-with_first command m [] same rules is parsed = let bad : 0 ≡ 11 = ap length rules in absurd (omega (arith, bad))
+with_first command m [] same rules is parsed = let bad : 0 ≡ 16 = ap length rules in absurd (omega (arith, bad))
 with_first command m (x ∷ xs) same rules is parsed =
     let simple = ready_simple command (ap (λ (a : App). is_ready a.top) is) (ap (λ (a : App). list_all is_ready_leaf a.subs) is) in
     let a = slice_index_or (args_of command) 0 x in

@@ -7,7 +7,7 @@ use Rattle.clap.specs.declared.parser.matches.ArgMatches.{ArgMatches}
 use Rattle.clap.specs.declared.error.kind.ErrorKind.{ErrorKind}
 use Rattle.clap.specs.declared.error.kind.ErrorKind.TheVariants as kind
 use Rattle.hub_model.specs.Setting.{Setting}
-use Rattle.quaestor_prog.specs.Commands.{number_rule, address_rule, with_setting_rules, versioned, pipe_app, serve_app, program_app, NamesPipe, NamesServe, NamesNone, FaultsAre, IsAnswered, AskHelp}
+use Rattle.quaestor_prog.specs.Commands.{number_rule, address_rule, with_limit_rules, with_setting_rules, versioned, pipe_app, serve_app, program_app, NamesPipe, NamesServe, NamesNone, FaultsAre, IsAnswered, AskHelp}
 use Rattle.quaestor_prog.specs.Words.{AreRun, AreTaken, Asks, IsAnswerOf, IsPipe, IsServe, ServeAsk}
 use Rattle.quaestor_prog.specs.declared.words.Invocation.{Invocation}
 use Rattle.quaestor_prog.specs.declared.words.Invocation.TheVariants.{Pipe, Serve, Help, Invalid}
@@ -24,12 +24,18 @@ six a b c d e f g pb pc pd pe pf pg =
 pub pipe_is : (a b c : App) → a ≡ versioned (codes "pipe") → b ≡ with_setting_rules a → c ≡ with_rule b (number_rule (codes "clock")) → c ≡ pipe_app
 pipe_is a b c pa pb pc = pc ∙ ap (λ x. with_rule x (number_rule (codes "clock"))) (pb ∙ ap with_setting_rules pa)
 
-pub serve_is : (a b c d e f g : App) → a ≡ versioned (codes "serve") → b ≡ with_rule a address_rule → c ≡ with_setting_rules b → d ≡ with_rule c (number_rule (codes "workers")) → e ≡ with_rule d (number_rule (codes "matchers"))
-    → f ≡ with_rule e (number_rule (codes "connections")) → g ≡ with_rule f (number_rule (codes "idle")) → g ≡ serve_app
-serve_is a b c d e f g pa pb pc pd pe pf pg =
-    pg ∙ ap (λ x. with_rule x (number_rule (codes "idle"))) (pf ∙ ap (λ x. with_rule x (number_rule (codes "connections")))
-    (pe ∙ ap (λ x. with_rule x (number_rule (codes "matchers"))) (pd ∙ ap (λ x. with_rule x (number_rule (codes "workers")))
-    (pc ∙ ap with_setting_rules (pb ∙ ap (λ x. with_rule x address_rule) pa)))))
+pub five : (a b c d e f : App) → b ≡ with_rule a (number_rule (codes "idle")) → c ≡ with_rule b (number_rule (codes "head-time")) → d ≡ with_rule c (number_rule (codes "reply-time")) → e ≡ with_rule d (number_rule (codes "least-rate"))
+    → f ≡ with_rule e (number_rule (codes "grace")) → f ≡ with_limit_rules a
+five a b c d e f pb pc pd pe pf =
+    pf ∙ ap (λ x. with_rule x (number_rule (codes "grace"))) (pe ∙ ap (λ x. with_rule x (number_rule (codes "least-rate")))
+    (pd ∙ ap (λ x. with_rule x (number_rule (codes "reply-time"))) (pc ∙ ap (λ x. with_rule x (number_rule (codes "head-time"))) pb)))
+
+pub serve_is : (a b c d e f g h : App) → a ≡ versioned (codes "serve") → b ≡ with_rule a address_rule → c ≡ with_setting_rules b → d ≡ with_rule c (number_rule (codes "places")) → e ≡ with_rule d (number_rule (codes "workers"))
+    → f ≡ with_rule e (number_rule (codes "matchers")) → g ≡ with_rule f (number_rule (codes "connections")) → h ≡ with_limit_rules g → h ≡ serve_app
+serve_is a b c d e f g h pa pb pc pd pe pf pg ph =
+    ph ∙ ap with_limit_rules (pg ∙ ap (λ x. with_rule x (number_rule (codes "connections"))) (pf ∙ ap (λ x. with_rule x (number_rule (codes "matchers")))
+    (pe ∙ ap (λ x. with_rule x (number_rule (codes "workers"))) (pd ∙ ap (λ x. with_rule x (number_rule (codes "places")))
+    (pc ∙ ap with_setting_rules (pb ∙ ap (λ x. with_rule x address_rule) pa))))))
 
 -- clap has at most one kind of error for the words of a command
 pub pipe_single : (words : List Text) → Single (fault_of pipe_app words)

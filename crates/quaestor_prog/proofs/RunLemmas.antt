@@ -13,6 +13,7 @@ use Rattle.quaestor_prog.specs.Run.{AreAt, AreTimed, IsRun}
 use Rattle.quaestor_prog.specs.Status.{status_of}
 use Rattle.clap.specs.Words.{Text}
 use Rattle.q_outside.specs.Doors.{DoorsView}
+use Rattle.q_outside.specs.declared.limits.Limits.{Limits}
 use Rattle.quaestor_prog.specs.Commands.{AskHelp, IsAnswered}
 use Rattle.quaestor_prog.specs.Places.{PlacesView}
 use Rattle.quaestor_prog.specs.Serving.{HasServed}
@@ -71,8 +72,8 @@ pub no_help_serving : (words : List Text) (ask : ServeAsk) → IsServe words ask
 no_help_serving words ask s help = nothing_answered _ s.taken (faults_serve IsAnswered words s.named help)
 
 -- what `serve` did is said of what the words ask it for
-pub served_of : {P D S K C : Type 0} (source_at : S → End) (sink_at : K → End) (tick : C → ℕ → C → Type 0) (may : C → Type 0) (doors_at : D → DoorsView S K) (places_at : P → PlacesView D) (gives : P → List ℕ → ℕ → D → P → Type 0)
+pub served_of : {P D S K C : Type 0} (source_at : S → End) (sink_at : K → End) (tick : C → ℕ → C → Type 0) (may : C → Type 0) (doors_at : D → DoorsView S K) (places_at : P → PlacesView D) (gives : P → List ℕ → Limits → D → P → Type 0) (tells : P → List ℕ → Type 0)
     (words : List Text) (a b : ServeAsk) (sink sink' : End) (places places' : P) (status : Status) → IsServe words a → IsServe words b
-    → HasServed source_at sink_at tick may doors_at places_at gives a sink sink' places places' status → HasServed source_at sink_at tick may doors_at places_at gives b sink sink' places places' status
-served_of source_at sink_at tick may doors_at places_at gives words a b sink sink' places places' status p q served =
-    subst (λ (ask : ServeAsk). HasServed source_at sink_at tick may doors_at places_at gives ask sink sink' places places' status) (one_ask words a b p q) served
+    → HasServed source_at sink_at tick may doors_at places_at gives tells a sink sink' places places' status → HasServed source_at sink_at tick may doors_at places_at gives tells b sink sink' places places' status
+served_of source_at sink_at tick may doors_at places_at gives tells words a b sink sink' places places' status p q served =
+    subst (λ (ask : ServeAsk). HasServed source_at sink_at tick may doors_at places_at gives tells ask sink sink' places places' status) (one_ask words a b p q) served

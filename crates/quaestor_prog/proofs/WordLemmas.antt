@@ -7,7 +7,9 @@ use Rattle.clap.specs.Words.{Row, Text, first_of}
 use Rattle.hub_core.specs.Config.{configured}
 use Rattle.hub_core.specs.declared.config.ConfigRefusal.{ConfigRefusal}
 use Rattle.hub_model.specs.Setting.{Setting, IsWithinLimits}
-use Rattle.quaestor_prog.specs.Words.{IsNumber, IsClock, IsConfiguration, IsPipe, IsServe, AreServeOptions, ServeAsk}
+use Rattle.q_outside.specs.declared.limits.Limits.{Limits}
+use Rattle.quaestor_prog.specs.declared.ranges.TheConstants.{MOST_PLACES, DEFAULT_PLACES, MOST_WORKERS, DEFAULT_WORKERS, MOST_MATCHERS, DEFAULT_MATCHERS, MOST_CONNECTIONS, MOST_SECONDS, DEFAULT_IDLE, DEFAULT_HEAD_TIME, DEFAULT_REPLY_TIME, MOST_RATE, DEFAULT_RATE, DEFAULT_GRACE}
+use Rattle.quaestor_prog.specs.Words.{IsCount, IsNumber, IsNumberIn, IsClock, IsConfiguration, IsPipe, IsServe, AreLimits, AreServeOptions, ServeAsk}
 
 -- the first word, as a text
 pub first_is : {A : Type 0} (f : A → Text) (xs : List A) (x : A) (t : Text) → slice_get xs 0 ≡ Some x → f x ≡ t → slice_get (map f xs) 0 ≡ Some t
@@ -84,23 +86,53 @@ one_setting found g h p q =
 pub one_pipe : (words : List Text) (g h : Setting) (a b : Option ℕ) → IsPipe words g a → IsPipe words h b → (g ≡ h) × (a ≡ b)
 one_pipe words g h a b p q = (one_setting _ g h p.options.0 q.options.0, one_clock _ a b p.options.1 q.options.1)
 
-same_ask : (a b : ServeAsk) → a.address ≡ b.address → a.setting ≡ b.setting → a.workers ≡ b.workers → a.matchers ≡ b.matchers → a.connections ≡ b.connections → a.idle ≡ b.idle → a ≡ b
-same_ask a b p q r s t u = λ i. record { address = p i; setting = q i; workers = r i; matchers = s i; connections = t i; idle = u i }
+small : (n most : ℕ) → most < 2 ^ 64 → n ≤ most → n < 2 ^ 64
+small n most fits within = omega (arith, fits, within)
+
+-- the number of connections of a text, and where none is given
+pub count_some : (given : Option Text) (t : Text) (n : ℕ) → given ≡ Some t → (t ≡ decimal n) × (1 ≤ n) × (n ≤ MOST_CONNECTIONS) → IsCount given n
+count_some given t n e p = subst (λ o. IsCount o n) (sym e) p
+
+pub count_none : (given : Option Text) → given ≡ None → IsCount given 18446744073709551615
+count_none given e = subst (λ o. IsCount o 18446744073709551615) (sym e) refl
+
+pub count_is : (given : Option Text) (t : Text) (n : ℕ) → given ≡ Some t → IsCount given n → (t ≡ decimal n) × (1 ≤ n) × (n ≤ MOST_CONNECTIONS)
+count_is given t n e p = subst (λ o. IsCount o n) e p
+
+one_count : (given : Option Text) (m n : ℕ) → IsCount given m → IsCount given n → m ≡ n
+one_count None m n p q = omega (arith, p, q)
+one_count (Some text) m n p q = decimal_injective m n (small _ MOST_CONNECTIONS (omega arith) p.2) (small _ MOST_CONNECTIONS (omega arith) q.2) (sym p.0 ∙ q.0)
+
+same_ask : (a b : ServeAsk) → a.address ≡ b.address → a.setting ≡ b.setting → a.places ≡ b.places → a.workers ≡ b.workers → a.matchers ≡ b.matchers → a.connections ≡ b.connections → a.limits ≡ b.limits → a ≡ b
+same_ask a b p q o r s t u = λ i. record { address = p i; setting = q i; places = o i; workers = r i; matchers = s i; connections = t i; limits = u i }
+
+same_limits : (a b : Limits) → a.idle ≡ b.idle → a.head_time ≡ b.head_time → a.reply_time ≡ b.reply_time → a.least_rate ≡ b.least_rate → a.grace ≡ b.grace → a ≡ b
+same_limits a b p q r s t = λ i. record { idle = p i; head_time = q i; reply_time = r i; least_rate = s i; grace = t i }
+
+-- an option shows one number of a range
+one_number_in : (found : List Row) (option : Text) (least most default m n : ℕ) → most < 2 ^ 64 → IsNumberIn found option least most default m → IsNumberIn found option least most default n → m ≡ n
+one_number_in found option least most default m n fits p q = one_number _ _ _ _ p.0 q.0 (small _ most fits p.2) (small _ most fits q.2)
+
+one_limits : (found : List Row) (a b : Limits) → AreLimits found a → AreLimits found b → a ≡ b
+one_limits found a b p q = same_limits a b
+    (one_number_in found (codes "idle") 0 MOST_SECONDS DEFAULT_IDLE a.idle b.idle (omega arith) p.idle q.idle)
+    (one_number_in found (codes "head-time") 1 MOST_SECONDS DEFAULT_HEAD_TIME a.head_time b.head_time (omega arith) p.head_time q.head_time)
+    (one_number_in found (codes "reply-time") 1 MOST_SECONDS DEFAULT_REPLY_TIME a.reply_time b.reply_time (omega arith) p.reply_time q.reply_time)
+    (one_number_in found (codes "least-rate") 1 MOST_RATE DEFAULT_RATE a.least_rate b.least_rate (omega arith) p.least_rate q.least_rate)
+    (one_number_in found (codes "grace") 0 MOST_SECONDS DEFAULT_GRACE a.grace b.grace (omega arith) p.grace q.grace)
 
 one_text : (given : Option Text) (s t : Text) → given ≡ Some s → given ≡ Some t → s ≡ t
 one_text given s t p q = ap (λ o. unwrap_or o s) (sym p ∙ q)
-
-small : (n most : ℕ) → most < 2 ^ 64 → n ≤ most → n < 2 ^ 64
-small n most fits within = omega (arith, fits, within)
 
 one_options : (found : List Row) (a b : ServeAsk) → AreServeOptions found a → AreServeOptions found b → a ≡ b
 one_options found a b p q = same_ask a b
     (one_text _ a.address b.address p.address q.address)
     (one_setting found a.setting b.setting p.setting q.setting)
-    (one_number _ _ _ _ p.workers.0 q.workers.0 (small _ 64 (omega arith) p.workers.2) (small _ 64 (omega arith) q.workers.2))
-    (one_number _ _ _ _ p.matchers.0 q.matchers.0 (small _ 16 (omega arith) p.matchers.2) (small _ 16 (omega arith) q.matchers.2))
-    (one_number _ _ _ _ p.connections.0 q.connections.0 (small _ 1099511627776 (omega arith) p.connections.2) (small _ 1099511627776 (omega arith) q.connections.2))
-    (one_number _ _ _ _ p.idle.0 q.idle.0 (small _ 3600 (omega arith) p.idle.2) (small _ 3600 (omega arith) q.idle.2))
+    (one_number_in found (codes "places") 1 MOST_PLACES DEFAULT_PLACES a.places b.places (omega arith) p.places q.places)
+    (one_number_in found (codes "workers") 1 MOST_WORKERS DEFAULT_WORKERS a.workers b.workers (omega arith) p.workers q.workers)
+    (one_number_in found (codes "matchers") 1 MOST_MATCHERS DEFAULT_MATCHERS a.matchers b.matchers (omega arith) p.matchers q.matchers)
+    (one_count (first_of (codes "connections") found) a.connections b.connections p.connections q.connections)
+    (one_limits found a.limits b.limits p.limits q.limits)
 
 -- what holds anyway holds of an error
 pub of_error : {T E : Type 0} (Q : Type 0) (r : Result T E) → Q → IfErr r (λ _. Q)

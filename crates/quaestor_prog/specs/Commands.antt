@@ -26,10 +26,16 @@ with_setting_rules app = with_rule (with_rule (with_rule (with_rule (with_rule (
 abbrev pub pipe_app : App
 pipe_app = with_rule (with_setting_rules (versioned (codes "pipe"))) (number_rule (codes "clock"))
 
+-- the command with the five options of the limits of time behind its others
+abbrev pub with_limit_rules : App → App
+with_limit_rules app = with_rule (with_rule (with_rule (with_rule (with_rule app
+    (number_rule (codes "idle"))) (number_rule (codes "head-time"))) (number_rule (codes "reply-time"))) (number_rule (codes "least-rate")))
+    (number_rule (codes "grace"))
+
 -- the command `serve`
 abbrev pub serve_app : App
-serve_app = with_rule (with_rule (with_rule (with_rule (with_setting_rules (with_rule (versioned (codes "serve")) address_rule))
-    (number_rule (codes "workers"))) (number_rule (codes "matchers"))) (number_rule (codes "connections"))) (number_rule (codes "idle"))
+serve_app = with_limit_rules (with_rule (with_rule (with_rule (with_rule (with_setting_rules (with_rule (versioned (codes "serve")) address_rule))
+    (number_rule (codes "places"))) (number_rule (codes "workers"))) (number_rule (codes "matchers"))) (number_rule (codes "connections")))
 
 -- the program where no command is named: it has the flags `--help` and `--version` alone
 abbrev pub program_app : App

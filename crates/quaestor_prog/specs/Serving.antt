@@ -3,6 +3,7 @@ use Rattle.std.specs.Prelude.{◌≡◌, ◌⊎◌, ℕ, ◌<◌, List, ◌++◌
 use Rattle.dialogue.specs.Dialogue.{Sides}
 use Rattle.q_outside.specs.Doors.{DoorsView}
 use Rattle.q_outside.specs.Ends.{End, GaveBytes, GavePart}
+use Rattle.q_outside.specs.declared.limits.Limits.{Limits}
 use Rattle.quaestor_prog.specs.Places.{AreNew, PlacesView}
 use Rattle.quaestor_prog.specs.Status.{or_write_fault, status_of_server}
 use Rattle.quaestor_prog.specs.Words.{ServeAsk}
@@ -34,8 +35,8 @@ abbrev pub IsUnplaced : {D : Type 0} → (sink sink' : End) (places places' : Pl
 IsUnplaced sink sink' places places' status = (status ≡ PlaceFault) × (sink' ≡ sink) × (places'.kept ≡ places.kept) × (places.faults < places'.faults)
 
 -- the first line was given in part, and the doors are as they were
-abbrev pub IsUnannounced : {D : Type 0} → ServeAsk → (sink sink' : End) → (doors doors' : D) → Status → Type 0
-IsUnannounced ask sink sink' doors doors' status = (status ≡ WriteFault) × GavePart sink sink' (listening_line ask.address) × (doors' ≡ doors)
+abbrev pub IsUnannounced : {D : Type 0} → (address : List ℕ) → (sink sink' : End) → (doors doors' : D) → Status → Type 0
+IsUnannounced address sink sink' doors doors' status = (status ≡ WriteFault) × GavePart sink sink' (listening_line address) × (doors' ≡ doors)
 
 module _ {D S K C : Type 0} (source_at : S → End) (sink_at : K → End) (tick : C → ℕ → C → Type 0) (may : C → Type 0) (doors_at : D → DoorsView S K) where
   -- The connections were served that came through the doors, and then the last line was given, or a part of it.
@@ -44,23 +45,26 @@ module _ {D S K C : Type 0} (source_at : S → End) (sink_at : K → End) (tick 
     pub serves : Serves source_at sink_at tick may ask.setting (doors_at doors) (doors_at doors') ask.connections end
     pub last_line : EndsWith sink sink' (served_line end.connections) (status_of_server end.why) status
 
-  -- the first line was given in part; or whole, and what came then
-  abbrev pub IsThrough : ServeAsk → (sink sink' : End) → (doors doors' : D) → Status → Type 0
-  IsThrough ask sink sink' doors doors' status =
-      IsUnannounced ask sink sink' doors doors' status
-      ⊎ ((announced : End) × GaveBytes sink announced (listening_line ask.address) × IsServed ask announced sink' doors doors' status)
+  -- the first line, with the address as it is told, was given in part; or whole, and what came then
+  abbrev pub IsThrough : ServeAsk → (address : List ℕ) → (sink sink' : End) → (doors doors' : D) → Status → Type 0
+  IsThrough ask address sink sink' doors doors' status =
+      IsUnannounced address sink sink' doors doors' status
+      ⊎ ((announced : End) × GaveBytes sink announced (listening_line address) × IsServed ask announced sink' doors doors' status)
 
-module _ {P D S K C : Type 0} (source_at : S → End) (sink_at : K → End) (tick : C → ℕ → C → Type 0) (may : C → Type 0) (doors_at : D → DoorsView S K) (places_at : P → PlacesView D) (gives : P → List ℕ → ℕ → D → P → Type 0) where
+module _ {P D S K C : Type 0} (source_at : S → End) (sink_at : K → End) (tick : C → ℕ → C → Type 0) (may : C → Type 0) (doors_at : D → DoorsView S K) (places_at : P → PlacesView D) (gives : P → List ℕ → Limits → D → P → Type 0) (tells : P → List ℕ → Type 0) where
   -- The places gave doors at the address, and have them back as they are now.
   pub record HasListened (ask : ServeAsk) (sink sink' : End) (places places' : P) (status : Status) : Type 0 where
     pub doors : D
     pub doors_left : D
     -- the places behind the call
     pub listening : P
-    pub given : gives places ask.address ask.idle doors listening
+    pub given : gives places ask.address ask.limits doors listening
+    -- the address as the places tell it
+    pub address : List ℕ
+    pub told : tells listening address
     pub are_new : AreNew (doors_at doors)
     pub kept : places_at places' ≡ record { faults = (places_at places).faults; kept = Some doors_left }
-    pub through : IsThrough source_at sink_at tick may doors_at ask sink sink' doors doors_left status
+    pub through : IsThrough source_at sink_at tick may doors_at ask address sink sink' doors doors_left status
 
   -- the places failed; or doors were listened at, and what came of it
   abbrev pub HasServed : ServeAsk → (sink sink' : End) → (places places' : P) → Status → Type 0

@@ -4,7 +4,9 @@ use Rattle.clap.specs.Words.{Row, Text, IsAmong, first_of, kind_of, matches_of, 
 use Rattle.clap.specs.declared.error.kind.ErrorKind.{ErrorKind}
 use Rattle.clap.specs.declared.error.kind.ErrorKind.TheVariants as kind
 use Rattle.hub_model.specs.Setting.{Setting, IsWithinLimits, default_setting}
+use Rattle.q_outside.specs.declared.limits.Limits.{Limits}
 use Rattle.quaestor_prog.specs.Commands.{pipe_app, serve_app, program_app, NamesPipe, NamesServe, NamesNone, AskHelp, FaultsAre}
+use Rattle.quaestor_prog.specs.declared.ranges.TheConstants.{MOST_PLACES, DEFAULT_PLACES, MOST_WORKERS, DEFAULT_WORKERS, MOST_MATCHERS, DEFAULT_MATCHERS, MOST_CONNECTIONS, MOST_SECONDS, DEFAULT_IDLE, DEFAULT_HEAD_TIME, DEFAULT_REPLY_TIME, MOST_RATE, DEFAULT_RATE, DEFAULT_GRACE}
 use Rattle.quaestor_prog.specs.declared.refusal.BadValue.{BadValue}
 use Rattle.quaestor_prog.specs.declared.refusal.BadValue.TheVariants.{Number, Lifetimes}
 use Rattle.quaestor_prog.specs.declared.refusal.Refusal.{Refusal}
@@ -41,46 +43,44 @@ pub record IsPipe (words : List Text) (g : Setting) (at : Option ℕ) : Type 0 w
   pub taken : fault_of pipe_app words ≡ []
   pub options : AreOptions (matches_of pipe_app words) g at
 
--- the greatest number of connections that are served at the same time
-abbrev pub most_workers : ℕ
-most_workers = 64
-
--- of threads that match
-abbrev pub most_matchers : ℕ
-most_matchers = 16
-
--- of connections in all, 2 ^ 40
-abbrev pub most_connections : ℕ
-most_connections = 1099511627776
-
--- of seconds of silence
-abbrev pub most_idle : ℕ
-most_idle = 3600
-
 -- what `serve` is asked for
 pub record ServeAsk : Type 0 where
   pub address : Text
   pub setting : Setting
-  -- how many connections are served at the same time, and how many threads match
+  -- how many connections are there at the same time, how many of them are served, and how many threads match
+  pub places : ℕ
   pub workers : ℕ
   pub matchers : ℕ
   -- how many connections are served in all
   pub connections : ℕ
-  -- the seconds of silence after which a connection is taken as ended
-  pub idle : ℕ
+  -- the limits of time
+  pub limits : Limits
 
 -- the option shows a number of its range, or is not given and has its default
 abbrev pub IsNumberIn : List Row → Text → (least most default n : ℕ) → Type 0
 IsNumberIn found option least most default n = IsNumber (first_of option found) default n × (least ≤ n) × (n ≤ most)
 
+-- the option shows a number of connections, or is not given and has the greatest number of 64 bits
+abbrev pub IsCount : Option Text → ℕ → Type 0
+IsCount given n = MatchOption given (n + 1 ≡ 2 ^ 64) (λ text. (text ≡ decimal n) × (1 ≤ n) × (n ≤ MOST_CONNECTIONS))
+
+-- The limits of time that options ask for, by what clap found for each.
+pub record AreLimits (found : List Row) (l : Limits) : Type 0 where
+  pub idle : IsNumberIn found (codes "idle") 0 MOST_SECONDS DEFAULT_IDLE l.idle
+  pub head_time : IsNumberIn found (codes "head-time") 1 MOST_SECONDS DEFAULT_HEAD_TIME l.head_time
+  pub reply_time : IsNumberIn found (codes "reply-time") 1 MOST_SECONDS DEFAULT_REPLY_TIME l.reply_time
+  pub least_rate : IsNumberIn found (codes "least-rate") 1 MOST_RATE DEFAULT_RATE l.least_rate
+  pub grace : IsNumberIn found (codes "grace") 0 MOST_SECONDS DEFAULT_GRACE l.grace
+
 -- The options of `serve`, by what clap found for each.
 pub record AreServeOptions (found : List Row) (ask : ServeAsk) : Type 0 where
   pub address : first_of (codes "address") found ≡ Some ask.address
   pub setting : IsConfiguration found ask.setting
-  pub workers : IsNumberIn found (codes "workers") 1 most_workers 16 ask.workers
-  pub matchers : IsNumberIn found (codes "matchers") 1 most_matchers 1 ask.matchers
-  pub connections : IsNumberIn found (codes "connections") 1 most_connections 1000000 ask.connections
-  pub idle : IsNumberIn found (codes "idle") 0 most_idle 30 ask.idle
+  pub places : IsNumberIn found (codes "places") 1 MOST_PLACES DEFAULT_PLACES ask.places
+  pub workers : IsNumberIn found (codes "workers") 1 MOST_WORKERS DEFAULT_WORKERS ask.workers
+  pub matchers : IsNumberIn found (codes "matchers") 1 MOST_MATCHERS DEFAULT_MATCHERS ask.matchers
+  pub connections : IsCount (first_of (codes "connections") found) ask.connections
+  pub limits : AreLimits found ask.limits
 
 -- The words are `serve`, an address and options that clap takes, which ask for this.
 pub record IsServe (words : List Text) (ask : ServeAsk) : Type 0 where
@@ -106,10 +106,15 @@ IsRange option least most =
     ⊎ ((option ≡ codes "active") × (least ≡ 0) × (most ≡ 1000000))
     ⊎ ((option ≡ codes "bytes") × (least ≡ 65792) × (most ≡ 134217728))
     ⊎ ((option ≡ codes "clock") × (least ≡ 0) × (most + 1 ≡ 2 ^ 64))
-    ⊎ ((option ≡ codes "workers") × (least ≡ 1) × (most ≡ most_workers))
-    ⊎ ((option ≡ codes "matchers") × (least ≡ 1) × (most ≡ most_matchers))
-    ⊎ ((option ≡ codes "connections") × (least ≡ 1) × (most ≡ most_connections))
-    ⊎ ((option ≡ codes "idle") × (least ≡ 0) × (most ≡ most_idle))
+    ⊎ ((option ≡ codes "places") × (least ≡ 1) × (most ≡ MOST_PLACES))
+    ⊎ ((option ≡ codes "workers") × (least ≡ 1) × (most ≡ MOST_WORKERS))
+    ⊎ ((option ≡ codes "matchers") × (least ≡ 1) × (most ≡ MOST_MATCHERS))
+    ⊎ ((option ≡ codes "connections") × (least ≡ 1) × (most ≡ MOST_CONNECTIONS))
+    ⊎ ((option ≡ codes "idle") × (least ≡ 0) × (most ≡ MOST_SECONDS))
+    ⊎ ((option ≡ codes "head-time") × (least ≡ 1) × (most ≡ MOST_SECONDS))
+    ⊎ ((option ≡ codes "reply-time") × (least ≡ 1) × (most ≡ MOST_SECONDS))
+    ⊎ ((option ≡ codes "least-rate") × (least ≡ 1) × (most ≡ MOST_RATE))
+    ⊎ ((option ≡ codes "grace") × (least ≡ 0) × (most ≡ MOST_SECONDS))
 
 -- what is refused of the values: an option shows no number of its range, or the least lifetime is above the greatest
 abbrev pub IsBadValue : List Row → BadValue → Type 0
@@ -135,10 +140,11 @@ abbrev pub ask_of : ServeOptions → ServeAsk
 ask_of s = record {
   address = s.address.now;
   setting = s.config;
+  places = s.places;
   workers = s.workers;
   matchers = s.matchers;
   connections = s.connections;
-  idle = s.idle;
+  limits = s.limits;
 }
 
 -- what the words ask for

@@ -1,7 +1,7 @@
 //! The commands as clap reads them.
 ghost use Rattle.std.specs.Prelude.{◌≡◌, codes, false, IfOk};
 ghost use Rattle.clap.specs.Words.{app_of, rule_of, with_rule};
-ghost use Rattle.quaestor_prog.specs.Commands.{address_rule, number_rule, pipe_app, program_app, serve_app, versioned, with_setting_rules};
+ghost use Rattle.quaestor_prog.specs.Commands.{address_rule, number_rule, pipe_app, program_app, serve_app, versioned, with_limit_rules, with_setting_rules};
 
 use clap::{Arg, ArgAction, Command};
 use std::alloc::{AllocError, Global};
@@ -47,11 +47,17 @@ pub(crate) fn serve_command<'a>(alloc: Global) -> Result<Command<'a>, AllocError
     let bare = bare_serve(alloc)?;
     let address = with_address(alloc, bare)?;
     let config = with_config(alloc, address)?;
-    let workers = with_number(
+    let places = with_number(
         alloc,
         config,
+        "places",
+        "At most N connections at the same time, 1 to 32768 [default: 4096]",
+    )?;
+    let workers = with_number(
+        alloc,
+        places,
         "workers",
-        "At most N connections at the same time, 1 to 64 [default: 16]",
+        "At most N of them are served at the same time, 1 to 64 [default: 16]",
     )?;
     let matchers = with_number(
         alloc,
@@ -63,15 +69,47 @@ pub(crate) fn serve_command<'a>(alloc: Global) -> Result<Command<'a>, AllocError
         alloc,
         matchers,
         "connections",
-        "Ends after N connections, 1 to 1099511627776 [default: 1000000]",
+        "Ends after N connections, 1 to 1099511627776 [default: it does not end by their number]",
     )?;
+    let limits = with_limits(alloc, connections)?;
+    Ok(limits)
+}
+
+/// The command with the options of the limits of time.
+fn with_limits<'a>(alloc: Global, command: Command<'a>) -> Result<Command<'a>, AllocError>
+    ensures { IfOk result (λ c. app_of c ≡ with_limit_rules (app_of command.entry)) }
+{
     let idle = with_number(
         alloc,
-        connections,
+        command,
         "idle",
-        "A connection is silent for at most N seconds, 0 to 3600, 0 for any time [default: 30]",
+        "A connection waits at most N seconds for its next request, 0 to 3600, 0 for any time [default: 30]",
     )?;
-    Ok(idle)
+    let head_time = with_number(
+        alloc,
+        idle,
+        "head-time",
+        "A request has N seconds beside those of its bytes, 1 to 3600 [default: 10]",
+    )?;
+    let reply_time = with_number(
+        alloc,
+        head_time,
+        "reply-time",
+        "A reply has N seconds beside those of its bytes, 1 to 3600 [default: 10]",
+    )?;
+    let least_rate = with_number(
+        alloc,
+        reply_time,
+        "least-rate",
+        "N bytes give a request or a reply a second more, 1 to 1000000 [default: 1000]",
+    )?;
+    let grace = with_number(
+        alloc,
+        least_rate,
+        "grace",
+        "Told to end, it answers what it has begun for at most N seconds, 0 to 3600 [default: 10]",
+    )?;
+    Ok(grace)
 }
 
 /// The command with the options of a configuration.
@@ -167,7 +205,7 @@ fn address_argument<'a>(alloc: Global) -> Arg<'a>
         .action(ArgAction::Set)
         .value_name("ADDR")
         .required(true)
-        .help("The address, such as 127.0.0.1:8080")
+        .help("The address, such as 127.0.0.1:8080; port 0 takes a free one")
 }
 
 /// An option with a number.

@@ -5,6 +5,7 @@ mod commands;
 mod list_places;
 mod places;
 mod program;
+mod ranges;
 mod refusal;
 mod serving;
 mod status;

@@ -4,7 +4,7 @@ ghost use Rattle.quaestor_prog.specs.ListPlaces.{AreUnused, AreUnusedIn};
 
 use crate::places::Places;
 use crate::words::is_text;
-use q_outside::{Failed, Faults, ListDoors, Sink, Source};
+use q_outside::{Failed, Faults, Limits, ListDoors, Sink, Source};
 use std::sync::ledger::{Blank, Ledger};
 
 /// Places that have one address, give its doors once, and otherwise fail. They show all that they give
@@ -15,8 +15,8 @@ pub struct ListPlaces<S: Drop, K: Drop, L: Ledger, F: Ledger> {
     pub address: String,
     /// Its doors, until they are given.
     pub left: Option<ListDoors<S, K, L>>,
-    /// The seconds of silence that were last asked for.
-    pub idle: u32,
+    /// The limits of time that were last asked for.
+    pub limits: Option<Limits>,
     /// The doors last handed back.
     pub kept: Option<ListDoors<S, K, L>>,
     /// The number of faults so far.
@@ -43,7 +43,7 @@ impl<S: Drop, K: Drop, L: Ledger, F: Ledger> ListPlaces<S, K, L, F> {
         ListPlaces {
             address,
             left: doors,
-            idle: 0,
+            limits: None,
             kept: None,
             faults: Faults::new(blank),
         }
@@ -59,14 +59,16 @@ where
 
     ghost at = { λ p. record { faults = p.faults; kept = p.kept } };
 
-    ghost gives = { λ p address idle doors q. (string_bytes p.address ≡ address) × (p.left ≡ Some doors) × (q.idle ≡ idle) };
+    ghost gives = { λ p address limits doors q. (string_bytes p.address ≡ address) × (p.left ≡ Some doors) × (q.limits ≡ Some limits) × (q.address ≡ p.address) };
 
-    fn listen(&mut self, address: &str, idle: u32) -> Result<ListDoors<S, K, L>, Failed> {
+    ghost tells = { λ p address. string_bytes p.address ≡ address };
+
+    fn listen(&mut self, address: &str, limits: Limits) -> Result<ListDoors<S, K, L>, Failed> {
         if !is_text(&self.address, address) {
             self.faults.rise();
             return Err(Failed);
         }
-        self.idle = idle;
+        self.limits = Some(limits);
         match self.left.take() {
             Some(doors) => Ok(doors),
             None => {
@@ -74,6 +76,10 @@ where
                 Err(Failed)
             }
         }
+    }
+
+    fn address(&self) -> &str {
+        self.address.as_str()
     }
 
     fn keep_doors(&mut self, doors: ListDoors<S, K, L>) {

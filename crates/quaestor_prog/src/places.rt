@@ -2,9 +2,10 @@
 //!
 //! They have a count of faults that never falls, and fail only where it rose.
 ghost use Rattle.std.specs.Prelude.{◌≡◌, ℕ, List, Some, IfOk};
+ghost use Rattle.q_outside.specs.declared.limits.Limits.{Limits as LimitsOf};
 ghost use Rattle.quaestor_prog.specs.Places.{AreNew, Listened, PlacesView};
 
-use q_outside::{Doors, Failed};
+use q_outside::{Doors, Failed, Limits};
 
 /// Where connections are listened for, by address.
 pub trait Places {
@@ -14,16 +15,22 @@ pub trait Places {
     /// What contracts see of the places: the number of their faults, and the doors last handed back.
     ghost at: { Self → PlacesView Self.Doors };
 
-    /// From the first state the places gave these doors at this address, where a connection may be silent
-    /// for a number of seconds, and came to the second state, where they show so.
-    ghost gives: { Self → List ℕ → ℕ → Self.Doors → Self → Type 0 };
+    /// From the first state the places gave these doors at this address, within these limits of time, and
+    /// came to the second state, where they show so.
+    ghost gives: { Self → List ℕ → LimitsOf → Self.Doors → Self → Type 0 };
 
-    /// Listens for connections at an address. A connection from which nothing comes for `idle` seconds is
-    /// taken as ended; 0 is never.
-    fn listen(&mut self, address: &str, idle: u32) -> Result<Self::Doors, Failed>
-        ensures gives { IfOk result (λ d. gives self.old address.now idle d self.new) }
+    /// The places tell this as the address at which they gave doors last, where they show so.
+    ghost tells: { Self → List ℕ → Type 0 };
+
+    /// Listens for connections at an address. They are served within these limits of time.
+    fn listen(&mut self, address: &str, limits: Limits) -> Result<Self::Doors, Failed>
+        ensures gives { IfOk result (λ d. gives self.old address.now limits d self.new) }
         ensures unused { IfOk result (λ d. AreNew (Self.Doors.at d)) }
         ensures count { Listened (at self.old) (at self.new) result };
+
+    /// The address at which they gave doors last, as it is told: with the port that the system chose.
+    fn address(&self) -> &str
+        ensures { tells self.now result.now };
 
     /// Hands doors back. It takes no memory.
     fn keep_doors(&mut self, doors: Self::Doors)

@@ -49,7 +49,7 @@ where
         (AreTimed C.tick clock.old clock.new at) result
         × (places.new ≡ places.old) }
     ensures serve { (ask : ServeAsk) → IsServe (map string_bytes words.now) ask
-        → IsServing P.Doors.From.at P.Doors.To.at C.tick (C.is_clone clock.old) P.Doors.at P.at P.gives ask
+        → IsServing P.Doors.From.at P.Doors.To.at C.tick (C.is_clone clock.old) P.Doors.at P.at P.gives P.tells ask
         (record { source = S.at source.old; sink = K.at sink.old })
         (record { source = S.at source.new; sink = K.at sink.new })
         clock.old clock.new places.old places.new result }

@@ -9,7 +9,7 @@ use crate::status::Status;
 use crate::words::ServeOptions;
 use itoa::Buffer;
 use q_outside::{Clock, Doors, Failed, OpenGate, Sink, give_all, give_both};
-use quaestor_serve::serve;
+use quaestor_serve::{Crew, serve};
 use std::alloc::Global;
 use std::sync::Wait;
 use std::thread::Threads;
@@ -28,12 +28,21 @@ where
     C: Clock + Clone + Send + Drop + 'static,
     P: Places,
     R: Threads + Wait + Copy + Send + 'static,
-    requires { 0 < options.workers }
-    ensures { HasServed P.Doors.From.at P.Doors.To.at C.tick (C.is_clone clock.now) P.Doors.at P.at P.gives (ask_of options.entry) (K.at sink.old) (K.at sink.new) places.old places.new result }
+    requires places { 0 < options.places }
+    requires workers { 0 < options.workers }
+    ensures { HasServed P.Doors.From.at P.Doors.To.at C.tick (C.is_clone clock.now) P.Doors.at P.at P.gives P.tells (ask_of options.entry) (K.at sink.old) (K.at sink.new) places.old places.new result }
 {
-    match places.listen(options.address, options.idle) {
+    match places.listen(options.address, options.limits) {
         Ok(mut doors) => {
-            let status = serve_through(rt, alloc, options, sink, clock, &mut doors);
+            let status = serve_through(
+                rt,
+                alloc,
+                options,
+                places.address(),
+                sink,
+                clock,
+                &mut doors,
+            );
             sink.end();
             places.keep_doors(doors);
             status
@@ -45,11 +54,12 @@ where
     }
 }
 
-/// Says that connections are listened for, and then serves those that come through the doors.
+/// Says at which address connections are listened for, and then serves those that come through the doors.
 fn serve_through<K, C, D, R>(
     rt: &R,
     alloc: Global,
     options: ServeOptions<'_>,
+    address: &str,
     sink: &mut K,
     clock: &C,
     doors: &mut D,
@@ -59,10 +69,11 @@ where
     C: Clock + Clone + Send + Drop + 'static,
     D: Doors,
     R: Threads + Wait + Copy + Send + 'static,
-    requires { 0 < options.workers }
-    ensures { IsThrough D.From.at D.To.at C.tick (C.is_clone clock.now) D.at (ask_of options.entry) (K.at sink.old) (K.at sink.new) doors.old doors.new result }
+    requires places { 0 < options.places }
+    requires workers { 0 < options.workers }
+    ensures { IsThrough D.From.at D.To.at C.tick (C.is_clone clock.now) D.at (ask_of options.entry) address.now (K.at sink.old) (K.at sink.new) doors.old doors.new result }
 {
-    match give_line(sink, b"listening on ", options.address.as_bytes()) {
+    match give_line(sink, b"listening on ", address.as_bytes()) {
         Ok(()) => serve_announced(rt, alloc, options, sink, clock, doors),
         Err(_) => Status::WriteFault,
     }
@@ -82,9 +93,15 @@ where
     C: Clock + Clone + Send + Drop + 'static,
     D: Doors,
     R: Threads + Wait + Copy + Send + 'static,
-    requires { 0 < options.workers }
+    requires places { 0 < options.places }
+    requires workers { 0 < options.workers }
     ensures { IsServed D.From.at D.To.at C.tick (C.is_clone clock.now) D.at (ask_of options.entry) (K.at sink.old) (K.at sink.new) doors.old doors.new result }
 {
+    let crew = Crew {
+        places: options.places,
+        workers: options.workers,
+        matchers: options.matchers,
+    };
     let end = serve(
         rt,
         alloc,
@@ -92,8 +109,7 @@ where
         doors,
         clock,
         &OpenGate,
-        options.workers,
-        options.matchers,
+        crew,
         options.connections,
     );
     let status = Status::of_server(end.why);

@@ -3,14 +3,21 @@ ghost use Rattle.std.specs.Prelude.{◌≡◌, ℕ, ◌<◌, ◌≤◌, ◌^◌,
 ghost use Rattle.clap.specs.Words.{first_of, found_of, kind_of, rows_of};
 ghost use Rattle.hub_model.specs.Setting.{Setting};
 ghost use Rattle.quaestor_prog.specs.Commands.{NamesNone, NamesPipe, NamesServe};
-ghost use Rattle.quaestor_prog.specs.Words.{AreOptions, AreServeOptions, Asks, IsNumberIn, ServeAsk, ask_of, IsAnswerOf, IsBadValue, IsClock, IsConfiguration, IsNumber, IsRange};
+ghost use Rattle.q_outside.specs.declared.limits.Limits.{Limits as LimitsOf};
+ghost use Rattle.quaestor_prog.specs.Words.{AreLimits, AreOptions, AreServeOptions, IsCount, Asks, IsNumberIn, ServeAsk, ask_of, IsAnswerOf, IsBadValue, IsClock, IsConfiguration, IsNumber, IsRange};
 
 use crate::commands::{pipe_command, program_command, serve_command};
+use crate::ranges::{
+    DEFAULT_GRACE, DEFAULT_HEAD_TIME, DEFAULT_IDLE, DEFAULT_MATCHERS, DEFAULT_PLACES, DEFAULT_RATE,
+    DEFAULT_REPLY_TIME, DEFAULT_WORKERS, MOST_CONNECTIONS, MOST_MATCHERS, MOST_PLACES, MOST_RATE,
+    MOST_SECONDS, MOST_WORKERS,
+};
 use crate::refusal::{BadValue, Refusal};
 use clap::error::ErrorKind;
 use clap::{ArgMatches, Error};
 use itoa::Buffer;
 use q_base::Memory;
+use q_outside::Limits;
 use quaestor_server::Config;
 use std::alloc::Global;
 
@@ -30,14 +37,16 @@ pub struct ServeOptions<'a> {
     pub address: &'a str,
     /// The limits and defaults of the store.
     pub config: Config,
-    /// How many connections are served at the same time.
+    /// How many connections are there at the same time.
+    pub places: u32,
+    /// How many of them are served at the same time.
     pub workers: u32,
     /// How many threads match.
     pub matchers: u32,
-    /// How many connections are served in all.
+    /// How many connections are served in all; 2^64 - 1 where no number was given.
     pub connections: u64,
-    /// The seconds of silence after which a connection is taken as ended; 0 is never.
-    pub idle: u32,
+    /// The limits of time.
+    pub limits: Limits,
 }
 
 /// What the words of a command line ask for.
@@ -149,18 +158,60 @@ fn options_at<'a>(
     ensures value { IfErr result (IsBadValue (rows_of (found_of matches.now))) }
 {
     let config = config_of(matches)?;
-    let workers = number_of(matches, "workers", 1, 64, 16)?;
-    let matchers = number_of(matches, "matchers", 1, 16, 1)?;
-    let connections = number_of(matches, "connections", 1, 1_099_511_627_776, 1_000_000)?;
-    let idle = number_of(matches, "idle", 0, 3_600, 30)?;
+    let places = number_of(matches, "places", 1, MOST_PLACES, DEFAULT_PLACES)?;
+    let workers = number_of(matches, "workers", 1, MOST_WORKERS, DEFAULT_WORKERS)?;
+    let matchers = number_of(matches, "matchers", 1, MOST_MATCHERS, DEFAULT_MATCHERS)?;
+    let connections = connections_of(matches)?;
+    let limits = limits_of(matches)?;
     Ok(ServeOptions {
         address,
         config,
+        places: places as u32,
         workers: workers as u32,
         matchers: matchers as u32,
         connections,
-        idle: idle as u32,
+        limits,
     })
+}
+
+/// The limits of time that the options ask for.
+fn limits_of<'a>(matches: &ArgMatches<'a>) -> Result<Limits, BadValue<'a>>
+    ensures ok { IfOk result (AreLimits (rows_of (found_of matches.now))) }
+    ensures err { IfErr result (λ _. (l : LimitsOf) → AreLimits (rows_of (found_of matches.now)) l → ⊥) }
+    ensures value { IfErr result (IsBadValue (rows_of (found_of matches.now))) }
+{
+    let idle = number_of(matches, "idle", 0, MOST_SECONDS, DEFAULT_IDLE)?;
+    let head_time = number_of(matches, "head-time", 1, MOST_SECONDS, DEFAULT_HEAD_TIME)?;
+    let reply_time = number_of(matches, "reply-time", 1, MOST_SECONDS, DEFAULT_REPLY_TIME)?;
+    let least_rate = number_of(matches, "least-rate", 1, MOST_RATE, DEFAULT_RATE)?;
+    let grace = number_of(matches, "grace", 0, MOST_SECONDS, DEFAULT_GRACE)?;
+    Ok(Limits {
+        idle: idle as u32,
+        head_time: head_time as u32,
+        reply_time: reply_time as u32,
+        least_rate: least_rate as u32,
+        grace: grace as u32,
+    })
+}
+
+/// The number of connections after which the server ends; the greatest number where none is given.
+fn connections_of<'a>(matches: &ArgMatches<'a>) -> Result<u64, BadValue<'a>>
+    ensures ok { IfOk result (IsCount (first_of (codes "connections") (rows_of (found_of matches.now)))) }
+    ensures err { IfErr result (λ _. (n : ℕ) → IsCount (first_of (codes "connections") (rows_of (found_of matches.now))) n → ⊥) }
+    ensures value { IfErr result (IsBadValue (rows_of (found_of matches.now))) }
+{
+    match value_of(matches, "connections") {
+        Some(found) => match number_within(found, 1, MOST_CONNECTIONS) {
+            Some(number) => Ok(number),
+            None => Err(BadValue::Number {
+                option: "connections",
+                found,
+                least: 1,
+                most: MOST_CONNECTIONS,
+            }),
+        },
+        None => Ok(u64::MAX),
+    }
 }
 
 /// The configuration that the options ask for.

@@ -2,10 +2,17 @@
 #![tactic(auto)]
 
 mod accept;
+mod connection;
 mod doors;
+mod entrance;
+mod late;
+mod listeners;
+mod pace;
+mod ready;
 mod sink;
 mod source;
 mod stream;
+mod watch;
 
 pub use doors::TcpDoors;
 pub use sink::TcpSink;

@@ -1,6 +1,6 @@
-//! The stream of a connection.
+//! The two handles of a connection.
 //!
-//! A connection's source and its sink share one stream. It is closed when the sink is ended, in the
+//! A connection's source and its sink share it. Its stream is closed when the sink is ended, in the
 //! thread that served the connection, and not only once both are handed back: until then its client
 //! would wait, and its descriptor would be held.
 //!
@@ -8,93 +8,76 @@
 //! error.
 ghost use Rattle.std.specs.Io.{ReadsAtMost, WritesAtMost};
 
+use crate::connection::Connection;
 use std::alloc::{AllocError, Global};
 use std::io;
-use std::io::{ErrorKind, Read, Write};
-use std::net::TcpStream;
+use std::io::ErrorKind;
+use std::rt::Clock;
 use std::sync::{Arc, Mutex};
 
-/// One of the two handles of a connection's stream.
+/// One of the two handles of a connection.
 #[derive(Drop)]
-pub(crate) struct SharedStream {
-    stream: Arc<Mutex<Option<TcpStream>>>,
+pub(crate) struct Shared<R: Clock + Drop> {
+    connection: Arc<Mutex<Connection<R>>>,
 }
 
-impl SharedStream {
-    /// The two handles of a stream.
+impl<R: Clock + Drop> Shared<R> {
+    /// The two handles of a connection.
     pub(crate) fn pair(
         alloc: Global,
-        stream: TcpStream,
-    ) -> Result<(SharedStream, SharedStream), AllocError> {
-        let first = Arc::new(alloc, Mutex::new(Some(stream)))?;
+        connection: Connection<R>,
+    ) -> Result<(Shared<R>, Shared<R>), AllocError> {
+        let first = Arc::new(alloc, Mutex::new(connection))?;
         let second = Arc::try_clone(&first)?;
-        Ok((
-            SharedStream { stream: first },
-            SharedStream { stream: second },
-        ))
+        Ok((Shared { connection: first }, Shared { connection: second }))
     }
 
-    /// Reads the next bytes, however often a signal interrupts it. 0 is the end, also where the client
-    /// sent nothing for as long as it may, or where the stream was closed here.
+    /// Reads the next bytes. 0 is the end.
     pub(crate) fn read(&self, into: &mut [u8]) -> io::Result<usize>
         ensures { ReadsAtMost result into.new }
     {
-        match self.stream.try_lock() {
-            Some(guard) => match &*guard {
-                Some(stream) => read_from(stream, into),
-                None => Ok(0),
-            },
+        match self.connection.try_lock() {
+            Some(mut connection) => connection.read(into),
             None => Err(io::Error::from(ErrorKind::ResourceBusy)),
         }
     }
 
-    /// Writes a beginning of the bytes, however often a signal interrupts it.
+    /// Writes a beginning of the bytes.
     pub(crate) fn write(&self, bytes: &[u8]) -> io::Result<usize>
         ensures { WritesAtMost result bytes.now }
     {
-        match self.stream.try_lock() {
-            Some(guard) => match &*guard {
-                Some(stream) => write_to(stream, bytes),
-                None => Err(io::Error::from(ErrorKind::BrokenPipe)),
-            },
+        match self.connection.try_lock() {
+            Some(mut connection) => connection.write(bytes),
             None => Err(io::Error::from(ErrorKind::ResourceBusy)),
         }
     }
 
-    /// Takes the stream out, so that it is closed here. None where it was taken before.
-    pub(crate) fn take(&self) -> Option<TcpStream> {
-        match self.stream.try_lock() {
-            Some(mut guard) => guard.take(),
-            None => None,
+    /// Begins a request.
+    pub(crate) fn begin(&self, held: bool) {
+        if let Some(mut connection) = self.connection.try_lock() {
+            connection.begin(held);
         }
     }
-}
 
-/// Reads once, and again where a signal interrupts it. A read that was waited for too long is the end.
-fn read_from(stream: &TcpStream, into: &mut [u8]) -> io::Result<usize>
-    ensures { ReadsAtMost result into.new }
-{
-    let mut stream = stream;
-    for _n in 0..u64::MAX {
-        match stream.read(into) {
-            Err(error) if error.kind() == ErrorKind::Interrupted => {}
-            Err(error) if error.kind() == ErrorKind::WouldBlock => return Ok(0),
-            read => return read,
+    /// Whether the next request or the end is there.
+    pub(crate) fn is_ready(&self) -> bool {
+        match self.connection.try_lock() {
+            Some(mut connection) => connection.is_ready(),
+            None => true,
         }
     }
-    Err(io::Error::from(ErrorKind::Interrupted))
-}
 
-/// Writes once, and again where a signal interrupts it.
-fn write_to(stream: &TcpStream, bytes: &[u8]) -> io::Result<usize>
-    ensures { WritesAtMost result bytes.now }
-{
-    let mut stream = stream;
-    for _n in 0..u64::MAX {
-        match stream.write(bytes) {
-            Err(error) if error.kind() == ErrorKind::Interrupted => {}
-            written => return written,
+    /// Waits until it is, within the limits.
+    pub(crate) fn wait(&self) {
+        if let Some(mut connection) = self.connection.try_lock() {
+            connection.wait();
         }
     }
-    Err(io::Error::from(ErrorKind::Interrupted))
+
+    /// Ends the connection and closes its stream.
+    pub(crate) fn end(&self) {
+        if let Some(mut connection) = self.connection.try_lock() {
+            connection.end();
+        }
+    }
 }

@@ -2,8 +2,9 @@
 
 use hub_core::Config;
 use q_base::Moment;
-use q_outside::{FixedClock, OpenGate};
-use quaestor_serve::{ServeEnd, serve};
+use q_outside::{FixedClock, Limits, OpenGate};
+use quaestor_serve::{Crew, ServeEnd, serve};
+use std::fs::{File, Files};
 use std::io::{Read, Write};
 use std::net::{Net, TcpListener, TcpStream};
 use std::rt::Clock;
@@ -29,6 +30,11 @@ where
     let clock = FixedClock {
         at: Moment::of(100),
     };
+    let crew = Crew {
+        places: 1,
+        workers: 1,
+        matchers: 1,
+    };
     serve(
         &rt,
         rt.alloc(),
@@ -36,16 +42,25 @@ where
         &mut doors,
         &clock,
         &OpenGate,
-        1,
-        1,
+        crew,
         1,
     )
 }
 
-/// Starts a server whose client may be silent for this number of seconds, and connects to it.
-pub(crate) fn start<R>(rt: R, idle: u32) -> Result<Server, Fail>
+/// Limits of time that no client here meets, but one that is silent for ever.
+pub(crate) const AMPLE: Limits = Limits {
+    idle: 30,
+    head_time: 30,
+    reply_time: 30,
+    least_rate: 1_000,
+    grace: 30,
+};
+
+/// Starts a server with these limits of time, and connects to it.
+pub(crate) fn start<R>(rt: R, limits: Limits) -> Result<Server, Fail>
 where
     R: Net<Listener = TcpListener, Stream = TcpStream>
+        + Files<File = File>
         + AllocGlobal
         + Clock
         + Threads
@@ -54,7 +69,7 @@ where
         + Send
         + 'static,
 {
-    let doors = TcpDoors::bind(rt, "127.0.0.1:0", idle)?;
+    let doors = TcpDoors::bind(rt, "127.0.0.1:0", limits)?;
     let address = doors.address()?;
     let handle = thread::spawn(&rt, move || serve_one(rt, doors))?;
     let client = TcpStream::connect(&rt, address)?;

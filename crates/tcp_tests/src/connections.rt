@@ -1,6 +1,7 @@
 //! Connections over a socket.
 
-use crate::clients::{receive, receive_all, send, start};
+use crate::clients::{AMPLE, receive, receive_all, send, start};
+use q_outside::Limits;
 use quaestor_serve::{ServeEnd, ServeWhy};
 use std::net::Shutdown;
 use std::test::Fail;
@@ -25,6 +26,12 @@ const LAST: &[u8] = b"GET /v1/d/shop/p1 HTTP/1.1\r\nHost: a\r\nConnection: close
 /// The beginning of its answer.
 const LAST_REPLY: &[u8] = b"HTTP/1.1 404 Not Found\r\n";
 
+/// The answer to a request that was cut off, up to its date and behind it.
+const LATE_BEFORE: &[u8] = b"HTTP/1.1 408 Request Timeout\r\nDate: ";
+
+const LATE_BEHIND: &[u8] =
+    b" GMT\r\nContent-Type: application/json\r\nContent-Length: 19\r\nCache-Control: no-store\r\nConnection: close\r\n\r\n{\"error\":\"timeout\"}";
+
 /// How the server of a test ends.
 fn one_connection() -> ServeEnd {
     ServeEnd {
@@ -35,7 +42,7 @@ fn one_connection() -> ServeEnd {
 
 #[test]
 fn a_client_puts_and_gets_by_one_connection(rt: HostRuntime) -> Result<(), Fail> {
-    let server = start(rt, 30)?;
+    let server = start(rt, AMPLE)?;
     for (request, reply) in [(PUT, PUT_REPLY), (GET, GET_REPLY), (GET, GET_REPLY)] {
         send(&server.client, request)?;
         let received = receive(&rt, &server.client, reply.len())?;
@@ -49,7 +56,7 @@ fn a_client_puts_and_gets_by_one_connection(rt: HostRuntime) -> Result<(), Fail>
 
 #[test]
 fn a_client_that_has_sent_all_is_answered(rt: HostRuntime) -> Result<(), Fail> {
-    let server = start(rt, 30)?;
+    let server = start(rt, AMPLE)?;
     send(&server.client, PUT)?;
     send(&server.client, GET)?;
     server.client.shutdown(Shutdown::Write)?;
@@ -63,15 +70,35 @@ fn a_client_that_has_sent_all_is_answered(rt: HostRuntime) -> Result<(), Fail> {
 
 #[test]
 fn a_silent_client_is_told_the_end(rt: HostRuntime) -> Result<(), Fail> {
-    let server = start(rt, 1)?;
+    let limits = Limits {
+        idle: 1,
+        head_time: 1,
+        ..AMPLE
+    };
+    let server = start(rt, limits)?;
     assert!(rt; receive_all(&rt, &server.client)?.is_empty());
     assert_eq!(rt; server.handle.join(&rt), one_connection());
     Ok(())
 }
 
 #[test]
+fn a_request_that_is_cut_off_is_answered_by_408(rt: HostRuntime) -> Result<(), Fail> {
+    let limits = Limits {
+        head_time: 1,
+        ..AMPLE
+    };
+    let server = start(rt, limits)?;
+    send(&server.client, &GET[..20])?;
+    let received = receive_all(&rt, &server.client)?;
+    assert!(rt; received.starts_with(LATE_BEFORE));
+    assert!(rt; received.ends_with(LATE_BEHIND));
+    assert_eq!(rt; server.handle.join(&rt), one_connection());
+    Ok(())
+}
+
+#[test]
 fn the_last_reply_comes_though_the_client_sends_on(rt: HostRuntime) -> Result<(), Fail> {
-    let server = start(rt, 30)?;
+    let server = start(rt, AMPLE)?;
     send(&server.client, LAST)?;
     for _ in 0..2_000 {
         send(&server.client, GET)?;

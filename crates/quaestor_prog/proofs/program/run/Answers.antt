@@ -20,7 +20,7 @@ pub returns-in-Ok-Serve-clause-pipe : goal.returns-in-Ok-Serve-clause-pipe
 returns-in-Ok-Serve-clause-pipe g c = λ h at is. let serve = rw c.in-Ok-Serve.field-0-is at c.in-Ok-Serve.ensures in absurd (not_both _ is.named serve.named)
 
 pub returns-in-Ok-Serve-clause-serve : goal.returns-in-Ok-Serve-clause-serve
-returns-in-Ok-Serve-clause-serve g c = λ ask is. (refl, refl, inr (served_of _ _ _ _ _ _ _ _ _ ask _ _ _ _ _ (rw c.in-Ok-Serve.field-0-is at c.in-Ok-Serve.ensures) is c.serve_at.ensures))
+returns-in-Ok-Serve-clause-serve g c = λ ask is. (refl, refl, inr (served_of _ _ _ _ _ _ _ _ _ _ ask _ _ _ _ _ (rw c.in-Ok-Serve.field-0-is at c.in-Ok-Serve.ensures) is c.serve_at.ensures))
 
 pub returns-in-Ok-Serve-clause-help : goal.returns-in-Ok-Serve-clause-help
 returns-in-Ok-Serve-clause-help g c = λ help. absurd (no_help_serving _ _ (rw c.in-Ok-Serve.field-0-is at c.in-Ok-Serve.ensures) help)

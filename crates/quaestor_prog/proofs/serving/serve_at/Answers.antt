@@ -9,9 +9,11 @@ returns-in-Ok g c = inr (record {
   doors_left = c.serve_through-status.new.doors;
   listening = c.listen.new.self;
   given = c.in-Ok.ensures.gives;
+  address = c.address.result.now;
+  told = c.address.ensures;
   are_new = c.in-Ok.ensures.unused;
   kept = c.keep_doors.ensures ∙ ap (λ v. record { faults = v.faults; kept = Some c.serve_through-status.new.doors }) c.in-Ok.ensures.count;
-  through = through_ended _ _ _ _ _ _ _ _ _ _ _ _ c.end.ensures c.serve_through-status.ensures;
+  through = through_ended _ _ _ _ _ _ _ _ _ _ _ _ _ c.end.ensures c.serve_through-status.ensures;
 })
 
 pub returns-in-Err : goal.returns-in-Err
