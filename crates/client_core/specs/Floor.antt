@@ -1,6 +1,6 @@
 -- Internal. The floor of a session for a key: the least commit at which the session still takes an answer, so that it
 -- reads its own writes and never reads backwards (Terry et al., Session Guarantees, PDIS 1994).
-use Rattle.std.specs.Prelude.{ℕ, Bool, true, false, ◌&&◌, ◌==◌, ◌+◌, if◌then◌else◌, max, map, filter, List, [], ◌∷◌}
+use Rattle.std.specs.Prelude.{ℕ, Bool, ◌&&◌, ◌==◌, ◌+◌, if◌then◌else◌, max, map, filter, List, [], ◌∷◌}
 use Rattle.std.specs.List.{list_any}
 use Rattle.flat_snapshot.specs.declared.sight.KeyMark.{KeyMark}
 use Rattle.client_core.specs.declared.level.Level.{Level}

@@ -1,26 +1,39 @@
 //! The floors of a session and its whitelist, in a table of the caller.
 //!
 //! The table has a row for each key that was read, by the key's mark: the greatest commit at which it was
-//! read, and the number of the page under which it was whitelisted. A table that is full gives away one row
-//! after another and raises the common floor, which counts for all keys, to the commit of the row that it
-//! gives away. So a session whose table is small asks the server more often, and never accepts what is below
-//! its floor:
+//! read, and the number of the page under which it was whitelisted. Rows lie in sets of eight, and a mark
+//! stands only in its own set, which its first hash names, as in a set-associative cache. So a look-up
+//! compares eight marks, however long the table is.
+//!
+//! ```text
+//!   rows    | 0 1 2 3 4 5 6 7 | 8 9 10 11 12 13 14 15 | 16 ..
+//!   sets    |        0        |           1           | 2 ..       set = first hash mod number of sets
+//! ```
+//!
+//! Where all rows of its set are taken, a new mark gets the row of the least commit, and the common floor,
+//! which counts for all keys, is raised to that commit. So a session whose table is small asks the server
+//! more often, and never accepts what is below its floor:
 //!
 //! 1. The floor is never below that of the session's past, and never above the floor of level Causal.
 //! 2. While no row was given away, it is that of the past exactly.
 //! 3. A key is whitelisted only if it was listed since the last page.
+//! 4. No row is given away while each set has room for the marks of the past.
 //!
 //! Keys of one mark (two equal hashes of 64 bits) share a row, which can only raise their floor.
-ghost use Rattle.std.specs.Prelude.{◌≡◌, ◌≤◌, ◌<◌, ◌∷◌, [], List, true, false, IsTrue, MatchOption, length};
+ghost use Rattle.std.specs.Prelude.{◌≡◌, ◌≤◌, ◌<◌, ◌+◌, ◌*◌, ◌∷◌, [], ℕ, List, true, false, max, IsTrue, MatchOption, length};
 ghost use Rattle.flat_snapshot.specs.declared.sight.KeyMark.{KeyMark as AMark};
 ghost use Rattle.client_core.specs.declared.level.Level.TheVariants.{Causal};
 ghost use Rattle.client_core.specs.declared.floors.FloorRow.{FloorRow as ARow};
-ghost use Rattle.client_core.specs.Floor.{Event, wrote, read, listed, paged, floor_of, is_listed, same_mark};
-ghost use Rattle.client_core.specs.Table.{HasPast, Adds, IsRowOf, IsAbsent, IsGiven, HoldsCommit, joined, floor_from};
+ghost use Rattle.client_core.specs.Floor.{Event, wrote, read, listed, paged, keys_of, distinct, floor_of, is_listed, same_mark};
+ghost use Rattle.client_core.specs.Table.{HasPast, HasRoomFor, HasSpace, Adds, IsRowOf, IsHome, IsAbsent, IsChoice, IsGiven, HoldsCommit, ways, set_size, set_of, row_at, joined, unlisted, floor_from};
 
 use crate::level::Level;
 use flat_snapshot::KeyMark;
 use q_base::Commit;
+
+/// The number of rows of a set. A table of fewer rows is one set; rows behind the last whole set are not
+/// used.
+pub const WAYS: usize = 8;
 
 /// A row of the table: what a session knows of one mark.
 #[derive(Clone, Copy, Debug, PartialEq, Eq)]
@@ -59,9 +72,7 @@ pub struct Floors {
     pub reads: Commit,
     /// The number of pages, counted from 1.
     pub pages: u64,
-    /// The index of the row that is given to the next new mark.
-    pub next: usize,
-    /// Whether a row was given away.
+    /// Whether a row was given away that was a key's.
     pub has_dropped: bool,
 }
 
@@ -76,7 +87,6 @@ impl Floors {
             writes: 0,
             reads: 0,
             pages: 1,
-            next: 0,
             has_dropped: false,
         }
     }
@@ -87,6 +97,8 @@ impl Floors {
         ensures most { (past : List (Event AMark)) → HasPast self.now rows.now past → result ≤ floor_of same_mark Causal past mark }
         ensures exact { (past : List (Event AMark)) → HasPast self.now rows.now past →
             self.now.has_dropped ≡ false → result ≡ floor_of same_mark level past mark }
+        ensures fits { (past : List (Event AMark)) → HasPast self.now rows.now past →
+            HasRoomFor (length rows.now) past → result ≡ floor_of same_mark level past mark }
     {
         let held = commit_of(rows, mark);
         floor_from(*self, level, held)
@@ -97,6 +109,8 @@ impl Floors {
         ensures only { (past : List (Event AMark)) → HasPast self.now rows.now past → result ≡ true → is_listed same_mark past mark ≡ true }
         ensures exact { (past : List (Event AMark)) → HasPast self.now rows.now past →
             self.now.has_dropped ≡ false → result ≡ is_listed same_mark past mark }
+        ensures fits { (past : List (Event AMark)) → HasPast self.now rows.now past →
+            HasRoomFor (length rows.now) past → result ≡ is_listed same_mark past mark }
     {
         match find(rows, mark) {
             Some(i) => rows[i].listed_at == self.pages,
@@ -113,7 +127,11 @@ impl Floors {
 
     /// A key was read at a commit.
     pub fn note_read(&mut self, rows: &mut [FloorRow], mark: KeyMark, commit: Commit)
-        ensures { (past : List (Event AMark)) → HasPast self.old rows.old past → HasPast self.new rows.new (read mark commit ∷ past) }
+        ensures past { (past : List (Event AMark)) → HasPast self.old rows.old past → HasPast self.new rows.new (read mark commit ∷ past) }
+
+        // No row is given away while the mark's set has space, and else one of the least commit is.
+        ensures space { HasSpace rows.old mark → (self.new.common ≡ self.old.common) × (self.new.has_dropped ≡ self.old.has_dropped) }
+        ensures least { (i : ℕ) → IsHome rows.old mark i → self.new.common ≤ max self.old.common (row_at rows.old i).commit }
     {
         self.put(
             rows,
@@ -128,7 +146,11 @@ impl Floors {
 
     /// A flagged key was asked for again, so that it is whitelisted until the next page.
     pub fn list(&mut self, rows: &mut [FloorRow], mark: KeyMark)
-        ensures { (past : List (Event AMark)) → HasPast self.old rows.old past → HasPast self.new rows.new (listed mark ∷ past) }
+        ensures past { (past : List (Event AMark)) → HasPast self.old rows.old past → HasPast self.new rows.new (listed mark ∷ past) }
+
+        // As for a read.
+        ensures space { HasSpace rows.old mark → (self.new.common ≡ self.old.common) × (self.new.has_dropped ≡ self.old.has_dropped) }
+        ensures least { (i : ℕ) → IsHome rows.old mark i → self.new.common ≤ max self.old.common (row_at rows.old i).commit }
     {
         let listed_at = self.pages;
         self.put(
@@ -149,18 +171,18 @@ impl Floors {
         match self.pages.checked_add(1) {
             Some(pages) => self.pages = pages,
             None => {
-                let cleared = Floors::new(rows);
-                self.common = self.common.max(self.reads);
-                self.pages = cleared.pages;
-                self.has_dropped = true;
+                unlist(rows);
+                self.pages = 1;
             }
         }
     }
 
     /// Adds what is known of a mark to the table.
     fn put(&mut self, rows: &mut [FloorRow], row: FloorRow)
-        ensures { (past more : List (Event AMark)) → HasPast self.old rows.old past → Adds past more row self.old.pages →
+        ensures past { (past more : List (Event AMark)) → HasPast self.old rows.old past → Adds past more row self.old.pages →
             row.listed_at ≤ self.old.pages → row.is_taken ≡ true → HasPast self.new rows.new more }
+        ensures space { HasSpace rows.old row.mark → (self.new.common ≡ self.old.common) × (self.new.has_dropped ≡ self.old.has_dropped) }
+        ensures least { (i : ℕ) → IsHome rows.old row.mark i → self.new.common ≤ max self.old.common (row_at rows.old i).commit }
     {
         match find(rows, row.mark) {
             Some(i) => {
@@ -171,7 +193,7 @@ impl Floors {
         }
     }
 
-    /// Gives a row to a mark that has none.
+    /// Gives a row of its set to a mark that has none.
     fn give(&mut self, rows: &mut [FloorRow], row: FloorRow)
         ensures { IsGiven self.old self.new rows.old rows.new row }
     {
@@ -181,13 +203,12 @@ impl Floors {
             self.has_dropped = true;
             return;
         }
-        let i = if self.next < rows.len() { self.next } else { 0 };
+        let i = choice(rows, row.mark);
         if rows[i].is_taken {
             self.common = self.common.max(rows[i].commit);
             self.has_dropped = true;
         }
         rows[i] = row;
-        self.next = i + 1;
     }
 }
 
@@ -227,10 +248,54 @@ fn commit_of(rows: &[FloorRow], mark: KeyMark) -> Commit
 fn find(rows: &[FloorRow], mark: KeyMark) -> Option<usize>
     ensures { MatchOption result (IsAbsent rows.now mark) (λ i. IsRowOf rows.now mark i) }
 {
-    for i in 0..rows.len() {
+    let first = first_of(rows, mark);
+    for i in first..first + rows.len().min(WAYS) {
         if rows[i].is_taken && rows[i].mark == mark {
             return Some(i);
         }
     }
     None
 }
+
+/// The index of the row that a new mark is given: one of its set that is not taken, and else one of the
+/// least commit.
+fn choice(rows: &[FloorRow], mark: KeyMark) -> usize
+    requires { 0 < length rows.now }
+    ensures { IsChoice rows.now mark result }
+{
+    let first = first_of(rows, mark);
+    let mut least = first;
+    for i in first..first + rows.len().min(WAYS) {
+        if !rows[i].is_taken {
+            return i;
+        }
+        if rows[i].commit < rows[least].commit {
+            least = i;
+        }
+    }
+    least
+}
+
+/// The index of the first row of a mark's set.
+fn first_of(rows: &[FloorRow], mark: KeyMark) -> usize
+    ensures set { result ≡ ways * set_of (length rows.now) mark }
+    ensures within { result + set_size (length rows.now) ≤ length rows.now }
+{
+    let sets = (rows.len() / WAYS).max(1);
+    WAYS * (mark.first % sets as u64) as usize
+}
+
+/// Takes each row off the whitelist.
+fn unlist(rows: &mut [FloorRow])
+    ensures length { length rows.new ≡ length rows.old }
+    ensures rows { (i : ℕ) → row_at rows.new i ≡ unlisted (row_at rows.old i) }
+{
+    for row in rows.iter_mut() {
+        row.listed_at = 0;
+    }
+}
+
+/// A past of at most eight keys, and of no more than the table has rows, has room in it.
+pub fn pasts_of_few_keys_have_room()
+    ensures { (rows : ℕ) (past : List (Event AMark)) → distinct same_mark (keys_of past) ≤ set_size rows → HasRoomFor rows past }
+{}

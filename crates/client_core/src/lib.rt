@@ -10,5 +10,5 @@ pub use choice::{
     Why, commit_with, copies_without_a_cause_are_accepted, front_of, is_accepted, why_before,
     why_of, why_with,
 };
-pub use floors::{FloorRow, Floors};
+pub use floors::{FloorRow, Floors, WAYS, pasts_of_few_keys_have_room};
 pub use level::Level;

@@ -1,4 +1,4 @@
-use Rattle.std.proofs.Common.{◌≡◌, ◌≤◌, ℕ, sym, subst, ◌∙◌}
+use Rattle.std.proofs.Common.{◌≤◌, ℕ, sym, subst, ◌∙◌}
 use Rattle.client_core.specs.declared.level.Level.TheVariants.{Causal}
 use Rattle.client_core.specs.Floor.{floor_of, same_mark}
 use Rattle.client_core.proofs.TableLemmas.{floor_least, floor_most, floor_exact}
@@ -20,3 +20,8 @@ returns-clause-most c = λ past had.
 pub returns-clause-exact : goal.returns-clause-exact
 returns-clause-exact c = λ past had none.
     c.floor_from.ensures ∙ floor_exact c.args.self.now c.args.rows.now past c.args.level c.args.mark c.commit_of-held.result had c.commit_of-held.ensures none
+
+-- where the table has room for the past, no row was given away
+pub returns-clause-fits : goal.returns-clause-fits
+returns-clause-fits c = λ past had room.
+    c.floor_from.ensures ∙ floor_exact c.args.self.now c.args.rows.now past c.args.level c.args.mark c.commit_of-held.result had c.commit_of-held.ensures (had.fits room)
