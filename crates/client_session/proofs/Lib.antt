@@ -1,2 +1,3 @@
+mod NotedLemmas
 mod ReadLemmas
 mod SessionLemmas

@@ -10,6 +10,7 @@ use Rattle.query_normal.specs.declared.key.KeyShape.{KeyShape}
 use Rattle.client_core.specs.declared.level.Level.{Level}
 use Rattle.client_core.specs.declared.level.Level.TheVariants as level
 use Rattle.client_core.specs.Floor.{Event, read, paged, reads_of, greatest, all_commits, commits_of, is_listed, floor_of}
+use Rattle.client_session.specs.declared.noted.KeyFloor.{KeyFloor}
 use Rattle.client_session.specs.Noted.{noted}
 use Rattle.client_session.specs.declared.read_out.ReadOut.{ReadOut}
 use Rattle.client_session.specs.declared.read_out.Refreshed.{Refreshed}
@@ -43,7 +44,7 @@ commits_read key other commit reads false e = rw e refl
 
 module _ (s : SessionView) (past : List (Event KeyShape)) (h : HasPast s past) where
   -- after a read
-  module _ (key : KeyShape) (commit : ℕ) (floors : List (KeyShape × ℕ))
+  module _ (key : KeyShape) (commit : ℕ) (floors : List (KeyShape × KeyFloor))
       (notes : (other : KeyShape) → noted floors other ≡ cond (same_key key other) (max (noted s.floors key) commit) (noted s.floors other)) where
     read_floors : (other : KeyShape) → noted floors other ≡ greatest (commits_of same_key other ((key, commit) ∷ reads_of past))
     read_floors other = elim (cases_Bool (same_key key other)) [
@@ -73,7 +74,7 @@ module _ (s : SessionView) (past : List (Event KeyShape)) (h : HasPast s past) w
 
   -- the same of what a read does: the key was cloned twice, and room was made in both maps
   pub after_reading : (key : KeyShape) (out : ReadOut) (flagged : Bool) → flagged ≡ is_flagged out.way → (seen asked : KeyShape) → key ≡ seen → key ≡ asked
-      → (floors_then floors : List (KeyShape × ℕ)) → floors_then ≡ s.floors
+      → (floors_then floors : List (KeyShape × KeyFloor)) → floors_then ≡ s.floors
       → ((other : KeyShape) → noted floors other ≡ cond (same_key seen other) (max (noted floors_then seen) out.commit) (noted floors_then other))
       → (keys_then keys : List KeyShape) → keys_then ≡ s.listed
       → ((other : KeyShape) → list_any (same_key other) keys ≡ cond (flagged && same_key asked other) true (list_any (same_key other) keys_then))
@@ -82,7 +83,7 @@ module _ (s : SessionView) (past : List (Event KeyShape)) (h : HasPast s past) w
   after_reading key out flagged is_flag seen asked is_seen is_asked floors_then floors same_floors notes keys_then keys same_keys lists reads is_reads =
       let at_key = λ (other : KeyShape). notes other
       ∙ ap (λ (k : KeyShape). cond (same_key k other) (max (noted floors_then k) out.commit) (noted floors_then other)) (sym is_seen)
-      ∙ ap (λ (fs : List (KeyShape × ℕ)). cond (same_key key other) (max (noted fs key) out.commit) (noted fs other)) same_floors in
+      ∙ ap (λ (fs : List (KeyShape × KeyFloor)). cond (same_key key other) (max (noted fs key) out.commit) (noted fs other)) same_floors in
       let in_list = λ (other : KeyShape). lists other
       ∙ ap (λ (k : KeyShape). cond (flagged && same_key k other) true (list_any (same_key other) keys_then)) (sym is_asked)
       ∙ ap (λ (ks : List KeyShape). cond (flagged && same_key key other) true (list_any (same_key other) ks)) same_keys in

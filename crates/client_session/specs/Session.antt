@@ -25,6 +25,7 @@ use Rattle.client_session.specs.declared.refusal.SessionRefusal.{SessionRefusal}
 use Rattle.client_session.specs.declared.refusal.SessionRefusal.TheVariants as refusal
 use Rattle.client_model.specs.declared.reply.Reply.{Reply}
 use Rattle.client_session.specs.Link.{Exchange, direct, page, LinkView, Calls, is_write_status}
+use Rattle.client_session.specs.declared.noted.KeyFloor.{KeyFloor}
 use Rattle.client_session.specs.Noted.{noted}
 use Rattle.client_session.specs.Read.{refused_of, sight_by}
 
@@ -33,8 +34,8 @@ pub record SessionView : Type 0 where
   pub level : Level
   -- the held page
   pub page : Option Page
-  -- the greatest commit of the reads of each key
-  pub floors : List (KeyShape × ℕ)
+  -- of each key that was read the greatest commit of its reads, and its mark
+  pub floors : List (KeyShape × KeyFloor)
   -- the whitelisted keys
   pub listed : List KeyShape
   -- the greatest commit of the writes, and of all reads

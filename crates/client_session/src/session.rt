@@ -5,11 +5,14 @@
 //! 2. A key whose bits are all set is asked of the server once for each page. It is then whitelisted, and its
 //!    copies from the front on are accepted. A new page empties the whitelist.
 //! 3. Memory is taken before the link is asked, so that what a call learns is always noted.
+//! 4. A key's text is hashed at its first read alone: the key's mark is kept beside its floor.
 ghost use Rattle.std.specs.Prelude.{◌≡◌, ◌≤◌, List, [], None, Ok, IfOk, OnErr};
-ghost use Rattle.query_normal.specs.Keys.{same_key};
+ghost use Rattle.query_normal.specs.Keys.{key_text, same_key};
 ghost use Rattle.query_normal.specs.declared.key.KeyShape.{KeyShape as AKey};
 ghost use Rattle.client_core.specs.Choice.{front_of};
 ghost use Rattle.client_core.specs.Floor.{Event, floor_of};
+ghost use Rattle.flat_snapshot.specs.Sight.{mark_of};
+ghost use Rattle.client_session.specs.Noted.{noted, floor_at};
 ghost use Rattle.client_session.specs.declared.ask.ClientAsk.TheVariants.{Delete as a_delete};
 ghost use Rattle.client_session.specs.Link.{Makes};
 ghost use Rattle.client_session.specs.Read.{IsReadBy, IsFresh, StaysHeld, Holds, IsResult, sight_by};
@@ -17,13 +20,13 @@ ghost use Rattle.client_session.specs.Session.{HasPast, IsAboveFloor, IsKept, Is
 
 use crate::ask::{ClientAsk, LinkRefusal};
 use crate::link::Link;
-use crate::noted::{is_listed, list, note, noted};
+use crate::noted::{KeyFloor, floor_at, is_listed, list, note, noted};
 use crate::read_out::{ReadOut, Refreshed, Way};
 use crate::reading::{Position, read_by};
 use crate::refusal::{SessionRefusal, refused};
-use client_core::{Level, Why, front_of};
+use client_core::{Level, Why};
 use client_model::Reply;
-use flat_snapshot::{Page, Sight};
+use flat_snapshot::{KeyMark, Page, Sight};
 use hub_model::Condition;
 use indexmap::{IndexMap, IndexSet};
 use q_base::{Commit, Memory, Name};
@@ -38,7 +41,7 @@ pub struct Session {
     alloc: Global,
     level: Level,
     page: Option<Page>,
-    floors: IndexMap<Key, Commit>,
+    floors: IndexMap<Key, KeyFloor>,
     listed: IndexSet<Key>,
     writes: Commit,
     reads: Commit,
@@ -55,15 +58,29 @@ impl Model for Session {
     ghost coded = { Prim.hlevel (codes, tree_code, filter_code) };
 
     ghost view = { λ s. record { level = s.level; page = s.page; floors = s.floors.entries; listed = s.listed.keys; writes = s.writes; reads = s.reads } };
+
+    ghost use Rattle.client_session.specs.Noted.{AreMarked};
+
+    ghost invariant = { λ s. AreMarked s.floors.entries };
 }
 
-/// What the held page says of a key.
-fn sight_by(held: &Option<Page>, key: &Key) -> Option<Sight>
-    ensures { result ≡ sight_by held.now key.now }
+/// What the held page says of a key with this mark.
+fn sight_at(held: &Option<Page>, mark: KeyMark) -> Option<Sight>
+    ensures { (key : AKey) → mark ≡ mark_of (key_text key) → result ≡ sight_by held.now key }
 {
     match held {
-        Some(page) => Some(page.sight(key)),
+        Some(page) => Some(page.sight_at(mark)),
         None => None,
+    }
+}
+
+/// The held page's front, and 0 without a page.
+fn front_by(held: &Option<Page>) -> Commit
+    ensures { (key : AKey) → result ≡ front_of (sight_by held.now key) }
+{
+    match held {
+        Some(page) => page.front(),
+        None => 0,
     }
 }
 
@@ -133,15 +150,27 @@ impl Session {
         })
     }
 
-    /// Where the session stands before a read of a key.
-    fn position(&self, key: &Key) -> Position
+    /// Where the session stands before a read of a key of which this is noted.
+    fn position(&self, key: &Key, known: KeyFloor) -> Position
+        requires { known ≡ floor_at self.now.floors key.now }
         ensures { result ≡ position_of self.now key.now }
     {
         Position {
             level: self.level,
-            sight: sight_by(&self.page, key),
+            sight: sight_at(&self.page, known.mark),
             is_whitelisted: is_listed(&self.listed, key),
-            floor: self.floor(key),
+            floor: self.floor_from(known.commit),
+        }
+    }
+
+    /// The floor for a key that was read at this commit.
+    fn floor_from(&self, commit: Commit) -> Commit
+        ensures { (key : AKey) → commit ≡ noted self.now.floors key → result ≡ floor_with self.now.level self.now key }
+    {
+        match self.level {
+            Level::Session => self.writes.max(commit),
+            Level::Causal => self.writes.max(self.reads),
+            Level::Strong => self.writes.max(self.reads),
         }
     }
 
@@ -150,11 +179,7 @@ impl Session {
         ensures by { result ≡ floor_with self.now.level self.now key.now }
         ensures floor { (past : List (Event AKey)) → HasPast self.now past → result ≡ floor_of same_key self.now.level past key.now }
     {
-        match self.level {
-            Level::Session => self.writes.max(noted(&self.floors, key)),
-            Level::Causal => self.writes.max(self.reads),
-            Level::Strong => self.writes.max(self.reads),
-        }
+        self.floor_from(noted(&self.floors, key))
     }
 
     /// Reads a key: the result at a commit that is below neither the held page's front nor the floor.
@@ -195,9 +220,10 @@ impl Session {
         let asked = key.clone()?;
         self.floors.reserve(1)?;
         self.listed.reserve(1)?;
-        let position = self.position(key);
+        let known = floor_at(&self.floors, key);
+        let position = self.position(key, known);
         let out = read_by(link, position, key)?;
-        note(&mut self.floors, seen, out.commit);
+        note(&mut self.floors, seen, known, out.commit);
         self.reads = self.reads.max(out.commit);
         list(&mut self.listed, asked, is_flagged(out.way));
         Ok(out)
@@ -219,7 +245,7 @@ impl Session {
     fn is_behind(&self, key: &Key) -> bool
         ensures { result ≡ is_behind self.now key.now }
     {
-        front_of(sight_by(&self.page, key)) < self.floor(key)
+        front_by(&self.page) < self.floor(key)
     }
 
     /// Fetches a page where the held one is behind what the session has seen of a key, so that its copies are
