@@ -1,7 +1,7 @@
 -- The text of a reply that was given.
 use Rattle.std.proofs.Common.{◌≡◌, ℕ, ◌-◌, ◌<◌, ◌^◌, min, Bool, true, List, ◌++◌, Result, length, refl, ap, ap₂, subst, ◌∙◌, arith}
 use Rattle.q_outside.specs.Ends.{End, Gave}
-use Rattle.http_front.specs.Bodies.{body_text, is_in_one_piece, is_piece, up_to_greatest}
+use Rattle.http_front.specs.Bodies.{body_text, is_counted, is_counted_in, up_to_greatest}
 use Rattle.http_front.specs.Date.{IsDateOf}
 use Rattle.http_front.specs.Reply.{head_text, head_fields}
 use Rattle.http_front.specs.ReplyText.{IsHeadText, IsReplyText, body_of, clock_of, given_body, head_of, json_head}
@@ -14,8 +14,8 @@ use Rattle.http_front.specs.declared.told.Told.TheVariants.{Write, Read, Match, 
 fitting : (size : ℕ) → size < 2 ^ 64 → up_to_greatest size ≡ size
 fitting size fits = omega arith
 
--- the head is that of the whole length, which 64 bits hold where the body is in one piece
-head_up_to : (shape : Shape) (told : Told) (size : ℕ) (close : Bool) → (is_in_one_piece told ≡ true → size < 2 ^ 64)
+-- the head is that of the whole length, which 64 bits hold where the body is one whose length they hold
+head_up_to : (shape : Shape) (told : Told) (size : ℕ) (close : Bool) → (is_counted_in told ≡ true → size < 2 ^ 64)
     → head_of shape told (up_to_greatest size) close ≡ head_of shape told size close
 head_up_to shape (Write written) size close fits = ap (λ n. head_of shape (Write written) n close) (fitting size (fits refl))
 head_up_to shape (Read answer) size close fits = ap (λ n. head_of shape (Read answer) n close) (fitting size (fits refl))
@@ -30,12 +30,12 @@ head_up_to shape Memory size close fits = ap (λ n. head_of shape Memory n close
 
 -- the head of what is told, of the length of its body as it is kept
 pub head_is_of : (shape : Shape) (told : Told) (page : List ℕ) (close : Bool) (body : ReplyBody) (size : ℕ) (head : Head)
-    → body_text body ≡ body_of told page → is_piece body ≡ is_in_one_piece told
-    → size ≡ up_to_greatest (length (body_text body)) → (is_piece body ≡ true → length (body_text body) < 2 ^ 64) → head ≡ head_of shape told size close
+    → body_text body ≡ body_of told page → is_counted body ≡ is_counted_in told
+    → size ≡ up_to_greatest (length (body_text body)) → (is_counted body ≡ true → length (body_text body) < 2 ^ 64) → head ≡ head_of shape told size close
     → head ≡ head_of shape told (length (body_of told page)) close
-head_is_of shape told page close body size head text_is piece_is size_is fits head_is =
+head_is_of shape told page close body size head text_is counted_is size_is fits head_is =
     head_is ∙ ap (λ n. head_of shape told n close) size_is
-    ∙ head_up_to shape told (length (body_text body)) close (λ one. fits (piece_is ∙ one))
+    ∙ head_up_to shape told (length (body_text body)) close (λ one. fits (counted_is ∙ one))
     ∙ ap (λ t. head_of shape told (length t) close) text_is
 
 -- a head and what is given of a body, one behind the other

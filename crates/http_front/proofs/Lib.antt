@@ -20,6 +20,7 @@ mod QuotedLemmas
 mod ReadLemmas
 mod RecordLemmas
 mod RequestFacts
+mod ResultLemmas
 mod RouteLemmas
 mod StandardFacts
 mod TagLemmas

@@ -8,7 +8,7 @@ use Rattle.query_normal.specs.Keys.{key_text}
 use Rattle.query_normal.specs.declared.key.KeyShape.{KeyShape}
 use Rattle.http_front.specs.ReplyText.{purges_body}
 use Rattle.http_front.specs.declared.body.ReplyBody.{ReplyBody}
-use Rattle.http_front.specs.declared.body.ReplyBody.TheVariants.{Piece, Purges}
+use Rattle.http_front.specs.declared.body.ReplyBody.TheVariants.{Piece, Result, Purges}
 use Rattle.http_front.specs.declared.told.Told.{Told}
 use Rattle.http_front.specs.declared.told.Told.TheVariants as told
 
@@ -35,23 +35,25 @@ purges_end p = codes "],\"last\":" ++ decimal p.last ++ codes "}"
 -- the bytes of a body
 abbrev pub body_text : ReplyBody → List ℕ
 body_text (Piece piece) = piece.now
+body_text (Result text) = text.now
 body_text (Purges reply) = purges_body (told_of reply.now)
 
--- whether a body is in one piece
-abbrev pub is_piece : ReplyBody → Bool
-is_piece (Piece piece) = true
-is_piece (Purges reply) = false
+-- whether a body is one whose length 64 bits hold
+abbrev pub is_counted : ReplyBody → Bool
+is_counted (Piece piece) = true
+is_counted (Result text) = true
+is_counted (Purges reply) = false
 
 -- whether the body of what is told is: all are but a list of purges
-abbrev pub is_in_one_piece : Told → Bool
-is_in_one_piece (told.Write written) = true
-is_in_one_piece (told.Read answer) = true
-is_in_one_piece (told.Match matched) = true
-is_in_one_piece (told.Page clock) = true
-is_in_one_piece (told.Count stats) = true
-is_in_one_piece (told.Purges reply) = false
-is_in_one_piece (told.Refusal refused clock) = true
-is_in_one_piece told.Memory = true
+abbrev pub is_counted_in : Told → Bool
+is_counted_in (told.Write written) = true
+is_counted_in (told.Read answer) = true
+is_counted_in (told.Match matched) = true
+is_counted_in (told.Page clock) = true
+is_counted_in (told.Count stats) = true
+is_counted_in (told.Purges reply) = false
+is_counted_in (told.Refusal refused clock) = true
+is_counted_in told.Memory = true
 
 -- a length, or the greatest number of 64 bits where that is less
 abbrev pub up_to_greatest : ℕ → ℕ

@@ -15,6 +15,7 @@ pub mod Query
 pub mod ReadBack
 pub mod Reply
 pub mod ReplyText
+pub mod ResultTexts
 pub mod Routes
 pub mod Tags
 pub mod Target

@@ -1,24 +1,26 @@
 //! The bodies of replies.
 ghost use Rattle.std.specs.Prelude.{◌≡◌, ◌+◌, ◌<◌, ◌≤◌, ◌^◌, ◌++◌, true, length, decimal, codes};
 ghost use Rattle.q_outside.specs.Ends.{Gave};
-ghost use Rattle.http_front.specs.Bodies.{body_text, is_in_one_piece, is_piece, up_to_greatest};
+ghost use Rattle.http_front.specs.Bodies.{body_text, is_counted, is_counted_in, up_to_greatest};
 ghost use Rattle.http_front.specs.ReplyText.{found_text, written_body, outcome_body, stats_body, filter_body, refusal, body_of, given_body};
 ghost use Rattle.http_front.specs.declared.refused.Refused.TheVariants.{Framing, BadDocument};
 
 use crate::purges::{give_purges, purges_len};
 use crate::put::{put, put_number};
 use crate::refused::{DocumentReason, FilterRefusal, Refused};
+use crate::results::give_result;
 use crate::shape::Shape;
 use crate::told::Told;
 use http_message::FramingRefusal;
 use hub_model::{Found, Outcome, PurgeReply, Stats, Written};
 use q_outside::{Failed, Sink, give_all};
+use result_kinds::ResultText;
 
 /// The greatest length of a body with numbers in it.
 pub(crate) const NUMBERS_CAPACITY: usize = 96;
 
-/// The length of the buffer by way of which a list of purges is given without its head.
-const PURGES_CAPACITY: usize = 1024;
+/// The length of the buffer by way of which a body is given without its head where it is written meanwhile.
+const PIECE_CAPACITY: usize = 1024;
 
 /// The body of a read that finds nothing.
 const ABSENT: &[u8] = b"{\"error\":\"absent\"}";
@@ -31,6 +33,8 @@ const NO_MEMORY: &[u8] = b"{\"error\":\"memory\"}";
 pub(crate) enum ReplyBody<'a> {
     /// These bytes.
     Piece(&'a [u8]),
+    /// The text of a result, which is written while it is given.
+    Result(&'a ResultText),
     /// The text of a list of purges, which is written while it is given.
     Purges(&'a PurgeReply),
 }
@@ -39,10 +43,11 @@ impl<'a> ReplyBody<'a> {
     /// Its length, or the greatest number where that is less.
     pub(crate) fn len(self) -> usize
         ensures len { result ≡ up_to_greatest (length (body_text self.entry)) }
-        ensures fits { is_piece self.entry ≡ true → length (body_text self.entry) < 2 ^ 64 }
+        ensures fits { is_counted self.entry ≡ true → length (body_text self.entry) < 2 ^ 64 }
     {
         match self {
             ReplyBody::Piece(piece) => piece.len(),
+            ReplyBody::Result(text) => text.len(),
             ReplyBody::Purges(reply) => purges_len(reply),
         }
     }
@@ -62,7 +67,8 @@ pub fn write_body<K: Sink>(
     let body = body_of(told, page, &mut numbers);
     match given(shape, body) {
         ReplyBody::Piece(piece) => give_all(sink, piece),
-        ReplyBody::Purges(reply) => give_purges(sink, &mut [0; PURGES_CAPACITY], 0, reply),
+        ReplyBody::Result(text) => give_result(sink, &mut [0; PIECE_CAPACITY], 0, text),
+        ReplyBody::Purges(reply) => give_purges(sink, &mut [0; PIECE_CAPACITY], 0, reply),
     }
 }
 
@@ -82,11 +88,11 @@ pub(crate) fn given<'a>(shape: Shape, body: ReplyBody<'a>) -> ReplyBody<'a>
 pub(crate) fn body_of<'a>(told: &'a Told, page: &'a [u8], buffer: &'a mut [u8]) -> ReplyBody<'a>
     requires { NUMBERS_CAPACITY ≤ length buffer.old }
     ensures text { body_text result ≡ body_of told.now page.now }
-    ensures piece { is_piece result ≡ is_in_one_piece told.now }
+    ensures counted { is_counted result ≡ is_counted_in told.now }
 {
     let piece = match told {
         Told::Write(written) => written_body(written, buffer),
-        Told::Read(answer) => outcome_body(&answer.result),
+        Told::Read(answer) => return outcome_body(&answer.result),
         Told::Match(matched) => number_body(b"{\"front\":", matched.front, b"}", buffer),
         Told::Page(_) => page,
         Told::Count(stats) => stats_body(stats, buffer),
@@ -149,13 +155,25 @@ fn precondition_body(found: Found, buffer: &mut [u8]) -> &[u8]
 }
 
 /// The body of a read: none where the caller knows the result.
-fn outcome_body(outcome: &Outcome) -> &[u8]
-    ensures { result.now ≡ outcome_body outcome.now }
+fn outcome_body(outcome: &Outcome) -> ReplyBody<'_>
+    ensures text { body_text result ≡ outcome_body outcome.now }
+    ensures counted { is_counted result ≡ true }
 {
     match outcome {
-        Outcome::Whole { text, .. } => text.as_slice(),
-        Outcome::Same { .. } => &[],
-        Outcome::Absent => ABSENT,
+        Outcome::Whole { text, .. } => result_body(text),
+        Outcome::Same { .. } => ReplyBody::Piece(&[]),
+        Outcome::Absent => ReplyBody::Piece(ABSENT),
+    }
+}
+
+/// The body of a result: the bytes of a document are there in one piece.
+fn result_body(text: &ResultText) -> ReplyBody<'_>
+    ensures text { body_text result ≡ text.now }
+    ensures counted { is_counted result ≡ true }
+{
+    match text.as_document() {
+        Some(piece) => ReplyBody::Piece(piece),
+        None => ReplyBody::Result(text),
     }
 }
 

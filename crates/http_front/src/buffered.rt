@@ -1,6 +1,6 @@
 //! Giving a text to a sink by way of a buffer, so that it is given in few pieces. The first bytes of the
 //! buffer wait to be given; a call answers how many they are then.
-ghost use Rattle.std.specs.Prelude.{◌≡◌, ◌≤◌, length, take};
+ghost use Rattle.std.specs.Prelude.{◌≡◌, ◌≤◌, ◌++◌, length, take};
 ghost use Rattle.http_front.specs.Buffered.{Adds};
 
 use crate::put::put;
@@ -25,4 +25,19 @@ pub(crate) fn add<K: Sink>(
     }
     give_all(sink, piece)?;
     Ok(0)
+}
+
+/// Adds two pieces.
+pub(crate) fn add_both<K: Sink>(
+    sink: &mut K,
+    buffer: &mut [u8],
+    at: usize,
+    first: &[u8],
+    second: &[u8],
+) -> Result<usize, Failed>
+    requires { at ≤ length buffer.old }
+    ensures { Adds (K.at sink.old) (K.at sink.new) (take at buffer.old) (first.now ++ second.now) buffer.new result }
+{
+    let added = add(sink, buffer, at, first)?;
+    add(sink, buffer, added, second)
 }

@@ -20,6 +20,7 @@ mod query;
 mod quoted;
 mod refused;
 mod reply;
+mod results;
 mod routes;
 mod shape;
 mod status;

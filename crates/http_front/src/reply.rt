@@ -14,11 +14,13 @@ use crate::date::DateText;
 use crate::head::{Head, put_head};
 use crate::purges::give_purges;
 use crate::put::put;
+use crate::results::give_result;
 use crate::shape::Shape;
 use crate::told::Told;
 use hub_model::PurgeReply;
 use q_base::{Memory, Moment};
 use q_outside::{Failed, Sink, give_all, give_both};
+use result_kinds::ResultText;
 use std::alloc::Global;
 use std::marker::Model;
 
@@ -83,6 +85,7 @@ impl ReplyRoom {
     {
         match body {
             ReplyBody::Piece(piece) => self.give_with_piece(sink, piece),
+            ReplyBody::Result(text) => self.give_with_result(sink, text),
             ReplyBody::Purges(reply) => self.give_with_purges(sink, reply),
         }
     }
@@ -96,6 +99,16 @@ impl ReplyRoom {
         }
         self.len = put(self.bytes.as_mut_slice(), self.len, piece);
         give_all(sink, self.bytes())
+    }
+
+    /// Gives what is there and then the text of a result, which is written through the buffer. Nothing is
+    /// there then.
+    fn give_with_result<K: Sink>(&mut self, sink: &mut K, text: &ResultText) -> Result<(), Failed>
+        ensures { Gave (K.at sink.old) (K.at sink.new) (self.old ++ text.now) result }
+    {
+        let at = self.len;
+        self.len = 0;
+        give_result(sink, self.bytes.as_mut_slice(), at, text)
     }
 
     /// Gives what is there and then a list of purges, which is written through the buffer. Nothing is

@@ -13,3 +13,5 @@ mod queries;
 mod replies;
 #[cfg(test)]
 mod requests;
+#[cfg(test)]
+mod results;

@@ -13,13 +13,13 @@ use std::sync::ledger::{Blank, Ledger};
 use std::test::Fail;
 
 /// The sizes of the pieces in which a sink takes what it is given.
-const SIZES: [usize; 4] = [1, 2, 7, WHOLE];
+pub(crate) const SIZES: [usize; 4] = [1, 2, 7, WHOLE];
 
 /// A size in which it takes all at once.
-const WHOLE: usize = 1_000_000;
+pub(crate) const WHOLE: usize = 1_000_000;
 
 /// A call that is never made.
-const NEVER: u64 = 1_000_000;
+pub(crate) const NEVER: u64 = 1_000_000;
 
 /// The head of the reply with two keys.
 const TWO_HEAD: &[u8] =
@@ -122,12 +122,12 @@ fn sink_of<L: Ledger>(
 {
     let calls = vec![in alloc; failing]?;
     let sizes = vec![in alloc; size]?;
-    let sink = ListSink::<L>::new(alloc, 20_000, Script::of(calls, sizes), blank)?;
+    let sink = ListSink::<L>::new(alloc, 100_000, Script::of(calls, sizes), blank)?;
     Ok(Box::new(alloc, sink)?)
 }
 
 /// What a sink is given of a reply. It takes pieces of this size, and fails at this call.
-fn reply_given(
+pub(crate) fn reply_given(
     alloc: Global,
     told: &Told,
     shape: Shape,
@@ -157,7 +157,7 @@ fn reply_counted<L: Ledger>(
 }
 
 /// What a sink is given of the body alone.
-fn body_given(alloc: Global, told: &Told) -> Result<Vec<u8>, Memory> {
+pub(crate) fn body_given(alloc: Global, told: &Told) -> Result<Vec<u8>, Memory> {
     body_counted::<Brand>(alloc, told, Blank::new(1))
 }
 

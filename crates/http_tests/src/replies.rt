@@ -8,6 +8,7 @@ use http_message::FramingRefusal;
 use hub_model::{Answer, Found, Matched, Outcome, Stats, Written};
 use q_base::{Commit, Memory, Moment, SharedText, Text};
 use q_outside::EndlessSink;
+use result_kinds::ResultText;
 use std::alloc::Global;
 use std::process::Abort;
 use std::test::Fail;
@@ -253,7 +254,7 @@ fn document(alloc: Global) -> Result<Box<Told>, Memory> {
         clock: Moment::of(100),
         ttl: 3600,
         result: Outcome::Whole {
-            text,
+            text: ResultText::of_document(text),
             version: Some(1),
         },
     });

@@ -16,7 +16,7 @@ use commit_book::Book;
 use commit_book::laws::collections_have_the_documents_of_their_records;
 use hub_model::laws::{query_results_are_told_by_versions, the_greatest_same_result_is_told};
 use hub_model::{Outcome, Tags};
-use q_base::{Commit, Memory, Name, SharedText};
+use q_base::{Commit, Memory, Name};
 use query_core::{Docs, Kind, Query, Row, Rows, window};
 use result_kinds::{PrintedRow, ResultText, ids_of, same_result};
 use std::alloc::Global;
@@ -195,7 +195,7 @@ fn has_after(commits: &[Commit], from: Commit, to: Commit) -> bool
     commits.iter().any(|commit| from < *commit && *commit <= to)
 }
 
-/// The text of the result with these rows, written once.
+/// The text of the result with these rows. It is not written here, and shares the documents of the book.
 fn text_of(
     alloc: Global,
     book: &Book,
@@ -203,20 +203,17 @@ fn text_of(
     collection: &Name,
     kind: Kind,
     rows: &[Row],
-) -> Result<SharedText, Memory>
+) -> Result<ResultText, Memory>
     requires within { commit ≤ length book.now.journal }
     requires kept { AreKept book.now.journal commit collection.now rows.now }
     ensures { IfOk result (λ text. text ≡ text_of_result (result_of kind rows.now)) }
 {
-    let text = match kind {
+    match kind {
         Kind::Objects => {
-            ResultText::of_objects(kept_rows(alloc, book, commit, collection, rows)?)?
+            ResultText::of_objects(kept_rows(alloc, book, commit, collection, rows)?)
         }
-        Kind::Ids => ResultText::of_ids(ids_of(alloc, rows)?)?,
-    };
-    let mut buffer = Vec::with_capacity(alloc, text.len())?;
-    text.write_into(&mut buffer)?;
-    Ok(SharedText::of(alloc, buffer)?)
+        Kind::Ids => ResultText::of_ids(ids_of(alloc, rows)?),
+    }
 }
 
 /// The rows with their printed documents, which the book keeps.

@@ -33,6 +33,7 @@ use hub_model::{Outcome, Tags};
 use q_base::{Commit, Memory, Moment, Name};
 use query_core::{Kind, Query, Row};
 use query_normal::{Key, KeyShape};
+use result_kinds::ResultText;
 use std::alloc::Global;
 use ttl_estimator::Estimator;
 
@@ -169,7 +170,7 @@ pub fn record_outcome(
             version: Some(version),
         }),
         None => Ok(Outcome::Whole {
-            text: text.clone()?,
+            text: ResultText::of_document(text.clone()?),
             version: Some(version),
         }),
     }

@@ -1,8 +1,9 @@
 //! The entries of a history, and the replies to them.
 use crate::commits::Commits;
 use commit_book::Change;
-use q_base::{Commit, Moment, SharedText};
+use q_base::{Commit, Moment};
 use query_normal::Key;
+use result_kinds::ResultText;
 
 /// What a write asks of the record that it changes (RFC 9110, section 13.1).
 #[derive(Debug, Drop)]
@@ -101,7 +102,7 @@ pub enum Written {
 pub enum Outcome {
     /// The text of the result, and the version of a record's document.
     Whole {
-        text: SharedText,
+        text: ResultText,
         version: Option<Commit>,
     },
     /// The caller knows the result, as that of this commit, which its tags name. The version is that of

@@ -7,7 +7,7 @@ ghost use Rattle.hub_core.specs.PageRoom.{IsRoomFor};
 use flat_snapshot::{set_bit, write_head};
 use hub_core::{Config, Hub, PageRoom};
 use hub_model::{Change, Commits, Condition, Found, Outcome, Tags, Written};
-use q_base::{Moment, Name};
+use q_base::{Memory, Moment, Name};
 use q_doc::Doc;
 use query_core::{Filter, Form, Kind, Order, Query};
 use query_normal::{Key, normal};
@@ -140,7 +140,8 @@ fn is_right(alloc: Global, hub: &mut Hub, room: &mut PageRoom, step: HubCall) ->
                 &key(alloc)?,
                 &Tags::Listed(Commits::new(alloc)),
             )?;
-            Ok(answer.commit == commit && answer.ttl == ttl && is_text(&answer.result, text))
+            let is_same = answer.commit == commit && answer.ttl == ttl;
+            Ok(is_same && is_text(alloc, &answer.result, text)?)
         }
         HubCall::Match(moment, to) => {
             if to <= hub.front() || hub.commits() < to {
@@ -176,11 +177,11 @@ fn change_to(alloc: Global, text: &[u8]) -> Result<Change, Fail> {
     })
 }
 
-/// Whether the outcome is a document of this text.
-fn is_text(outcome: &Outcome, text: &[u8]) -> bool {
+/// Whether the outcome is a result of this text.
+fn is_text(alloc: Global, outcome: &Outcome, text: &[u8]) -> Result<bool, Memory> {
     match outcome {
-        Outcome::Whole { text: found, .. } => found.as_slice() == text,
-        Outcome::Same { .. } | Outcome::Absent => false,
+        Outcome::Whole { text: found, .. } => Ok(found.to_shared(alloc)?.as_slice() == text),
+        Outcome::Same { .. } | Outcome::Absent => Ok(false),
     }
 }
 
@@ -486,7 +487,7 @@ fn is_queried(alloc: Global, hub: &mut Hub, kind: Kind, text: &[u8]) -> Result<b
         Outcome::Same { tag, version: None } => tag == first.commit,
         _ => false,
     };
-    Ok(first.ttl > 0 && is_text(&first.result, text) && is_known)
+    Ok(first.ttl > 0 && is_text(alloc, &first.result, text)? && is_known)
 }
 
 #[test]
@@ -510,7 +511,7 @@ fn put(alloc: Global, hub: &mut Hub, digit: u8, text: &[u8]) -> Result<(), Fail>
 /// Reads a key at 100; whether the result has this text.
 fn reads(alloc: Global, hub: &mut Hub, key: &Key, text: &[u8]) -> Result<bool, Fail> {
     let answer = hub.read(Moment::of(100), key, &Tags::Listed(Commits::new(alloc)))?;
-    Ok(is_text(&answer.result, text))
+    Ok(is_text(alloc, &answer.result, text)?)
 }
 
 /// Whether a key whose result is read is in the record after the match of a further put.

@@ -23,7 +23,8 @@ use std::alloc::Global;
 pub struct Room {
     pub(crate) requests: RequestRoom,
     pub(crate) routes: Routes,
-    pub(crate) documents: ReadBuffer,
+    /// It has 16 KB in place, so it is boxed: rooms are moved from and to the stacks of threads.
+    pub(crate) documents: Box<ReadBuffer>,
     pub(crate) reply: ReplyRoom,
     /// The buffer for the pages that are fetched.
     pub pages: PageRoom,
@@ -42,7 +43,7 @@ impl Room {
         Ok(Room {
             requests: RequestRoom::new(alloc)?,
             routes: Routes::new(alloc)?,
-            documents: ReadBuffer::new(alloc),
+            documents: Box::new(alloc, ReadBuffer::new(alloc))?,
             reply: ReplyRoom::new(alloc)?,
             pages: PageRoom::new(alloc, config)?,
             log2_bits: config.log2_bits(),
@@ -83,7 +84,7 @@ pub fn serve_connection<D: Desk, S: Source, K: Sink, C: Clock>(
         desk,
         clock,
         routes: &room.routes,
-        documents: &mut room.documents,
+        documents: &mut *room.documents,
         reply: &mut room.reply,
         pages: &mut room.pages,
     };

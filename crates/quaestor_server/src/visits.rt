@@ -93,7 +93,7 @@ fn serve_visit<D: Desk, S: Source, K: Sink, C: Clock>(
         desk,
         clock,
         routes: &room.routes,
-        documents: &mut room.documents,
+        documents: &mut *room.documents,
         reply: &mut room.reply,
         pages: &mut room.pages,
     };

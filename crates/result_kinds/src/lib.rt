@@ -9,4 +9,4 @@ mod texts;
 
 pub use rows::{PrintedRow, ids_of, printed_rows};
 pub use same::same_result;
-pub use texts::{ResultText, result_text};
+pub use texts::{ResultText, Shown, result_text};

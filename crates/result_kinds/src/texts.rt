@@ -1,27 +1,32 @@
 //! The text of the result of a query.
-ghost use Rattle.std.specs.Prelude.{◌≡◌, ◌+◌, ◌^◌, ◌<◌, ◌≤◌, ◌++◌, length, min, vec_len, vec_capacity, IsOk, IfOk, OnOk, OnErr, ◌-◌, codes};
+ghost use Rattle.std.specs.Prelude.{◌≡◌, ◌+◌, ◌^◌, ◌<◌, ◌≤◌, ◌++◌, length, min, vec_len, vec_capacity, IsOk, IfOk, IfSome, OnOk, OnErr, ◌-◌, codes};
 ghost use Rattle.std.specs.List.{join_by};
 ghost use Rattle.result_kinds.specs.Results.{object_text, id_text, objects_text, ids_text, result_of, text_of_result};
 ghost use Rattle.result_kinds.specs.Shown.{shown_text};
 
 use crate::append::append;
 use crate::rows::{PrintedRow, append_id, id_len, ids_of, printed_rows};
-use q_base::{Memory, Name, Text};
+use q_base::{Memory, Name, SharedText, Text};
 use query_core::{Kind, Rows};
 use std::alloc::Global;
 use std::marker::Model;
 
-/// The greatest length of a buffer, in bytes.
+/// The greatest length of the text of a list, in bytes.
 const LONGEST: usize = 9_223_372_036_854_775_807;
 
 /// What a text shows.
 #[derive(Debug, Drop)]
-enum Shown {
+pub enum Shown {
+    /// A printed document, as it is.
+    Document(SharedText),
+    /// The objects of these rows, in brackets and with commas between them.
     Objects(Vec<PrintedRow>),
+    /// These ids in quotes, in brackets and with commas between them.
     Ids(Vec<Name>),
 }
 
-/// The text of a result that is not yet written: what it shows, and its length. Contracts see the bytes.
+/// The text of a result that is not yet written: what it shows, and its length. The documents in it are
+/// shared with whoever keeps them. Contracts see the bytes.
 #[derive(Debug, Drop)]
 pub struct ResultText {
     shown: Shown,
@@ -29,17 +34,29 @@ pub struct ResultText {
 }
 
 impl Model for ResultText {
-    ghost use Rattle.std.specs.Prelude.{◌≡◌, ◌<◌, ◌^◌, ℕ, List, length};
+    ghost use Rattle.std.specs.Prelude.{◌≡◌, ℕ, List, length};
     ghost use Rattle.result_kinds.specs.Shown.{shown_text};
 
     ghost Value = { List ℕ };
 
     ghost view = { λ t. shown_text t.shown };
 
-    ghost invariant = { λ t. (t.len ≡ length (shown_text t.shown)) × (t.len < 2 ^ 63) };
+    ghost invariant = { λ t. t.len ≡ length (shown_text t.shown) };
 }
 
 impl ResultText {
+    /// The text of a document, which is the document. It allocates nothing.
+    #[inline(always)]
+    pub fn of_document(text: SharedText) -> ResultText
+        ensures { result ≡ text }
+    {
+        let len = text.as_slice().len();
+        ResultText {
+            shown: Shown::Document(text),
+            len,
+        }
+    }
+
     /// The text of a result of kind objects. It allocates nothing: `Memory` is answered only where no
     /// buffer could hold the text.
     pub fn of_objects(rows: Vec<PrintedRow>) -> Result<ResultText, Memory>
@@ -72,10 +89,39 @@ impl ResultText {
 
     /// The number of bytes. It is known before they are written.
     pub fn len(&self) -> usize
-        ensures len { result ≡ length self.now }
-        ensures fits { result < 2 ^ 63 }
+        ensures { result ≡ length self.now }
     {
         self.len
+    }
+
+    /// What it shows.
+    pub fn shown(&self) -> &Shown
+        ensures { shown_text result.now ≡ self.now }
+    {
+        &self.shown
+    }
+
+    /// The bytes, where they are those of a document.
+    #[inline(always)]
+    pub fn as_document(&self) -> Option<&[u8]>
+        ensures { IfSome result (λ bytes. bytes.now ≡ self.now) }
+    {
+        match &self.shown {
+            Shown::Document(text) => Some(text.as_slice()),
+            _ => None,
+        }
+    }
+
+    /// The text written: that of a document is shared, another is written into a buffer of its own.
+    pub fn to_shared(&self, alloc: Global) -> Result<SharedText, Memory>
+        ensures { IfOk result (λ text. text ≡ self.now) }
+    {
+        if let Shown::Document(text) = &self.shown {
+            return Ok(text.clone()?);
+        }
+        let mut buffer = Vec::with_capacity(alloc, self.len)?;
+        self.write_into(&mut buffer)?;
+        Ok(SharedText::of(alloc, buffer)?)
     }
 
     /// Writes the text at the end of a buffer. Memory is taken once, and none where the buffer has room.
@@ -96,6 +142,7 @@ impl Shown {
         ensures { result ≡ min (length (shown_text self.now)) (2 ^ 64 - 1) }
     {
         match self {
+            Shown::Document(text) => text.as_slice().len(),
             Shown::Objects(rows) => objects_len(rows),
             Shown::Ids(ids) => ids_len(ids),
         }
@@ -107,6 +154,7 @@ impl Shown {
         ensures { buffer.new.items ≡ buffer.old.items ++ shown_text self.now }
     {
         match self {
+            Shown::Document(text) => append(buffer, text.as_slice()),
             Shown::Objects(rows) => append_objects(buffer, rows),
             Shown::Ids(ids) => append_ids(buffer, ids),
         }

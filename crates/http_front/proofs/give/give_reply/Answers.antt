@@ -9,7 +9,7 @@ returns g c =
     let shape = c.args.shape in
     let told = c.args.told.now in
     let body = c.body_of-body in
-    let head = head_is_of shape told c.args.page.now c.args.close body.result c.len.result c.of-head.result body.ensures.text body.ensures.piece c.len.ensures.len c.len.ensures.fits c.of-head.ensures in
+    let head = head_is_of shape told c.args.page.now c.args.close body.result c.len.result c.of-head.result body.ensures.text body.ensures.counted c.len.ensures.len c.len.ensures.fits c.of-head.ensures in
     record {
       reply =
           reply_given _ _ shape told c.args.page.now c.args.close c.clock.result c.of-head.result c.write_head.new.self (body_text c.given.result) c.give_with.result
