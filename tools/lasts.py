@@ -68,6 +68,11 @@ class Server:
         it.connect(("127.0.0.1", self.port))
         return it
 
+    def resident(self):
+        """The memory that it has now, in KB."""
+        with open(f"/proc/{self.process.pid}/status") as it:
+            return int(re.search(r"VmRSS:\s+(\d+)", it.read())[1])
+
     def tell(self, which=signal.SIGTERM):
         self.process.send_signal(which)
 
@@ -283,6 +288,24 @@ def a_reader_of_nothing_is_cut_off():
 
 
 @test
+def readers_of_nothing_share_a_large_result():
+    with Server("--reply-time", "60", "--idle", "30") as it:
+        request = fill(it, 1000)
+        with it.client(timeout=30) as client:
+            client.sendall(request)
+            wants(len(reply(client)) > 60_000_000, "the result was not given")
+        before = it.resident()
+        readers = [it.client(receive_buffer=4096) for _ in range(10)]
+        for client in readers:
+            client.sendall(request)
+        time.sleep(2)
+        more = it.resident() - before
+        for client in readers:
+            client.close()
+        wants(more < 20_000, f"ten readers of a result of 60 MB take {more} KB")
+
+
+@test
 def a_slow_reader_above_the_least_rate_gets_all():
     with Server("--reply-time", "2", "--least-rate", "1000", "--idle", "30") as it:
         request = fill(it, 120)
@@ -327,7 +350,9 @@ def a_request_in_hand_is_answered_before_the_end():
         except ConnectionRefusedError:
             pass
         client.sendall(GET[20:])
-        wants(is_whole(reply(client)), "it was not answered")
+        came = reply(client)
+        wants(is_whole(came), "it was not answered")
+        wants(b"\r\nConnection: close\r\n" in came, "it was not told that the connection ends")
         wants(it.ends(5) == "served 1\n", "it said something else")
 
 

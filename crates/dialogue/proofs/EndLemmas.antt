@@ -1,5 +1,5 @@
 -- The bytes of a connection as its items, and the end that these determine.
-use Rattle.std.proofs.Common.{◌≡◌, ◌⊎◌, ℕ, suc, ◌+◌, ◌<◌, ◌≤◌, ◌++◌, Bool, true, false, not, ◌&&◌, List, [], ◌∷◌, length, Option, Some, None, All, refl, sym, ap, ◌∙◌, subst, inl, inr, arith, append-nil, append_assoc, length-append, nat_eq}
+use Rattle.std.proofs.Common.{◌≡◌, ◌⊎◌, ℕ, suc, ◌+◌, ◌<◌, ◌≤◌, ◌++◌, Bool, true, false, not, ◌&&◌, ◌||◌, List, [], ◌∷◌, length, Option, Some, None, All, refl, sym, ap, ◌∙◌, subst, inl, inr, arith, append-nil, append_assoc, length-append, nat_eq}
 use Rattle.std.proofs.lemmas.List.Elements.{All-nil, All-cons}
 use Rattle.std.proofs.lemmas.Bool.{cases_Bool, eqb-true, eq-eqb}
 use Rattle.http_message.specs.Item.{Item, request, unframed, IsItem, IsOpen, closes}
@@ -10,10 +10,10 @@ use Rattle.http_message.specs.Text.{is_blank}
 use Rattle.q_outside.specs.Ends.{Takes, IsEnded, GaveBytes}
 use Rattle.q_outside.specs.declared.served.Served.{Served}
 use Rattle.q_outside.specs.declared.served.Why.{Why}
-use Rattle.q_outside.specs.declared.served.Why.TheVariants.{InputEnd, Truncated, BadFraming, CloseAsked, RequestLimit, ReadFault, WriteFault}
+use Rattle.q_outside.specs.declared.served.Why.TheVariants.{InputEnd, Truncated, BadFraming, CloseAsked, RequestLimit, Stopped, ReadFault, WriteFault}
 use Rattle.dialogue.specs.Dialogue.{Sides, Exchange, Progress, Passed, EndsIncomplete, IsClosed, Ends, pieces, texts, none_closes, request_limit, end_by}
 use Rattle.dialogue.specs.EndLaw.{IsWhole, IsDetermined, ExpectsAt, last_end, end_of}
-use Rattle.dialogue.proofs.ItemLemmas.{AreItems, items_head, items_tail, some_by, open_by}
+use Rattle.dialogue.proofs.ItemLemmas.{AreItems, AreHidden, items_head, items_tail, last_stays, some_by, open_by, end_is}
 
 -- the items of exchanges
 abbrev pieces_of : List Exchange → List Piece
@@ -35,22 +35,23 @@ each_is : (xs : List Exchange) → AreItems xs → All (λ (piece : Piece). IsIt
 each_is [] all = All-nil (λ (piece : Piece). IsItem piece.bytes piece.item)
 each_is (x ∷ xs) all = All-cons (λ (piece : Piece). IsItem piece.bytes piece.item) (record { bytes = x.piece; item = x.item }) (pieces_of xs) (items_head x xs all) (each_is xs (items_tail x xs all))
 
--- what does not not close does not close
-opened : (b : Bool) (c : Bool) → (not b && c) ≡ true → (b ≡ false) × (c ≡ true)
-opened true c h = absurd (cc)
-opened false c h = (refl, h)
+-- what ends nothing does not close
+opened : (b s : Bool) (c : Bool) → (not (b || s) && c) ≡ true → (b ≡ false) × (c ≡ true)
+opened true s c h = absurd (cc)
+opened false true c h = absurd (cc)
+opened false false c h = (refl, h)
 
 -- where none closes, the last doesn't
 none_last : (xs : List Exchange) → none_closes xs ≡ true → last_closes (pieces_of xs) ≡ false
 none_last [] h = refl
-none_last (x ∷ []) h = (opened (closes x.item) true h).0
-none_last (x ∷ y ∷ ys) h = none_last (y ∷ ys) (opened (closes x.item) (none_closes (y ∷ ys)) h).1
+none_last (x ∷ []) h = (opened (closes x.item) x.stops true h).0
+none_last (x ∷ y ∷ ys) h = none_last (y ∷ ys) (opened (closes x.item) x.stops (none_closes (y ∷ ys)) h).1
 
 -- where none closes, none but the last does
 none_going : (xs : List Exchange) → none_closes xs ≡ true → OnlyLastCloses (pieces_of xs)
 none_going [] h = tt
 none_going (x ∷ []) h = tt
-none_going (x ∷ y ∷ ys) h = let p = opened (closes x.item) (none_closes (y ∷ ys)) h in (p.0, none_going (y ∷ ys) p.1)
+none_going (x ∷ y ∷ ys) h = let p = opened (closes x.item) x.stops (none_closes (y ∷ ys)) h in (p.0, none_going (y ∷ ys) p.1)
 
 -- where one that closes follows those that do not, it is the last
 closing_last : (xs : List Exchange) (x : Exchange) → closes x.item ≡ true → last_closes (pieces_of (xs ++ x ∷ [])) ≡ true
@@ -60,25 +61,25 @@ closing_last (y ∷ z ∷ zs) x h = closing_last (z ∷ zs) x h
 
 closing_going : (xs : List Exchange) (x : Exchange) → none_closes xs ≡ true → OnlyLastCloses (pieces_of (xs ++ x ∷ []))
 closing_going [] x h = tt
-closing_going (y ∷ []) x h = ((opened (closes y.item) true h).0, tt)
-closing_going (y ∷ z ∷ zs) x h = let p = opened (closes y.item) (none_closes (z ∷ zs)) h in (p.0, closing_going (z ∷ zs) x p.1)
+closing_going (y ∷ []) x h = ((opened (closes y.item) y.stops true h).0, tt)
+closing_going (y ∷ z ∷ zs) x h = let p = opened (closes y.item) y.stops (none_closes (z ∷ zs)) h in (p.0, closing_going (z ∷ zs) x p.1)
 
 -- where none closes, the last does not end the connection
 none_end : (offset : ℕ) (xs : List Exchange) → none_closes xs ≡ true → last_end offset (pieces_of xs) ≡ None
 none_end offset [] h = refl
-none_end offset (x ∷ []) h = open_by offset x.item (opened (closes x.item) true h).0
-none_end offset (x ∷ y ∷ ys) h = none_end (offset + length x.piece) (y ∷ ys) (opened (closes x.item) (none_closes (y ∷ ys)) h).1
+none_end offset (x ∷ []) h = open_by offset x.item (opened (closes x.item) x.stops true h).0
+none_end offset (x ∷ y ∷ ys) h = none_end (offset + length x.piece) (y ∷ ys) (opened (closes x.item) x.stops (none_closes (y ∷ ys)) h).1
 
 -- the last one ends the connection by its offset
-closing_end : (offset : ℕ) (xs : List Exchange) (x : Exchange) → last_end offset (pieces_of (xs ++ x ∷ [])) ≡ end_by (offset + length (pieces xs)) x.item
-closing_end offset [] x = ap (λ n. end_by n x.item) (let same : offset ≡ offset + 0 = omega arith in same)
+closing_end : (offset : ℕ) (xs : List Exchange) (x : Exchange) → last_end offset (pieces_of (xs ++ x ∷ [])) ≡ end_by (offset + length (pieces xs)) x.item false
+closing_end offset [] x = ap (λ n. end_by n x.item false) (let same : offset ≡ offset + 0 = omega arith in same)
 closing_end offset (y ∷ []) x =
     let size : length (y.piece ++ []) ≡ length y.piece = ap (λ (l : List ℕ). length l) (append-nil y.piece) in
-    ap (λ n. end_by n x.item) (let same : offset + length y.piece ≡ offset + length (y.piece ++ []) = omega (arith, size) in same)
+    ap (λ n. end_by n x.item false) (let same : offset + length y.piece ≡ offset + length (y.piece ++ []) = omega (arith, size) in same)
 closing_end offset (y ∷ z ∷ zs) x =
-    let rest : last_end (offset + length y.piece) (pieces_of ((z ∷ zs) ++ x ∷ [])) ≡ end_by (offset + length y.piece + length (pieces (z ∷ zs))) x.item = closing_end (offset + length y.piece) (z ∷ zs) x in
+    let rest : last_end (offset + length y.piece) (pieces_of ((z ∷ zs) ++ x ∷ [])) ≡ end_by (offset + length y.piece + length (pieces (z ∷ zs))) x.item false = closing_end (offset + length y.piece) (z ∷ zs) x in
     let size : length (y.piece ++ pieces (z ∷ zs)) ≡ length y.piece + length (pieces (z ∷ zs)) = length-append y.piece (pieces (z ∷ zs)) in
-    rest ∙ ap (λ n. end_by n x.item) (let same : offset + length y.piece + length (pieces (z ∷ zs)) ≡ offset + length (y.piece ++ pieces (z ∷ zs)) = omega (arith, size) in same)
+    rest ∙ ap (λ n. end_by n x.item false) (let same : offset + length y.piece + length (pieces (z ∷ zs)) ≡ offset + length (y.piece ++ pieces (z ∷ zs)) = omega (arith, size) in same)
 
 -- an end is the one whose tests say so
 by_closing : (ps : List Piece) (rest : List ℕ) (why : Why) → last_end 0 ps ≡ Some why → end_of ps rest ≡ why
@@ -163,10 +164,13 @@ module _ (bytes : List ℕ) (a b : Sides) (xs : List Exchange) (rest : List ℕ)
   closed_determined : (requests : ℕ) (why : Why) → length xs ≡ requests → IsClosed a b xs why → ((l : List ℕ) → ExpectsAt why l false) → Determines (record { requests = requests; why = why })
   closed_determined requests why count c call =
       let are : pieces_of xs ≡ pieces_of (c.others ++ c.last ∷ []) = ap pieces_of c.are in
-      let closing : closes c.last.item ≡ true = some_by (length (pieces c.others)) c.last.item why c.closing in
+      let hidden : AreHidden a.source.bytes (c.others ++ c.last ∷ []) = subst (λ (l : List Exchange). AreHidden a.source.bytes l) c.are p.hidden in
+      let stays : c.last.stops ≡ false = last_stays bytes a.source.bytes c.others c.last shown hidden in
+      let ended : end_by (length (pieces c.others)) c.last.item false ≡ Some why = subst (λ (v : Bool). end_by (length (pieces c.others)) c.last.item v ≡ Some why) stays c.closing in
+      let closing : closes c.last.item ≡ true = some_by (length (pieces c.others)) c.last.item why ended in
       let last : last_closes (pieces_of xs) ≡ true = ap last_closes are ∙ closing_last c.others c.last closing in
       let zero_first : 0 + length (pieces c.others) ≡ length (pieces c.others) = omega arith in
-      let end : last_end 0 (pieces_of xs) ≡ Some why = ap (last_end 0) are ∙ closing_end 0 c.others c.last ∙ ap (λ n. end_by n c.last.item) zero_first ∙ c.closing in
+      let end : last_end 0 (pieces_of xs) ≡ Some why = ap (last_end 0) are ∙ closing_end 0 c.others c.last ∙ ap (λ n. end_by n c.last.item false) zero_first ∙ ended in
       let size : length xs ≡ length c.others + 1 = ap (λ (l : List Exchange). length l) c.are ∙ length-append c.others (c.last ∷ []) in (
         false,
         record {
@@ -179,6 +183,17 @@ module _ (bytes : List ℕ) (a b : Sides) (xs : List Exchange) (rest : List ℕ)
         },
         no_expectation c.given,
       )
+
+  -- a source that shows its bytes is not stopped
+  never_stopped : IsClosed a b xs Stopped → ⊥
+  never_stopped c =
+      let hidden : AreHidden a.source.bytes (c.others ++ c.last ∷ []) = subst (λ (l : List Exchange). AreHidden a.source.bytes l) c.are p.hidden in
+      let stays : c.last.stops ≡ false = last_stays bytes a.source.bytes c.others c.last shown hidden in
+      elim (end_is (length (pieces c.others)) c.last.item c.last.stops Stopped c.closing) [
+        | inl asked ↦ absurd (cc)
+        | inr (inl unframed_is) ↦ absurd (cc)
+        | inr (inr stopped) ↦ absurd (let told : c.last.stops ≡ true = stopped.1 in cc)
+      ]
 
   -- the split of a connection that ended, by its end
   determined_by : (requests : ℕ) (why : Why) → b.source.faults ≡ a.source.faults → b.sink.faults ≡ a.sink.faults → length xs ≡ requests → Ends why a b xs rest → Determines (record { requests = requests; why = why })
@@ -223,6 +238,7 @@ module _ (bytes : List ℕ) (a b : Sides) (xs : List Exchange) (rest : List ℕ)
         },
         no_expectation ends.given,
       )
+  determined_by requests Stopped fi fo count ends = absurd (never_stopped ends)
   determined_by requests ReadFault fi fo count ends = absurd (omega (arith, fi, ends.1))
   determined_by requests WriteFault fi fo count (inl broken) = absurd (omega (arith, fo, broken.fails.rises))
   determined_by requests WriteFault fi fo count (inr in_continue) = absurd (omega (arith, fo, in_continue.fails.rises))
@@ -239,6 +255,7 @@ one_expectation_at one Truncated rest expected other c d = (one rest expected ot
 one_expectation_at one (BadFraming offset) rest expected other c d = c ∙ sym d
 one_expectation_at one CloseAsked rest expected other c d = c ∙ sym d
 one_expectation_at one RequestLimit rest expected other c d = c ∙ sym d
+one_expectation_at one Stopped rest expected other c d = absurd c
 one_expectation_at one ReadFault rest expected other c d = absurd c
 one_expectation_at one WriteFault rest expected other c d = absurd c
 

@@ -1,5 +1,5 @@
 -- Items and their ends; lists of exchanges that grow by one.
-use Rattle.std.proofs.Common.{◌≡◌, ◌⊎◌, ℕ, suc, ◌+◌, ◌<◌, ◌++◌, Bool, true, false, not, ◌&&◌, List, [], ◌∷◌, length, map, All, Some, None, refl, sym, ap, ◌∙◌, subst, inl, inr, arith, append-nil, append_assoc, length-append}
+use Rattle.std.proofs.Common.{◌≡◌, ◌⊎◌, ℕ, suc, ◌+◌, ◌<◌, ◌++◌, Bool, true, false, not, ◌&&◌, ◌||◌, List, [], ◌∷◌, length, map, All, Option, Some, None, refl, sym, ap, ◌∙◌, subst, inl, inr, arith, append-nil, append_assoc, length-append}
 use Rattle.std.specs.List.{flat_map}
 use Rattle.std.specs.Option.{is_some}
 use Rattle.std.proofs.lemmas.Bool.{cases_Bool}
@@ -11,34 +11,40 @@ use Rattle.http_message.specs.Item.{Item, request, unframed, IsItem, closes}
 use Rattle.http_message.specs.Laws.{OneItemFirst}
 use Rattle.http_message.specs.Message.{asks_to_close}
 use Rattle.q_outside.specs.declared.served.Why.{Why}
-use Rattle.q_outside.specs.declared.served.Why.TheVariants.{BadFraming, CloseAsked}
-use Rattle.dialogue.specs.Dialogue.{Exchange, pieces, texts, text_of, none_closes, end_by}
+use Rattle.q_outside.specs.declared.served.Why.TheVariants.{BadFraming, CloseAsked, Stopped}
+use Rattle.dialogue.specs.Dialogue.{Exchange, pieces, texts, text_of, none_closes, end_by, is_ending}
 
--- an item ends the connection where it closes
-pub end-closes : (offset : ℕ) (item : Item) → is_some (end_by offset item) ≡ closes item
-end-closes offset (request m) = elim (cases_Bool (asks_to_close m)) [ inl asks ↦ rw asks refl | inr stays ↦ rw stays refl ]
-end-closes offset (unframed refused expected head) = refl
+-- an item ends the connection where it closes, or the server does
+pub end-closes : (offset : ℕ) (item : Item) (stops : Bool) → is_some (end_by offset item stops) ≡ (closes item || stops)
+end-closes offset (request m) true = elim (cases_Bool (asks_to_close m)) [ inl asks ↦ rw asks refl | inr stays ↦ rw stays refl ]
+end-closes offset (request m) false = elim (cases_Bool (asks_to_close m)) [ inl asks ↦ rw asks refl | inr stays ↦ rw stays refl ]
+end-closes offset (unframed refused expected head) stops = refl
 
--- one that does not end it does not close
-pub none_by : (offset : ℕ) (item : Item) → end_by offset item ≡ None → closes item ≡ false
-none_by offset item h = sym (end-closes offset item) ∙ ap is_some h
+-- what does not end it does neither
+pub none_by : (offset : ℕ) (x : Exchange) → end_by offset x.item x.stops ≡ None → is_ending x ≡ false
+none_by offset x h = sym (end-closes offset x.item x.stops) ∙ ap is_some h
 
--- one that ends it closes
-pub some_by : (offset : ℕ) (item : Item) (why : Why) → end_by offset item ≡ Some why → closes item ≡ true
-some_by offset item why h = sym (end-closes offset item) ∙ ap is_some h
+-- an item that ends it closes
+pub some_by : (offset : ℕ) (item : Item) (why : Why) → end_by offset item false ≡ Some why → closes item ≡ true
+some_by offset (request m) why h = elim (cases_Bool (asks_to_close m)) [ inl asks ↦ asks | inr stays ↦ absurd (let same : end_by offset (request m) false ≡ None = rw stays refl in cc) ]
+some_by offset (unframed refused expected head) why h = refl
 
 -- one that does not close does not end it
-pub open_by : (offset : ℕ) (item : Item) → closes item ≡ false → end_by offset item ≡ None
+pub open_by : (offset : ℕ) (item : Item) → closes item ≡ false → end_by offset item false ≡ None
 open_by offset (request m) h = rw h refl
 open_by offset (unframed refused expected head) h = absurd (cc)
 
--- it is asked for, or the item's end cannot be determined
-pub end_is : (offset : ℕ) (item : Item) (why : Why) → end_by offset item ≡ Some why → (why ≡ CloseAsked) ⊎ (why ≡ BadFraming offset)
-end_is offset (request m) why h = elim (cases_Bool (asks_to_close m)) [
-  | inl asks ↦ inl (let same : end_by offset (request m) ≡ Some CloseAsked = rw asks refl in let both : Some why ≡ Some CloseAsked = sym h ∙ same in cc)
-  | inr stays ↦ absurd (let same : end_by offset (request m) ≡ None = rw stays refl in cc)
+-- it is asked for, the item's end cannot be determined, or the server is ending
+pub end_is : (offset : ℕ) (item : Item) (stops : Bool) (why : Why) → end_by offset item stops ≡ Some why → (why ≡ CloseAsked) ⊎ ((why ≡ BadFraming offset) ⊎ ((why ≡ Stopped) × (stops ≡ true)))
+end_is offset (request m) true why h = elim (cases_Bool (asks_to_close m)) [
+  | inl asks ↦ inl (let same : end_by offset (request m) true ≡ Some CloseAsked = rw asks refl in let both : Some why ≡ Some CloseAsked = sym h ∙ same in cc)
+  | inr stays ↦ inr (inr (let same : end_by offset (request m) true ≡ Some Stopped = rw stays refl in let both : Some why ≡ Some Stopped = sym h ∙ same in cc, refl))
 ]
-end_is offset (unframed refused expected head) why h = inr (let both : Some why ≡ Some (BadFraming offset) = sym h in cc)
+end_is offset (request m) false why h = elim (cases_Bool (asks_to_close m)) [
+  | inl asks ↦ inl (let same : end_by offset (request m) false ≡ Some CloseAsked = rw asks refl in let both : Some why ≡ Some CloseAsked = sym h ∙ same in cc)
+  | inr stays ↦ absurd (let same : end_by offset (request m) false ≡ None = rw stays refl in cc)
+]
+end_is offset (unframed refused expected head) stops why h = inr (inl (let both : Some why ≡ Some (BadFraming offset) = sym h in cc))
 
 -- what the last exchange has comes last
 pub last_of : {A : Type 0} (f : Exchange → List A) (xs : List Exchange) (x : Exchange) → flat_map f (xs ++ x ∷ []) ≡ flat_map f xs ++ f x
@@ -59,10 +65,10 @@ text-more xs x = last_of text_of xs x
 pub piece-more : (xs : List Exchange) (x : Exchange) → pieces (xs ++ x ∷ []) ≡ pieces xs ++ x.piece
 piece-more xs x = last_of (λ y. y.piece) xs x
 
--- one item that doesn't close leaves none that does
-pub none-more : (xs : List Exchange) (x : Exchange) → none_closes xs ≡ true → closes x.item ≡ false → none_closes (xs ++ x ∷ []) ≡ true
+-- one exchange that doesn't end the connection leaves none that does
+pub none-more : (xs : List Exchange) (x : Exchange) → none_closes xs ≡ true → is_ending x ≡ false → none_closes (xs ++ x ∷ []) ≡ true
 none-more xs x none opens =
-    let both : none_closes (xs ++ x ∷ []) ≡ (none_closes xs && none_closes (x ∷ [])) = list_all-append (λ y. not (closes y.item)) xs (x ∷ []) in
+    let both : none_closes (xs ++ x ∷ []) ≡ (none_closes xs && none_closes (x ∷ [])) = list_all-append (λ y. not (is_ending y)) xs (x ∷ []) in
     both ∙ (rw (none, opens) refl)
 
 -- each of a list's items is one
@@ -75,6 +81,17 @@ items_head x xs p = All-head (λ (y : Exchange). IsItem y.piece y.item) x xs p
 
 pub items_tail : (x : Exchange) (xs : List Exchange) → AreItems (x ∷ xs) → AreItems xs
 items_tail x xs p = All-tail (λ (y : Exchange). IsItem y.piece y.item) x xs p
+
+-- only a source that shows no bytes ends the connection behind these
+abbrev pub AreHidden : Option (List ℕ) → List Exchange → Type 0
+AreHidden shown xs = All (λ (x : Exchange). x.stops ≡ true → shown ≡ None) xs
+
+-- behind one that shows its bytes the last does not
+pub last_stays : (bytes : List ℕ) (shown : Option (List ℕ)) (xs : List Exchange) (x : Exchange) → shown ≡ Some bytes → AreHidden shown (xs ++ x ∷ []) → x.stops ≡ false
+last_stays bytes shown [] x is h =
+    let none : x.stops ≡ true → shown ≡ None = All-head (λ (y : Exchange). y.stops ≡ true → shown ≡ None) x [] h in
+    elim (cases_Bool x.stops) [ inl stops ↦ absurd (let e : shown ≡ None = none stops in cc) | inr stays ↦ stays ]
+last_stays bytes shown (y ∷ ys) x is h = last_stays bytes shown ys x is (All-tail (λ (z : Exchange). z.stops ≡ true → shown ≡ None) y (ys ++ x ∷ []) h)
 
 -- what two lists of exchanges share
 pub record Shared (xs ys : List Exchange) (rest left : List ℕ) : Type 0 where

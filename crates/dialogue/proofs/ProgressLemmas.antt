@@ -1,16 +1,16 @@
 -- Round by round, what passed through a connection.
-use Rattle.std.proofs.Common.{◌≡◌, ◌⊎◌, ℕ, ◌+◌, ◌<◌, ◌≤◌, ◌++◌, Bool, true, false, List, [], ◌∷◌, length, take, Some, None, refl, sym, ap, ◌∙◌, subst, inl, inr, arith, append_assoc, length-append}
+use Rattle.std.proofs.Common.{◌≡◌, ◌⊎◌, ℕ, ◌+◌, ◌<◌, ◌≤◌, ◌++◌, Bool, true, false, List, [], ◌∷◌, length, take, Option, Some, None, refl, sym, ap, ◌∙◌, subst, inl, inr, arith, append_assoc, length-append}
 use Rattle.std.proofs.lemmas.List.Elements.{All-nil, All-cons, All-append}
 use Rattle.http_message.specs.Item.{Item, IsItem, continues}
 use Rattle.http_message.specs.Taken.{RequestState, IsIncomplete, continue_where, continue_text}
-use Rattle.q_outside.specs.Ends.{End, Gives, TookBytes, GaveBytes, GavePart}
+use Rattle.q_outside.specs.Ends.{End, Takes, Gives, TookBytes, GaveBytes, GavePart}
 use Rattle.q_outside.specs.declared.served.Why.{Why}
-use Rattle.q_outside.specs.declared.served.Why.TheVariants.{InputEnd, Truncated, BadFraming, CloseAsked, RequestLimit, ReadFault, WriteFault}
+use Rattle.q_outside.specs.declared.served.Why.TheVariants.{InputEnd, Truncated, BadFraming, CloseAsked, RequestLimit, Stopped, ReadFault, WriteFault}
 use Rattle.q_outside.proofs.Chain.{Gives-append, took_both, gave_both}
 use Rattle.dialogue.specs.Dialogue.{Sides, Exchange, Progress, GoesOn, FailsInside, EndsIncomplete, IsClosed, Ends, end_by, pieces, texts, text_of, request_limit}
 use Rattle.dialogue.specs.Round.{IsRoundOf, HasNoItem}
 use Rattle.dialogue.specs.Visit.{Talked, PassedBy}
-use Rattle.dialogue.proofs.ItemLemmas.{AreItems, length-more, text-more, piece-more, none-more, none_by, end_is}
+use Rattle.dialogue.proofs.ItemLemmas.{AreItems, AreHidden, length-more, text-more, piece-more, none-more, none_by, end_is}
 
 -- a text was given, and then the sink failed inside another
 breaks_behind : (first middle last : End) (text more broken : List ℕ) → GaveBytes first middle text → FailsInside middle last more broken → FailsInside first last (text ++ more) broken
@@ -38,11 +38,23 @@ items-more xs x all is =
     let P : Exchange → Type 0 = λ (y : Exchange). IsItem y.piece y.item in
     All-append P xs (x ∷ []) all (All-cons P x [] is (All-nil P))
 
--- the ends that an item makes
+-- a source that shows no bytes at last showed none at first
+hidden_before : (before after : Option (List ℕ)) (taken : List ℕ) → Takes before after taken → after ≡ None → before ≡ None
+hidden_before None after taken t is = refl
+hidden_before (Some left) after taken t is = absurd (let shown : after ≡ Some t.0 = t.1 in cc)
+
+-- one more that only a source without bytes ends
+hidden-more : (shown : Option (List ℕ)) (xs : List Exchange) (x : Exchange) → AreHidden shown xs → (x.stops ≡ true → shown ≡ None) → AreHidden shown (xs ++ x ∷ [])
+hidden-more shown xs x all is =
+    let P : Exchange → Type 0 = λ (y : Exchange). y.stops ≡ true → shown ≡ None in
+    All-append P xs (x ∷ []) all (All-cons P x [] is (All-nil P))
+
+-- the ends that an item makes, or the server behind it
 ends_closed : (a b : Sides) (xs : List Exchange) (rest : List ℕ) (why : Why) → IsClosed a b xs why → Ends why a b xs rest
-ends_closed a b xs rest why c = elim (end_is (length (pieces c.others)) c.last.item why c.closing) [
+ends_closed a b xs rest why c = elim (end_is (length (pieces c.others)) c.last.item c.last.stops why c.closing) [
   | inl asked ↦ subst (λ (y : Why). Ends y a b xs rest) (sym asked) (subst (λ (y : Why). IsClosed a b xs y) asked c)
-  | inr unframed_is ↦ subst (λ (y : Why). Ends y a b xs rest) (sym unframed_is) (subst (λ (y : Why). IsClosed a b xs y) unframed_is c)
+  | inr (inl unframed_is) ↦ subst (λ (y : Why). Ends y a b xs rest) (sym unframed_is) (subst (λ (y : Why). IsClosed a b xs y) unframed_is c)
+  | inr (inr stopped) ↦ subst (λ (y : Why). Ends y a b xs rest) (sym stopped.0) (subst (λ (y : Why). IsClosed a b xs y) stopped.0 c)
 ]
 
 -- One round of a connection, from `b` to `c`, behind the items `xs`.
@@ -56,9 +68,11 @@ module _ {A : Type 0} (answers : A → Item → Bool → List ℕ → A → Type
       let j2 : (pieces xs ++ x.piece) ++ buffer'.bytes ≡ pieces xs ++ (x.piece ++ buffer'.bytes) = append_assoc (pieces xs) x.piece buffer'.bytes in
       let beginning : buffer.bytes ++ got ≡ x.piece ++ buffer'.bytes = t.uses.bytes in
       let bytes : (pieces xs ++ buffer.bytes) ++ got ≡ pieces (xs ++ x ∷ []) ++ buffer'.bytes = cc in
+      let taken : TookBytes a.source c.source (pieces (xs ++ x ∷ []) ++ buffer'.bytes) = subst (λ (l : List ℕ). TookBytes a.source c.source l) bytes (took_both a.source b.source c.source (pieces xs ++ buffer.bytes) got s.progress.taken t.uses.took) in
       record {
-        taken = subst (λ (l : List ℕ). TookBytes a.source c.source l) bytes (took_both a.source b.source c.source (pieces xs ++ buffer.bytes) got s.progress.taken t.uses.took);
+        taken = taken;
         items = items-more xs x s.progress.items t.is_item;
+        hidden = hidden-more a.source.bytes xs x s.progress.hidden (λ stops. hidden_before a.source.bytes c.source.bytes _ taken.taken (t.hidden stops));
       }
 
   -- its text was given after theirs
@@ -66,14 +80,14 @@ module _ {A : Type 0} (answers : A → Item → Bool → List ℕ → A → Type
   given_all x given = subst (λ (l : List ℕ). GaveBytes a.sink c.sink l) (sym (text-more xs x)) (gave_both a.sink b.sink c.sink (texts xs) (text_of x) s.given given)
 
   -- an item more, and the connection goes on
-  pub talked_on : (final : Bool) (x : Exchange) → IsRoundOf answers now next b c buffer buffer' final x → end_by buffer.offset x.item ≡ None → GaveBytes b.sink c.sink (text_of x) → Talked a c (xs ++ x ∷ []) buffer'.bytes buffer'.offset (count + 1)
+  pub talked_on : (final : Bool) (x : Exchange) → IsRoundOf answers now next b c buffer buffer' final x → end_by buffer.offset x.item x.stops ≡ None → GaveBytes b.sink c.sink (text_of x) → Talked a c (xs ++ x ∷ []) buffer'.bytes buffer'.offset (count + 1)
   talked_on final x t stays gave =
       let size : length (pieces xs ++ x.piece) ≡ length (pieces xs) + length x.piece = length-append (pieces xs) x.piece in
       let there : length (pieces (xs ++ x ∷ [])) ≡ length (pieces xs) + length x.piece = ap (λ (l : List ℕ). length l) (piece-more xs x) ∙ size in
       record {
         progress = progressed final x t;
         count_is = omega (arith, length-more xs x, s.count_is);
-        none = none-more xs x s.none (none_by buffer.offset x.item stays);
+        none = none-more xs x s.none (none_by buffer.offset x stays);
         given = given_all x gave;
         offset_is = omega (arith, there, s.offset_is, t.uses.offset);
       }
@@ -83,7 +97,7 @@ module _ {A : Type 0} (answers : A → Item → Bool → List ℕ → A → Type
   on few = record { none = s.none; few = omega (arith, few, s.count_is) }
 
   -- an item that closes ends the connection
-  pub closed_by : (why : Why) → count < request_limit → (final : Bool) (x : Exchange) → IsRoundOf answers now next b c buffer buffer' final x → end_by buffer.offset x.item ≡ Some why → GaveBytes b.sink c.sink (text_of x) → PassedBy a c (xs ++ x ∷ []) (record { requests = count + 1; why = why })
+  pub closed_by : (why : Why) → count < request_limit → (final : Bool) (x : Exchange) → IsRoundOf answers now next b c buffer buffer' final x → end_by buffer.offset x.item x.stops ≡ Some why → GaveBytes b.sink c.sink (text_of x) → PassedBy a c (xs ++ x ∷ []) (record { requests = count + 1; why = why })
   closed_by why few final x t closing gave =
       record {
         rest = buffer'.bytes;
@@ -94,7 +108,7 @@ module _ {A : Type 0} (answers : A → Item → Bool → List ℕ → A → Type
           last = x;
           are = refl;
           on = on few;
-          closing = subst (λ (n : ℕ). end_by n x.item ≡ Some why) s.offset_is closing;
+          closing = subst (λ (n : ℕ). end_by n x.item x.stops ≡ Some why) s.offset_is closing;
           given = given_all x gave;
         });
       }
@@ -122,6 +136,7 @@ module _ {A : Type 0} (answers : A → Item → Bool → List ℕ → A → Type
       record {
         taken = subst (λ (l : List ℕ). TookBytes a.source c.source l) joined (took_both a.source b.source c.source (pieces xs ++ buffer.bytes) got s.progress.taken taken);
         items = s.progress.items;
+        hidden = s.progress.hidden;
       }
 
   -- the next item is not whole
@@ -151,6 +166,7 @@ module _ {A : Type 0} (answers : A → Item → Bool → List ℕ → A → Type
   incomplete_by (BadFraming offset) few w = absurd w
   incomplete_by CloseAsked few w = absurd w
   incomplete_by RequestLimit few w = absurd w
+  incomplete_by Stopped few w = absurd w
   incomplete_by ReadFault few w = record {
     rest = buffer.bytes ++ w.1.1.got;
     progress = stayed w.1.1.got w.1.1.took;

@@ -3,14 +3,14 @@ use Rattle.std.proofs.Common.{◌≡◌, ℕ, ◌+◌, ◌*◌, ◌^◌, ◌<◌
 use Rattle.std.proofs.Math.Nat.{eq-or-lt_of_le}
 use Rattle.std.proofs.lemmas.Bool.{eq-eqb}
 use Rattle.std.proofs.lemmas.List.Elements.{All-nil}
-use Rattle.http_message.specs.Item.{Item, IsItem, closes}
+use Rattle.http_message.specs.Item.{Item, IsItem}
 use Rattle.http_message.specs.Taken.{RequestState, item_limit}
 use Rattle.q_outside.specs.Ends.{End, TookBytes}
 use Rattle.q_outside.specs.declared.served.Served.{Served}
 use Rattle.q_outside.specs.declared.served.Why.{Why}
 use Rattle.q_outside.specs.declared.served.Why.TheVariants.{RequestLimit, WriteFault}
 use Rattle.q_outside.proofs.Chain.{took_nothing, gave_nothing}
-use Rattle.dialogue.specs.Dialogue.{Sides, Exchange, Answered, Dialogue, is_last, request_limit}
+use Rattle.dialogue.specs.Dialogue.{Sides, Exchange, Answered, Dialogue, is_ending, is_last, request_limit}
 use Rattle.dialogue.specs.Round.{IsRoundOf, IsRound}
 use Rattle.dialogue.specs.Visit.{Talked, PassedBy, After, MayGoOn, Rests, Visited}
 use Rattle.dialogue.specs.declared.round_result.RoundResult.{RoundResult}
@@ -19,6 +19,7 @@ use Rattle.dialogue.specs.declared.visits.Pause.{Pause}
 use Rattle.dialogue.specs.declared.visits.VisitEnd.{VisitEnd}
 use Rattle.dialogue.specs.declared.visits.VisitEnd.TheVariants.{Quiet, Ended}
 use Rattle.dialogue.proofs.ProgressLemmas.{talked_on, closed_by, broken_by, incomplete_by, limited_by}
+use Rattle.dialogue.proofs.RoundLemmas.{still}
 
 -- a request that is not the last that may be leaves one more
 not_last : (n : ℕ) → n < request_limit → not (nat_eq (n + 1) request_limit) ≡ true → n + 1 < request_limit
@@ -27,20 +28,16 @@ not_last n few more = elim (eq-or-lt_of_le (let low : n + 1 ≤ request_limit = 
   | inr below ↦ below
 ]
 
--- a source that shows what it showed
-still : (P : Sides → Type 0) (b : Sides) (e : End) → e ≡ b.source → P b → P (record { source = e; sink = b.sink })
-still P b e same p = subst (λ (l : End). P (record { source = l; sink = b.sink })) (sym same) p
-
 -- How items are answered, from a first state.
 module _ {A : Type 0} (answers : A → Item → Bool → List ℕ → A → Type 0) where
   -- one answer more
-  answered-more : (count : ℕ) (first middle last : A) (xs : List Exchange) (x : Exchange) → Answered answers count first xs middle → answers middle x.item (is_last (count + length xs) x.item) x.answer last → Answered answers count first (xs ++ x ∷ []) last
+  answered-more : (count : ℕ) (first middle last : A) (xs : List Exchange) (x : Exchange) → Answered answers count first xs middle → answers middle x.item (is_last (count + length xs) x) x.answer last → Answered answers count first (xs ++ x ∷ []) last
   answered-more count first middle last [] x t reply =
       let none : count + 0 ≡ count = omega arith in
-      (last, subst (λ (n : ℕ). answers first x.item (is_last n x.item) x.answer last) none (subst (λ (s : A). answers s x.item (is_last (count + 0) x.item) x.answer last) (sym t) reply), refl)
+      (last, subst (λ (n : ℕ). answers first x.item (is_last n x) x.answer last) none (subst (λ (s : A). answers s x.item (is_last (count + 0) x) x.answer last) (sym t) reply), refl)
   answered-more count first middle last (y ∷ ys) x t reply =
       let moved : count + length (y ∷ ys) ≡ (count + 1) + length ys = omega arith in
-      (t.0, t.1, answered-more (count + 1) t.0 middle last ys x t.2 (subst (λ (n : ℕ). answers middle x.item (is_last n x.item) x.answer last) moved reply))
+      (t.0, t.1, answered-more (count + 1) t.0 middle last ys x t.2 (subst (λ (n : ℕ). answers middle x.item (is_last n x) x.answer last) moved reply))
 
   -- the answers of two lists are those of both
   answered-append : (count : ℕ) (first middle last : A) (xs ys : List Exchange) → Answered answers count first xs middle → Answered answers (count + length xs) middle ys last → Answered answers count first (xs ++ ys) last
@@ -84,7 +81,7 @@ module _ {A : Type 0} (answers : A → Item → Bool → List ℕ → A → Type
     answered_all x t =
         let number : count ≡ from.requests + length s.xs = sym s.number in
         answered-more from.requests first now next s.xs x s.answered
-        (subst (λ (n : ℕ). answers now x.item (closes x.item || nat_eq (n + 1) request_limit) x.answer next) number t.answered)
+        (subst (λ (n : ℕ). answers now x.item (is_ending x || nat_eq (n + 1) request_limit) x.answer next) number t.answered)
 
     -- an item more, and the visit goes on
     went_on : IsRound answers now next c d buffer buffer' (nat_eq (count + 1) request_limit) KeptOpen → Visiting first next b d from buffer' (count + 1)
@@ -184,7 +181,11 @@ module _ {A : Type 0} (answers : A → Item → Bool → List ℕ → A → Type
         xs = [];
         answered = refl;
         talked = record {
-          progress = record { taken = took_nothing a.source; items = All-nil (λ (x : Exchange). IsItem x.piece x.item) };
+          progress = record {
+            taken = took_nothing a.source;
+            items = All-nil (λ (x : Exchange). IsItem x.piece x.item);
+            hidden = All-nil (λ (x : Exchange). x.stops ≡ true → a.source.bytes ≡ None);
+          };
           count_is = refl;
           none = refl;
           given = gave_nothing a.sink;

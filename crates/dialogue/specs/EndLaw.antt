@@ -6,7 +6,7 @@ use Rattle.http_message.specs.Taken.{continue_where}
 use Rattle.http_message.specs.Text.{is_blank}
 use Rattle.q_outside.specs.declared.served.Served.{Served}
 use Rattle.q_outside.specs.declared.served.Why.{Why}
-use Rattle.q_outside.specs.declared.served.Why.TheVariants.{InputEnd, Truncated, BadFraming, CloseAsked, RequestLimit, ReadFault, WriteFault}
+use Rattle.q_outside.specs.declared.served.Why.TheVariants.{InputEnd, Truncated, BadFraming, CloseAsked, RequestLimit, Stopped, ReadFault, WriteFault}
 use Rattle.q_outside.specs.Ends.{GaveBytes}
 use Rattle.dialogue.specs.Dialogue.{Sides, Exchange, Passed, end_by, pieces, request_limit, texts}
 
@@ -19,7 +19,7 @@ pub record IsWhole (bytes : List ℕ) (first last : Sides) : Type 0 where
 -- how the last of these items ends the connection, where it does; the first begins at this offset
 abbrev pub last_end : ℕ → List Piece → Option Why
 last_end offset [] = None
-last_end offset (piece ∷ []) = end_by offset piece.item
+last_end offset (piece ∷ []) = end_by offset piece.item false
 last_end offset (piece ∷ next ∷ pieces) = last_end (offset + length piece.bytes) (next ∷ pieces)
 
 -- how a connection ends that no item ends
@@ -37,6 +37,7 @@ ExpectsAt Truncated rest expected = IsOpen rest expected
 ExpectsAt (BadFraming offset) rest expected = expected ≡ false
 ExpectsAt CloseAsked rest expected = expected ≡ false
 ExpectsAt RequestLimit rest expected = expected ≡ false
+ExpectsAt Stopped rest expected = ⊥
 ExpectsAt ReadFault rest expected = ⊥
 ExpectsAt WriteFault rest expected = ⊥
 

@@ -11,18 +11,21 @@ use crate::round_result::RoundResult;
 use http_message::{Request, RequestRoom, Taken, next_request};
 use q_outside::{Sink, Source, Why};
 
-/// How the connection ends after a request, where the request asks for it (RFC 9112, section 9.6).
-fn end_of(request: &Request<'_>) -> Option<Why>
-    ensures { (offset : ℕ) → result ≡ end_by offset (a_request request.now) }
+/// How the connection ends after a request, where the request asks for it (RFC 9112, section 9.6) or the
+/// server is ending.
+fn end_of(request: &Request<'_>, stops: bool) -> Option<Why>
+    ensures { (offset : ℕ) → result ≡ end_by offset (a_request request.now) stops }
 {
     if request.closes() {
         Some(Why::CloseAsked)
+    } else if stops {
+        Some(Why::Stopped)
     } else {
         None
     }
 }
 
-/// Whether the connection ends after a request: it asks for it, or is the last that is answered.
+/// Whether the connection ends after a request: something ends it, or it is the last that is answered.
 fn is_last(end: Option<Why>, last: bool) -> bool
     ensures { result ≡ (is_some end || last) }
 {
@@ -54,8 +57,9 @@ pub(crate) fn round<A: Answers, S: Source, K: Sink>(
 {
     match take_next(source, sink, buffer) {
         Taken::Request { .. } => {
+            let stops = source.is_stopping();
             let request = buffer.request();
-            let end = end_of(&request);
+            let end = end_of(&request, stops);
             let given = answerer.answer(sink, &request, is_last(end, last));
             RoundResult::of(given, end)
         }

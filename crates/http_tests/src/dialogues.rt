@@ -94,10 +94,10 @@ struct Outcome {
 }
 
 /// Holds a dialogue over a sink whose faults are counted by this ledger.
-fn hold_counted<L: Ledger>(
+fn hold_counted<L: Ledger, S: Source>(
     alloc: Global,
     room: &mut RequestRoom,
-    source: &mut ListSource,
+    source: &mut S,
     script: Script,
     blank: Blank,
 ) -> Result<Outcome, Memory>
@@ -137,15 +137,15 @@ fn source_of(
 }
 
 /// Holds a dialogue over a source.
-fn hold_over(
+fn hold_over<S: Source>(
     alloc: Global,
     room: &mut RequestRoom,
-    source: &mut ListSource,
+    source: &mut S,
     gives: Option<u64>,
     size: usize,
 ) -> Result<Outcome, Memory> {
     let script = script_of(alloc, gives, size)?;
-    hold_counted::<Brand>(alloc, room, source, script, Blank::new(1))
+    hold_counted::<Brand, S>(alloc, room, source, script, Blank::new(1))
 }
 
 /// Holds a dialogue over these texts, one after another.
@@ -158,7 +158,7 @@ fn hold(
 ) -> Result<Outcome, Memory> {
     let mut room = new_room(alloc)?;
     let mut source = source_of(alloc, texts, takes)?;
-    hold_over(alloc, &mut room, &mut source, gives, size)
+    hold_over(alloc, &mut room, &mut *source, gives, size)
 }
 
 /// Texts, one after another.
@@ -343,6 +343,10 @@ impl Source for Patient<'_> {
     }
 
     fn wait(&mut self) {}
+
+    fn is_stopping(&mut self) -> bool {
+        false
+    }
 }
 
 /// Holds a dialogue over these pieces. How it was served, and how many bytes were given.
@@ -378,5 +382,46 @@ fn nothing_is_taken_before_what_is_due_was_given(rt: HostRuntime) -> Result<(), 
     };
     assert_eq!(rt; served, wanted);
     assert_eq!(rt; given, 25 + 25);
+    Ok(())
+}
+
+/// A source of these bytes whose server is ending.
+#[derive(Drop)]
+struct Stopping<'a> {
+    left: &'a [u8],
+}
+
+impl Source for Stopping<'_> {
+    ghost at = { λ _. record { bytes = None; faults = 0 } };
+
+    fn take(&mut self, into: &mut [u8]) -> Result<usize, Failed> {
+        let count = self.left.len().min(into.len());
+        into[..count].copy_from_slice(&self.left[..count]);
+        self.left = &self.left[count..];
+        Ok(count)
+    }
+
+    fn begin(&mut self, _held: bool) {}
+
+    fn is_ready(&mut self) -> bool {
+        true
+    }
+
+    fn wait(&mut self) {}
+
+    fn is_stopping(&mut self) -> bool {
+        true
+    }
+}
+
+#[test]
+fn a_stopped_connection_ends_behind_the_request_in_hand(rt: HostRuntime) -> Result<(), Fail> {
+    let mut room = new_room(rt.alloc())?;
+    for (first, why) in [(GET, Why::Stopped), (CLOSING, Why::CloseAsked)] {
+        let both = all_of(rt.alloc(), &[first, GET])?;
+        let mut source = Stopping { left: &both };
+        let outcome = hold_over(rt.alloc(), &mut room, &mut source, None, 100_000)?;
+        assert_outcome(&rt, &outcome, 1, why, LAST, 0);
+    }
     Ok(())
 }

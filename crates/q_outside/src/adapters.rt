@@ -46,6 +46,10 @@ impl<R: Read + Drop> Source for ReadSource<R> {
     }
 
     fn wait(&mut self) {}
+
+    fn is_stopping(&mut self) -> bool {
+        false
+    }
 }
 
 /// The sink over a writer of std, such as standard output.

@@ -2,7 +2,7 @@
 //!
 //! A source may show the bytes that are left, and a sink those that it holds. Of one that shows none
 //! nothing is claimed. Each has a count of faults that never falls, and fails only where that count rose.
-ghost use Rattle.std.specs.Prelude.{◌≡◌, ℕ, ◌<◌, length};
+ghost use Rattle.std.specs.Prelude.{◌≡◌, ℕ, ◌<◌, length, true, None};
 ghost use Rattle.q_outside.specs.Ends.{End, Took, GaveSome};
 
 use q_base::Moment;
@@ -34,6 +34,12 @@ pub trait Source {
     /// Returns when bytes, the end or a limit of time is there.
     fn wait(&mut self)
         ensures { at self.new ≡ at self.old };
+
+    /// Whether the connection is to end behind the request in hand, whose reply then says so. Only a
+    /// source that shows no bytes may say it.
+    fn is_stopping(&mut self) -> bool
+        ensures keeps { at self.new ≡ at self.old }
+        ensures hidden { result ≡ true → (at self.old).bytes ≡ None };
 }
 
 /// Where bytes go to.

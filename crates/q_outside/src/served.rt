@@ -16,6 +16,8 @@ pub enum Why {
     CloseAsked,
     /// As many requests as one connection may make have been answered.
     RequestLimit,
+    /// The server is ending, and a request that was in hand has been answered.
+    Stopped,
     /// The source failed.
     ReadFault,
     /// The sink failed.

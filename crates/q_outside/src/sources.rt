@@ -40,6 +40,10 @@ impl Source for PlainSource {
     }
 
     fn wait(&mut self) {}
+
+    fn is_stopping(&mut self) -> bool {
+        false
+    }
 }
 
 /// A source over bytes in memory. A script says which calls fail and how much the others give. It shows
@@ -95,6 +99,10 @@ impl Source for ListSource {
     }
 
     fn wait(&mut self) {}
+
+    fn is_stopping(&mut self) -> bool {
+        false
+    }
 }
 
 /// Copies at most `most` bytes from an offset on to the start of the buffer and returns their number.

@@ -41,7 +41,7 @@ module _ {A D C : Type 0} (desk : A → D) (clock : A → C) (setting : D → Se
   chain g count first last (x ∷ xs) ms es same t =
       let next = t.0 in
       let r = t.1 in
-      let at : RepliesAt g (seen (desk first)) (seen (desk next)) (mine (desk first)) (mine (desk next)) r.moment x.item (is_last count x.item) x.answer = subst (λ (s : Setting). RepliesAt s (seen (desk first)) (seen (desk next)) (mine (desk first)) (mine (desk next)) r.moment x.item (is_last count x.item) x.answer) same r.at in
+      let at : RepliesAt g (seen (desk first)) (seen (desk next)) (mine (desk first)) (mine (desk next)) r.moment x.item (is_last count x) x.answer = subst (λ (s : Setting). RepliesAt s (seen (desk first)) (seen (desk next)) (mine (desk first)) (mine (desk next)) r.moment x.item (is_last count x) x.answer) same r.at in
       let v = has_entry at.answer in
       let rest : Chained g (count + 1) next last xs (ms ++ r.moment ∷ []) (es ++ v ∷ []) = chain g (count + 1) next last xs (ms ++ r.moment ∷ []) (es ++ v ∷ []) (r.same ∙ same) t.2 in
       let all : (ms ++ r.moment ∷ []) ++ rest.moments ≡ ms ++ (r.moment ∷ rest.moments) = append_assoc ms (r.moment ∷ []) rest.moments in

@@ -29,7 +29,7 @@ use Rattle.query_normal.specs.declared.key.KeyShape.{KeyShape}
 use Rattle.quaestor_server.specs.Answer.{Serves, Fails, IsAnswer, serves, fails, has_entry}
 use Rattle.quaestor_server.specs.Ask.{asked_by, shape_by, IsEntryOf, IsToldOf, IsFresh}
 use Rattle.quaestor_server.specs.Conversation.{RepliesAt, ConnectionState, Replies}
-use Rattle.quaestor_server.specs.TextsAreDetermined.{IsAlone}
+use Rattle.quaestor_server.specs.TextsAreDetermined.{IsAlone, StopAlike}
 use Rattle.quaestor_server.proofs.TextLemmas.{AreAlike, alike, purges_alike, same_text}
 
 -- a list is as long as its numbered elements
@@ -84,7 +84,7 @@ replies_grow g a b item close text r = elim r.at.answer [
 answered_grow : (g : Setting) (count : ℕ) (first last : ConnectionState) (xs : List Exchange) → Answered (Replies g) count first xs last → Grows first last
 answered_grow g count first last [] t = subst (λ (s : ConnectionState). Grows first s) t (record { least = omega arith })
 answered_grow g count first last (x ∷ xs) t =
-    let here = replies_grow g first t.0 x.item (is_last count x.item) x.answer t.1 in
+    let here = replies_grow g first t.0 x.item (is_last count x) x.answer t.1 in
     let rest = answered_grow g (count + 1) t.0 last xs t.2 in
     record { least = omega (arith, here.least, rest.least) }
 
@@ -230,12 +230,13 @@ connection_state_is b c p q r s =
     ap with_seen p ∙ ap with_mine q ∙ ap with_moments r ∙ ap with_entered s
 
 -- so are two exchanges
-exchange_is : (x y : Exchange) → x.piece ≡ y.piece → x.item ≡ y.item → x.answer ≡ y.answer → x ≡ y
-exchange_is x y p q r =
-    let with_piece : List ℕ → Exchange = λ l. record { piece = l; item = x.item; answer = x.answer } in
-    let with_item : Item → Exchange = λ i. record { piece = y.piece; item = i; answer = x.answer } in
-    let with_answer : List ℕ → Exchange = λ l. record { piece = y.piece; item = y.item; answer = l } in
-    ap with_piece p ∙ ap with_item q ∙ ap with_answer r
+exchange_is : (x y : Exchange) → x.piece ≡ y.piece → x.item ≡ y.item → x.answer ≡ y.answer → x.stops ≡ y.stops → x ≡ y
+exchange_is x y p q r s =
+    let with_piece : List ℕ → Exchange = λ l. record { piece = l; item = x.item; answer = x.answer; stops = x.stops } in
+    let with_item : Item → Exchange = λ i. record { piece = y.piece; item = i; answer = x.answer; stops = x.stops } in
+    let with_answer : List ℕ → Exchange = λ l. record { piece = y.piece; item = y.item; answer = l; stops = x.stops } in
+    let with_stops : Bool → Exchange = λ v. record { piece = y.piece; item = y.item; answer = y.answer; stops = v } in
+    ap with_piece p ∙ ap with_item q ∙ ap with_answer r ∙ ap with_stops s
 
 -- two replies at one moment, both with an entry or neither
 record IsOneReply (b c : ConnectionState) (text more : List ℕ) : Type 0 where
@@ -302,30 +303,33 @@ record IsSameConversation (last other : ConnectionState) (xs ys : List Exchange)
   connection_state : last ≡ other
   exchanges : xs ≡ ys
 
-one_by : RepliesHaveOneText → (g : Setting) (count : ℕ) (first last other : ConnectionState) (xs ys : List Exchange) → Answered (Replies g) count first xs last → Answered (Replies g) count first ys other → map (λ (x : Exchange). x.piece) xs ≡ map (λ (y : Exchange). y.piece) ys → map (λ (x : Exchange). x.item) xs ≡ map (λ (y : Exchange). y.item) ys → IsAlone first last → IsAlone first other → last.moments ≡ other.moments → last.entered ≡ other.entered → IsSameConversation last other xs ys
-one_by texts g count first last other [] [] t u ps is alone lone moments entered = record { connection_state = sym t ∙ u; exchanges = refl }
-one_by texts g count first last other [] (y ∷ ys) t u ps is alone lone moments entered = absurd (cc)
-one_by texts g count first last other (x ∷ xs) [] t u ps is alone lone moments entered = absurd (cc)
-one_by texts g count first last other (x ∷ xs) (y ∷ ys) t u ps is alone lone moments entered =
+one_by : RepliesHaveOneText → (g : Setting) (count : ℕ) (first last other : ConnectionState) (xs ys : List Exchange) → Answered (Replies g) count first xs last → Answered (Replies g) count first ys other → map (λ (x : Exchange). x.piece) xs ≡ map (λ (y : Exchange). y.piece) ys → map (λ (x : Exchange). x.item) xs ≡ map (λ (y : Exchange). y.item) ys → StopAlike xs ys → IsAlone first last → IsAlone first other → last.moments ≡ other.moments → last.entered ≡ other.entered → IsSameConversation last other xs ys
+one_by texts g count first last other [] [] t u ps is stop alone lone moments entered = record { connection_state = sym t ∙ u; exchanges = refl }
+one_by texts g count first last other [] (y ∷ ys) t u ps is stop alone lone moments entered = absurd (cc)
+one_by texts g count first last other (x ∷ xs) [] t u ps is stop alone lone moments entered = absurd (cc)
+one_by texts g count first last other (x ∷ xs) (y ∷ ys) t u ps is stop alone lone moments entered =
     let piece_is : x.piece ≡ y.piece = cc in
     let item_is : x.item ≡ y.item = cc in
+    let stops_is : x.stops ≡ y.stops = cc in
     let pieces_are : map (λ (x : Exchange). x.piece) xs ≡ map (λ (y : Exchange). y.piece) ys = cc in
     let items_are : map (λ (x : Exchange). x.item) xs ≡ map (λ (y : Exchange). y.item) ys = cc in
+    let stops_are : StopAlike xs ys = cc in
     let p = t.1 in
-    let q : Replies g first x.item (is_last count x.item) y.answer u.0 = subst (λ (i : Item). Replies g first i (is_last count i) y.answer u.0) (sym item_is) u.1 in
+    let by_item : Replies g first x.item (is_last count (record { piece = []; item = x.item; answer = []; stops = y.stops })) y.answer u.0 = subst (λ (i : Item). Replies g first i (is_last count (record { piece = []; item = i; answer = []; stops = y.stops })) y.answer u.0) (sym item_is) u.1 in
+    let q : Replies g first x.item (is_last count x) y.answer u.0 = subst (λ (v : Bool). Replies g first x.item (is_last count (record { piece = []; item = x.item; answer = []; stops = v })) y.answer u.0) (sym stops_is) by_item in
     let after_p = appended g (count + 1) t.0 last xs t.2 in
     let after_q = appended g (count + 1) u.0 other ys u.2 in
     let moment : p.moment ≡ q.moment = same_next first.moments p.moment q.moment after_p.moments after_q.moments last.moments other.moments t.0.moments u.0.moments after_p.moments_are p.moments_are after_q.moments_are q.moments_are moments in
     let entry : has_entry p.at.answer ≡ has_entry q.at.answer = same_next first.entered (has_entry p.at.answer) (has_entry q.at.answer) after_p.entered after_q.entered last.entered other.entered t.0.entered u.0.entered after_p.entered_are p.entered_are after_q.entered_are q.entered_are entered in
-    let grows_p = replies_grow g first t.0 x.item (is_last count x.item) x.answer p in
-    let grows_q = replies_grow g first u.0 x.item (is_last count x.item) y.answer q in
+    let grows_p = replies_grow g first t.0 x.item (is_last count x) x.answer p in
+    let grows_q = replies_grow g first u.0 x.item (is_last count x) y.answer q in
     let rest_p = answered_grow g (count + 1) t.0 last xs t.2 in
     let rest_q = answered_grow g (count + 1) u.0 other ys u.2 in
-    let here = same_replies texts g first t.0 u.0 x.item (is_last count x.item) x.answer y.answer p q (omega (arith, alone, grows_p.least, rest_p.least)) (omega (arith, lone, grows_q.least, rest_q.least)) moment entry in
+    let here = same_replies texts g first t.0 u.0 x.item (is_last count x) x.answer y.answer p q (omega (arith, alone, grows_p.least, rest_p.least)) (omega (arith, lone, grows_q.least, rest_q.least)) moment entry in
     let behind_q : Answered (Replies g) (count + 1) t.0 ys other = subst (λ (s : ConnectionState). Answered (Replies g) (count + 1) s ys other) (sym here.connection_state) u.2 in
     let lone_behind : IsAlone u.0 other = omega (arith, lone, grows_q.least, rest_q.least) in
-    let rest = one_by texts g (count + 1) t.0 last other xs ys t.2 behind_q pieces_are items_are (omega (arith, alone, grows_p.least, rest_p.least)) (subst (λ (s : ConnectionState). IsAlone s other) (sym here.connection_state) lone_behind) moments entered in
-    let exchange : x ≡ y = exchange_is x y piece_is item_is here.text_is in
+    let rest = one_by texts g (count + 1) t.0 last other xs ys t.2 behind_q pieces_are items_are stops_are (omega (arith, alone, grows_p.least, rest_p.least)) (subst (λ (s : ConnectionState). IsAlone s other) (sym here.connection_state) lone_behind) moments entered in
+    let exchange : x ≡ y = exchange_is x y piece_is item_is here.text_is stops_is in
     let exchanges : xs ≡ ys = rest.exchanges in
     record { connection_state = rest.connection_state; exchanges = cc }
 
@@ -337,15 +341,15 @@ count_moments g count first last (x ∷ xs) t =
     omega (arith, here, count_moments g (count + 1) t.0 last xs t.2)
 
 -- two connections over one history of their own
-pub texts_are_determined : SameItems → RepliesHaveOneText → (g : Setting) (first last other : ConnectionState) (a b c d : Sides) (served again : Served) (p : Dialogue (Replies g) first last a b served) (q : Dialogue (Replies g) first other c d again) → IsAlone first last → IsAlone first other → pieces p.passed.exchanges ++ p.passed.rest ≡ pieces q.passed.exchanges ++ q.passed.rest → last.moments ≡ other.moments → last.entered ≡ other.entered → (p.passed.exchanges ≡ q.passed.exchanges) × (last.seen ≡ other.seen) × (last.mine ≡ other.mine)
-texts_are_determined items texts g first last other a b c d served again p q alone lone bytes moments entered =
+pub texts_are_determined : SameItems → RepliesHaveOneText → (g : Setting) (first last other : ConnectionState) (a b c d : Sides) (served again : Served) (p : Dialogue (Replies g) first last a b served) (q : Dialogue (Replies g) first other c d again) → IsAlone first last → IsAlone first other → pieces p.passed.exchanges ++ p.passed.rest ≡ pieces q.passed.exchanges ++ q.passed.rest → last.moments ≡ other.moments → last.entered ≡ other.entered → StopAlike p.passed.exchanges q.passed.exchanges → (p.passed.exchanges ≡ q.passed.exchanges) × (last.seen ≡ other.seen) × (last.mine ≡ other.mine)
+texts_are_determined items texts g first last other a b c d served again p q alone lone bytes moments entered stop =
     let xs = p.passed.exchanges in
     let ys = q.passed.exchanges in
     let here = count_moments g 0 first last xs p.answered in
     let there = count_moments g 0 first other ys q.answered in
     let same : length last.moments ≡ length other.moments = ap (λ (l : List ℕ). length l) moments in
     let shared = items xs ys p.passed.rest q.passed.rest p.passed.progress.items q.passed.progress.items (omega (arith, here, there, same)) bytes in
-    let one = one_by texts g 0 first last other xs ys p.answered q.answered shared.0 shared.1 alone lone moments entered in
+    let one = one_by texts g 0 first last other xs ys p.answered q.answered shared.0 shared.1 stop alone lone moments entered in
     (one.exchanges, ap (λ (s : ConnectionState). s.seen) one.connection_state, ap (λ (s : ConnectionState). s.mine) one.connection_state)
 
 -- a desk all of whose history is its own is alone

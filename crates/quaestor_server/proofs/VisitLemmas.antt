@@ -16,7 +16,7 @@ use Rattle.quaestor_server.specs.Visit.{Timed, answers_of}
 answered_of : {A B : Type 0} (p : A → Item → Bool → List ℕ → A → Type 0) (q : B → Item → Bool → List ℕ → B → Type 0) (f : A → B) → ((a b : A) (item : Item) (close : Bool) (text : List ℕ) → p a item close text b → q (f a) item close text (f b)) → (count : ℕ) (first last : A) (xs : List Exchange) → Answered p count first xs last → Answered q count (f first) xs (f last)
 answered_of p q f each count first last [] t = ap f t
 answered_of p q f each count first last (x ∷ xs) t =
-    (f t.0, each first t.0 x.item (is_last count x.item) x.answer t.1, answered_of p q f each (count + 1) t.0 last xs t.2)
+    (f t.0, each first t.0 x.item (is_last count x) x.answer t.1, answered_of p q f each (count + 1) t.0 last xs t.2)
 
 -- What answers has a desk and a clock.
 module _ {A D C : Type 0} (desk : A → D) (clock : A → C) (setting : D → Setting) (seen : D → List Entry) (mine : D → List (ℕ × Entry)) (tick : C → ℕ → C → Type 0) where

@@ -251,6 +251,11 @@ impl<R: Clock + Drop> Connection<R> {
         !self.watch.is_stopped() && self.poll(For::Bytes, LINGER_MILLIS)
     }
 
+    /// Whether the server was told to end, so that the connection ends behind the request in hand.
+    pub(crate) fn is_stopping(&self) -> bool {
+        self.watch.is_stopped()
+    }
+
     /// Tells the client that nothing more comes, reads what it still sends, within limits, and closes
     /// the stream. Bytes that lie unread when a stream is closed make the system reset the connection,
     /// and a reset may lose the last reply on its way.

@@ -49,4 +49,8 @@ impl<R: Clock + Drop> Source for TcpSource<R> {
     fn wait(&mut self) {
         self.shared.wait();
     }
+
+    fn is_stopping(&mut self) -> bool {
+        self.shared.is_stopping()
+    }
 }

@@ -74,6 +74,14 @@ impl<R: Clock + Drop> Shared<R> {
         }
     }
 
+    /// Whether the server was told to end, so that the connection ends behind the request in hand.
+    pub(crate) fn is_stopping(&self) -> bool {
+        match self.connection.try_lock() {
+            Some(connection) => connection.is_stopping(),
+            None => false,
+        }
+    }
+
     /// Ends the connection and closes its stream.
     pub(crate) fn end(&self) {
         if let Some(mut connection) = self.connection.try_lock() {

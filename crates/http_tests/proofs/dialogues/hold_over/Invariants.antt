@@ -2,4 +2,4 @@
 use Rattle.http_tests.proofs.dialogues.hold_over.Given as goal
 
 abbrev pub ghosts-hold_counted : goal.ghosts-hold_counted
-ghosts-hold_counted a = record { name = a.blank.name; parts = a.blank.parts }
+ghosts-hold_counted g a = record { name = a.blank.name; parts = a.blank.parts }
