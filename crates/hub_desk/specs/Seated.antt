@@ -17,6 +17,6 @@ turnstile_of desk = desk.turnstile.now
 abbrev pub seat_of : {R : Type 0} → Seated R → Seat (Option HubValueView) (View Entry Setting)
 seat_of desk = desk.seat
 
--- what a desk is tied to: its turnstile; and of its seat the number, the entries that it met, how many seats were split off it, and what was seen at its joins
-abbrev pub anchor_of : {R : Type 0} → Seated R → Turnstile HubValueView Entry Setting × (ℕ × (List (ℕ × Entry) × (ℕ × List (List Entry))))
-anchor_of desk = (desk.turnstile.now, (desk.seat.id, (met desk.seat, (splits desk.seat, desk.seat.me.0.olds))))
+-- what a desk is tied to: its turnstile; and of its seat the number, the entries that it met, how many seats were split off it, what was seen at its joins, and the levels of the seats that it is made of and of those that were split off these
+abbrev pub anchor_of : {R : Type 0} → Seated R → Turnstile HubValueView Entry Setting × (ℕ × (List (ℕ × Entry) × (ℕ × (List (List Entry) × (List ℕ × List ℕ)))))
+anchor_of desk = (desk.turnstile.now, (desk.seat.id, (met desk.seat, (splits desk.seat, (desk.seat.me.0.olds, (desk.seat.me.0.levels, desk.seat.me.0.children))))))

@@ -17,13 +17,14 @@ use Rattle.quaestor_serve.specs.declared.begun.Begun.{Begun}
 use Rattle.quaestor_serve.specs.declared.hall.Hall.{Hall}
 use Rattle.quaestor_serve.specs.declared.running.Running.{Running}
 use Rattle.quaestor_serve.specs.Going.{Going, HaveRoom, HandsBack, began_with}
-use Rattle.quaestor_serve.specs.Halls.{begun_in, setting_in, seen_in, met_in, IsReady, Stays, Releases}
+use Rattle.quaestor_serve.specs.Halls.{begun_in, setting_in, seen_in, met_in, IsReady, Stays, KeepsOut, Releases}
 use Rattle.quaestor_serve.specs.Kept.{setting_at}
 use Rattle.quaestor_serve.specs.Matchers.{IsAsBefore}
 use Rattle.quaestor_serve.specs.Running.{begun_of, HasBegun}
 use Rattle.quaestor_serve.specs.Visits.{Visit, given_of, back_of, own_of, IsWell}
 use Rattle.turnstile.specs.Places.{AllOf, Distinct}
 use Rattle.turnstile.proofs.PlaceLemmas.{all_append}
+use Rattle.quaestor_serve.proofs.HallLemmas.{keeps_both}
 use Rattle.quaestor_serve.proofs.OrderLemmas.{all_permuted, moves_behind, comes_waiting, waits_no_longer}
 use Rattle.quaestor_serve.proofs.VisitLemmas.{all_stay, some_least}
 
@@ -187,6 +188,7 @@ module _ {S K C : Type 0} (source_at : S → End) (sink_at : K → End) (tick : 
   hands_none now h ready = record {
     stays = (refl, refl, refl);
     ready = ready;
+    out = λ others was. was;
     fewer = omega arith;
     room = λ more room. room;
     faults = omega arith;
@@ -198,6 +200,7 @@ module _ {S K C : Type 0} (source_at : S → End) (sink_at : K → End) (tick : 
   hands_both a b c h i j p q = record {
     stays = (q.stays.0 ∙ p.stays.0, q.stays.1 ∙ p.stays.1, q.stays.2 ∙ p.stays.2);
     ready = q.ready;
+    out = keeps_both h i j p.out q.out;
     fewer = (let p_fewer = p.fewer in let q_fewer = q.fewer in omega (arith, p_fewer, q_fewer));
     room = λ more room. q.room more (p.room more room);
     faults = (let p_faults = p.faults in let q_faults = q.faults in omega (arith, p_faults, q_faults));
@@ -205,10 +208,11 @@ module _ {S K C : Type 0} (source_at : S → End) (sink_at : K → End) (tick : 
   }
 
   -- one was
-  pub hands_one : (old new : DoorsView S K) (h l : Hall S K C) (source : S) (sink : K) (served : Served) → Stays h l → IsReady l → length l.running.items + 1 ≡ length h.running.items → Releases source_at sink_at tick h l source sink served → Passes old new [] (record { source = source; sink = sink; served = Some served } ∷ []) 0 → HandsBack source_at sink_at tick is_clone old new h l
-  hands_one old new h l source sink served same ready less r passed = record {
+  pub hands_one : (old new : DoorsView S K) (h l : Hall S K C) (source : S) (sink : K) (served : Served) → Stays h l → IsReady l → KeepsOut h l → length l.running.items + 1 ≡ length h.running.items → Releases source_at sink_at tick h l source sink served → Passes old new [] (record { source = source; sink = sink; served = Some served } ∷ []) 0 → HandsBack source_at sink_at tick is_clone old new h l
+  hands_one old new h l source sink served same ready out less r passed = record {
     stays = same;
     ready = ready;
+    out = out;
     fewer = omega (arith, less);
     room = λ more room. away_still old.away new.away 0 1 (length h.running.items + more) (length l.running.items + more) passed.away (omega (arith, less)) room;
     faults = passed.count;

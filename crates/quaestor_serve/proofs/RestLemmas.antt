@@ -12,6 +12,7 @@ use Rattle.quaestor_serve.specs.Matches.{Matches, IsMatchingAt}
 use Rattle.turnstile.specs.Places.{AllOf}
 use Rattle.turnstile.specs.Seats.{IsSeatOf, IsIdle, seen, mine, met}
 use Rattle.turnstile.proofs.PlaceLemmas.{all_append, all_map}
+use Rattle.quaestor_serve.proofs.KeptLemmas.{parts, part_stays}
 use Rattle.quaestor_serve.proofs.MatchLemmas.{ticks_both, matching_longer, matching_before, matching_behind}
 
 module _ {C : Type 0} (tick : C → ℕ → C → Type 0) where
@@ -21,14 +22,15 @@ module _ {C : Type 0} (tick : C → ℕ → C → Type 0) where
     own = fresh.own;
     idle = fresh.idle;
     met = fresh.met;
+    part = fresh.part;
     moments = [];
     ticks = refl;
     matching = subst (λ (ps : List (ℕ × Entry)). AllOf (IsMatchingAt (setting_at turnstile) (seen seat) []) ps) (sym fresh.mine) tt;
   }
 
   -- one who has matched goes on; `turn_before` and `before` are the turnstile and the seat of the desk at first, `turn_after` and `after` at last
-  pub rested_after : (turnstile turn_before turn_after : HubTurnstile) (seat before after last : HubSeat) (first clock late : C) → turn_before ≡ turnstile → before ≡ seat → turn_after ≡ turn_before → met after ≡ met before → last ≡ after → IsSeatOf hub_setting turn_after last → IsIdle last → HasMatched tick turnstile first seat clock → Matches tick (setting_at turn_before) (seen before) (seen after) (mine before) (mine after) clock late → HasMatched tick turnstile first last late
-  rested_after turnstile turn_before turn_after seat before after last first clock late at here same met_same last_is own idle rested made =
+  pub rested_after : (turnstile turn_before turn_after : HubTurnstile) (seat before after last : HubSeat) (first clock late : C) → turn_before ≡ turnstile → before ≡ seat → turn_after ≡ turn_before → met after ≡ met before → parts after ≡ parts before → last ≡ after → IsSeatOf hub_setting turn_after last → IsIdle last → HasMatched tick turnstile first seat clock → Matches tick (setting_at turn_before) (seen before) (seen after) (mine before) (mine after) clock late → HasMatched tick turnstile first last late
+  rested_after turnstile turn_before turn_after seat before after last first clock late at here same met_same parts_same last_is own idle rested made =
       let g = setting_at turnstile in
       let there = subst (λ (t : HubTurnstile). Matches tick (setting_at t) (seen before) (seen after) (mine before) (mine after) clock late) at made in
       let begun = subst (λ (s : HubSeat). Matches tick g (seen s) (seen after) (mine s) (mine after) clock late) here there in
@@ -38,6 +40,7 @@ module _ {C : Type 0} (tick : C → ℕ → C → Type 0) where
         own = subst (λ (t : HubTurnstile). IsSeatOf hub_setting t last) (same ∙ at) own;
         idle = idle;
         met = ap met last_is ∙ met_same ∙ ap met here ∙ rested.met;
+        part = part_stays seat last (ap parts last_is ∙ parts_same ∙ ap parts here) rested.part;
         moments = moments;
         ticks = ticks_both tick first clock late rested.moments m.moments rested.ticks m.ticks;
         matching = subst (λ (ps : List (ℕ × Entry)). AllOf (IsMatchingAt g (seen last) moments) ps) (sym m.mine)

@@ -1,10 +1,12 @@
 -- What a server has done when it ends.
 use Rattle.std.proofs.Common.{◌≡◌, ℕ, ◌<◌, ◌≤◌, List, [], ◌∷◌, ◌++◌, map, length, refl, sym, ap, ◌∙◌, subst, arith, append-nil, append_assoc}
 use Rattle.std.specs.Arc.{arc_value}
+use Rattle.std.specs.List.{flat_map}
 use Rattle.std.specs.List.Sorted.{IsPermutation}
 use Rattle.std.proofs.lemmas.List.{length-map}
 use Rattle.std.proofs.lemmas.List.Sorted.{IsPermutation-refl, length_permutation}
 use Rattle.hub_model.specs.declared.entry.Entry.{Entry}
+use Rattle.hub_model.specs.Desk.{IsPrefix}
 use Rattle.hub_model.specs.Legal.{IsLegal}
 use Rattle.hub_model.specs.Setting.{Setting}
 use Rattle.q_outside.specs.Doors.{DoorsView, Passes}
@@ -18,15 +20,15 @@ use Rattle.quaestor_serve.specs.declared.serve_end.ServeEnd.{ServeEnd}
 use Rattle.quaestor_serve.specs.declared.serve_end.ServeWhy.{ServeWhy}
 use Rattle.quaestor_serve.specs.declared.serve_end.ServeWhy.TheVariants.{Limit, Closed, DoorFault, Memory}
 use Rattle.quaestor_serve.specs.Going.{Going, began_with}
-use Rattle.quaestor_serve.specs.Halls.{begun_in, setting_in, seen_in, met_in}
+use Rattle.quaestor_serve.specs.Halls.{begun_in, setting_in, seen_in, met_in, IsWholeIn}
 use Rattle.quaestor_serve.specs.Kept.{HubTurnstile, setting_at}
 use Rattle.quaestor_serve.specs.declared.matcher.Matcher.TheVariants.{Thread, Here}
 use Rattle.quaestor_serve.specs.Matches.{IsMatched}
 use Rattle.quaestor_serve.specs.Matchers.{HasRested, WorksAt, WorkIn, Gathers}
 use Rattle.quaestor_serve.specs.Running.{begun_of}
 use Rattle.quaestor_serve.specs.Serves.{closings_by, Ends, EndsBy, IsUnbegun, Serves}
-use Rattle.quaestor_serve.specs.Visits.{given_of, back_of, IsWell}
-use Rattle.turnstile.specs.Places.{AllOf, Distinct}
+use Rattle.quaestor_serve.specs.Visits.{given_of, back_of, own_of, IsWell}
+use Rattle.turnstile.specs.Places.{AllOf, AreAt, Distinct}
 use Rattle.turnstile.proofs.PlaceLemmas.{all_append}
 use Rattle.turnstile.proofs.Prefixes.{prefix_self, prefix_trans}
 use Rattle.quaestor_serve.proofs.MatchLemmas.{matched_longer}
@@ -95,6 +97,17 @@ module _ {S K C : Type 0} (tick : C → ℕ → C → Type 0) (may : C → Type 
     once = λ once. once;
   }
 
+  -- no matcher was joined, though the main seat may have seen more
+  pub gathered_seen : (h l : Hall S K C) → arc_value l.turnstile ≡ arc_value h.turnstile → IsPrefix (seen_in h) (seen_in l) → met_in l ≡ met_in h → Gathers tick may h l
+  gathered_seen h l same grew met_same = record {
+    own = [];
+    turnstile = same;
+    grew = grew;
+    met = met_same ∙ sym (append-nil (met_in h));
+    matching = tt;
+    once = λ once. subst (λ (ps : List (ℕ × Entry)). Distinct ps) (sym met_same) once;
+  }
+
   -- matchers were joined, and then others
   pub gathered_both : (a b c : Hall S K C) → Gathers tick may a b → Gathers tick may b c → Gathers tick may a c
   gathered_both a b c p q =
@@ -139,6 +152,8 @@ module _ {S K C : Type 0} (source_at : S → End) (sink_at : K → End) (tick : 
     others = [];
     matching = tt;
     apart = tt;
+    at_positions = tt;
+    whole = refl;
     count_is = sym nobody;
     ends = ends;
   }
@@ -148,12 +163,13 @@ module _ {S K C : Type 0} (source_at : S → End) (sink_at : K → End) (tick : 
   serves_none g first most end some unbegun = serves_at_once g first most end unbegun.0 (none_closed end unbegun) (ends_unbegun first most end some unbegun)
 
   -- once all connections were handed back and the matchers joined, the server has served them
-  pub serves_all : (g : Setting) (first last : DoorsView S K) (h l : Hall S K C) (most : ℕ) (end : ServeEnd) → setting_in h ≡ g → h.running.items ≡ [] → IsLegal (setting_in l) (seen_in l) → Gathers tick may h l → EndsBy end.why first last end.connections most → Going source_at sink_at tick may first last h [] end.connections (closings_by end.why) → Serves source_at sink_at tick may g first last most end
-  serves_all g first last h l most end setting none legal gathers ends going =
+  pub serves_all : (g : Setting) (first last : DoorsView S K) (h l : Hall S K C) (most : ℕ) (end : ServeEnd) → setting_in h ≡ g → h.running.items ≡ [] → IsLegal (setting_in l) (seen_in l) → IsWholeIn l → Gathers tick may h l → EndsBy end.why first last end.connections most → Going source_at sink_at tick may first last h [] end.connections (closings_by end.why) → Serves source_at sink_at tick may g first last most end
+  serves_all g first last h l most end setting none legal whole gathers ends going =
       let nobody : begun_in h ≡ [] = ap (λ (rs : List (Running S K C)). map begun_of rs) none in
       let given : map given_of going.visits ++ ([] ++ map began_with (begun_in h)) ≡ map given_of going.visits = ap (λ (bs : List (Begun S K C)). map given_of going.visits ++ map began_with bs) nobody ∙ append-nil (map given_of going.visits) in
       let came_are : IsPermutation going.came (map given_of going.visits) = subst (λ (xs : List (S × K)). IsPermutation going.came xs) given going.came_are in
       let last_setting : setting_in l ≡ g = ap setting_at gathers.turnstile ∙ setting in
+      let all : met_in l ≡ flat_map own_of going.visits ++ gathers.own = gathers.met ∙ ap (λ (ps : List (ℕ × Entry)). ps ++ gathers.own) going.met in
       record {
         history = seen_in l;
         legal = subst (λ (s : Setting). IsLegal s (seen_in l)) last_setting legal;
@@ -164,7 +180,9 @@ module _ {S K C : Type 0} (source_at : S → End) (sink_at : K → End) (tick : 
         each = all_stay source_at sink_at tick may g (seen_in h) (seen_in l) going.visits gathers.grew (subst (λ (s : Setting). AllOf (IsWell source_at sink_at tick may s (seen_in h)) going.visits) setting going.each);
         others = gathers.own;
         matching = subst (λ (s : Setting). AllOf (IsMatched tick may s (seen_in l)) gathers.own) last_setting gathers.matching;
-        apart = subst (λ (ps : List (ℕ × Entry)). Distinct ps) (gathers.met ∙ ap (λ (ps : List (ℕ × Entry)). ps ++ gathers.own) going.met) (gathers.once going.once);
+        apart = subst (λ (ps : List (ℕ × Entry)). Distinct ps) all (gathers.once going.once);
+        at_positions = subst (λ (ps : List (ℕ × Entry)). AreAt (seen_in l) ps) all whole.1;
+        whole = whole.0 ∙ ap length all;
         count_is = sym (length-map going.visits given_of) ∙ length_permutation going.came (map given_of going.visits) came_are ∙ going.count_is;
         ends = ends;
       }

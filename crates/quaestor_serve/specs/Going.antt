@@ -8,7 +8,7 @@ use Rattle.quaestor_serve.specs.declared.begun.Begun.{Begun}
 use Rattle.quaestor_serve.specs.declared.hall.Hall.{Hall}
 use Rattle.quaestor_serve.specs.declared.rounds.Round.{Round}
 use Rattle.quaestor_serve.specs.declared.rounds.Round.TheVariants.{Came, NoMemory, Closed, Fault}
-use Rattle.quaestor_serve.specs.Halls.{begun_in, setting_in, seen_in, met_in, IsReady, Stays}
+use Rattle.quaestor_serve.specs.Halls.{begun_in, setting_in, seen_in, met_in, IsReady, Stays, KeepsOut}
 use Rattle.quaestor_serve.specs.Visits.{Visit, given_of, back_of, own_of, IsWell}
 use Rattle.turnstile.specs.Places.{AllOf, Distinct}
 
@@ -45,6 +45,7 @@ module _ {S K C : Type 0} (source_at : S → End) (sink_at : K → End) (tick : 
 pub record HandsBack {S K C : Type 0} (source_at : S → End) (sink_at : K → End) (tick : C → ℕ → C → Type 0) (is_clone : C → C → Type 0) (before after : DoorsView S K) (old new : Hall S K C) : Type 0 where
   pub stays : Stays old new
   pub ready : IsReady new
+  pub out : KeepsOut old new
   pub fewer : length new.running.items ≤ length old.running.items
   pub room : (more : ℕ) → HaveRoom before old more → HaveRoom after new more
   pub faults : before.faults ≤ after.faults

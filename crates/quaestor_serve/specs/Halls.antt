@@ -13,8 +13,8 @@ use Rattle.quaestor_serve.specs.declared.hall.Hall.{Hall}
 use Rattle.quaestor_serve.specs.Kept.{setting_at}
 use Rattle.quaestor_serve.specs.Running.{begun_of}
 use Rattle.quaestor_serve.specs.Served.{IsServed, sides_of}
-use Rattle.turnstile.specs.Places.{AllOf, Distinct}
-use Rattle.turnstile.specs.Seats.{seen, met}
+use Rattle.turnstile.specs.Places.{AllOf, AreAt, Distinct}
+use Rattle.turnstile.specs.Seats.{seen, met, HasOut}
 
 module _ {S K C : Type 0} where
   -- what the connections that are served began with, in no order
@@ -44,6 +44,14 @@ module _ {S K C : Type 0} where
   -- the hub is the same, and so is the number of places, none of which is lost
   abbrev pub Stays : Hall S K C → Hall S K C → Type 0
   Stays old new = (arc_value new.turnstile ≡ arc_value old.turnstile) × (new.places ≡ old.places) × (places_in new ≡ places_in old)
+
+  -- the connections' seats are counted: whatever number of others is out of the main seat, it is the same after as before
+  abbrev pub KeepsOut : Hall S K C → Hall S K C → Type 0
+  KeepsOut old new = (others : ℕ) → HasOut (others + length old.running.items) old.seat → HasOut (others + length new.running.items) new.seat
+
+  -- the main seat has seen a history that has the entries which this seat has met, each at its position, and no others
+  abbrev pub IsWholeIn : Hall S K C → Type 0
+  IsWholeIn h = (length (seen_in h) ≡ length (met_in h)) × AreAt (seen_in h) (met_in h)
 
   -- A connection has left. It was well served in what the main seat has seen now, by entries that this seat has met now, each at a position of its own.
   pub record Releases (source_at : S → End) (sink_at : K → End) (tick : C → ℕ → C → Type 0) (old new : Hall S K C) (source : S) (sink : K) (served : Served) : Type 0 where

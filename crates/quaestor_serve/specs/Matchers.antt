@@ -13,14 +13,15 @@ use Rattle.quaestor_serve.specs.Halls.{setting_in, seen_in, met_in}
 use Rattle.quaestor_serve.specs.Kept.{HubTurnstile, HubSeat, setting_at}
 use Rattle.quaestor_serve.specs.Matches.{IsMatchingAt, IsMatched}
 use Rattle.turnstile.specs.Places.{AllOf, Distinct}
-use Rattle.turnstile.specs.Seats.{IsSeatOf, IsIdle, seen, mine, met}
+use Rattle.turnstile.specs.Seats.{IsSeatOf, IsIdle, IsPart, seen, mine, met}
 
 module _ {C : Type 0} (tick : C → ℕ → C → Type 0) where
-  -- A matcher's seat is one of the turnstile's, has no turn, has met no others, and its entries match all commits before them, at moments that its clock gave.
+  -- A matcher's seat is one of the turnstile's, has no turn, has met no others, none was split off it, and its entries match all commits before them, at moments that its clock gave.
   pub record HasMatched (turnstile : HubTurnstile) (clock : C) (seat : HubSeat) (late : C) : Type 0 where
     pub own : IsSeatOf hub_setting turnstile seat
     pub idle : IsIdle seat
     pub met : met seat ≡ []
+    pub part : IsPart seat
     pub moments : List ℕ
     pub ticks : Ticks tick clock moments late
     pub matching : AllOf (IsMatchingAt (setting_at turnstile) (seen seat) moments) (mine seat)

@@ -14,7 +14,7 @@ use Rattle.quaestor_serve.specs.declared.serve_end.ServeWhy.TheVariants.{Limit, 
 use Rattle.quaestor_serve.specs.Going.{Going}
 use Rattle.quaestor_serve.specs.Matches.{IsMatched}
 use Rattle.quaestor_serve.specs.Visits.{Visit, given_of, back_of, own_of, IsWell}
-use Rattle.turnstile.specs.Places.{AllOf, Distinct}
+use Rattle.turnstile.specs.Places.{AllOf, AreAt, Distinct}
 
 -- how often the doors were closed
 abbrev pub closings_by : ServeWhy → ℕ
@@ -40,7 +40,7 @@ module _ {S K C : Type 0} (source_at : S → End) (sink_at : K → End) (tick : 
   abbrev pub Ends : (first now : DoorsView S K) → Hall S K C → ℕ → ServeEnd → Type 0
   Ends first now h most end = Going source_at sink_at tick may first now h [] end.connections (closings_by end.why) × EndsBy end.why first now end.connections most
 
-  -- Each connection that came was handed back once, in the order in which they ended, with how it was served: well, in one legal history, by entries of its own. Matchers made entries that match all commits before them, and no others. No position belongs to two of them. The cause of the end is exact.
+  -- Each connection that came was handed back once, in the order in which they ended, with how it was served: well, in one legal history, by entries of its own. Matchers made entries that match all commits before them, and no others. Each position of the history belongs to one of them: the history began empty, and nobody else made entries. The cause of the end is exact.
   pub record Serves (g : Setting) (first last : DoorsView S K) (most : ℕ) (end : ServeEnd) : Type 0 where
     pub history : List Entry
     pub legal : IsLegal g history
@@ -54,5 +54,7 @@ module _ {S K C : Type 0} (source_at : S → End) (sink_at : K → End) (tick : 
     pub others : List (ℕ × Entry)
     pub matching : AllOf (IsMatched tick may g history) others
     pub apart : Distinct (flat_map own_of visits ++ others)
+    pub at_positions : AreAt history (flat_map own_of visits ++ others)
+    pub whole : length history ≡ length (flat_map own_of visits ++ others)
     pub count_is : length visits ≡ end.connections
     pub ends : EndsBy end.why first last end.connections most

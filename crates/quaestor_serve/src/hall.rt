@@ -3,6 +3,7 @@ ghost use Rattle.std.specs.Prelude.{◌≡◌, ◌+◌, ◌≤◌, [], vec_len, 
 ghost use Rattle.std.specs.Arc.{arc_value};
 ghost use Rattle.std.specs.VecDeque.{deque_len, deque_capacity};
 ghost use Rattle.hub_desk.specs.HubValue.{hub_setting};
+ghost use Rattle.quaestor_serve.specs.Kept.{IsFirst};
 ghost use Rattle.turnstile.specs.Seats.{IsSeatOf, IsIdle, mine, setting_of};
 
 use crate::endings::Endings;
@@ -32,7 +33,7 @@ pub(crate) struct Hall<S: Source + Drop, K: Sink + Drop, C: Clock + Drop> {
     pub endings: Arc<Endings, Global>,
     /// How many connections may be there at the same time.
     pub places: u32,
-    ghost seated: { IsSeatOf hub_setting (arc_value turnstile) seat × IsIdle seat × (mine seat ≡ []) },
+    ghost seated: { IsSeatOf hub_setting (arc_value turnstile) seat × IsIdle seat × (mine seat ≡ []) × IsFirst seat },
     ghost counted: { deque_len running + vec_len vacant ≤ places },
     ghost pooled: { (arc_value pool).config ≡ setting_of hub_setting (arc_value turnstile) },
     ghost queue: { places ≤ deque_capacity running },

@@ -1,12 +1,12 @@
 //! The matchers of a server.
-ghost use Rattle.std.specs.Prelude.{◌≡◌, ◌+◌, ◌≤◌, [], ◌∷◌, length};
+ghost use Rattle.std.specs.Prelude.{◌≡◌, ℕ, ◌+◌, ◌≤◌, [], ◌∷◌, length};
 ghost use Rattle.std.specs.Arc.{arc_value};
 ghost use Rattle.std.specs.VecDeque.{deque_len, deque_capacity};
 ghost use Rattle.hub_desk.specs.HubValue.{hub_setting};
-ghost use Rattle.quaestor_serve.specs.Halls.{IsReady};
+ghost use Rattle.quaestor_serve.specs.Halls.{IsReady, IsWholeIn};
 ghost use Rattle.quaestor_serve.specs.Kept.{IsFreshAt};
 ghost use Rattle.turnstile.specs.Places.{AllOf};
-ghost use Rattle.turnstile.specs.Seats.{IsSeatOf, IsIdle};
+ghost use Rattle.turnstile.specs.Seats.{IsSeatOf, IsIdle, HasOut};
 ghost use Rattle.quaestor_serve.specs.Matchers.{HasMatched, HasRested, WorksAt, WorkIn, IsAsBefore, Gathers};
 
 use crate::hall::Hall;
@@ -95,6 +95,7 @@ where
     requires capacity { count ≤ deque_capacity matchers.old }
     ensures ready { IsReady hall.new }
     ensures same { IsAsBefore hall.old hall.new }
+    ensures out { (others : ℕ) → HasOut others hall.old.seat → HasOut (others + length matchers.new.items) hall.new.seat }
     ensures work { WorkIn C.tick (C.is_clone clock.now) hall.new matchers.new.items }
 {
     for _n in 0..count {
@@ -153,7 +154,8 @@ pub(crate) fn step_all<C: Clock + Clone + Drop, R: Wait>(
     given: &C,
 )
     requires { AllOf (λ m. WorksAt C.tick (C.is_clone given.now) turnstile.now m) matchers.old.items }
-    ensures { AllOf (λ m. WorksAt C.tick (C.is_clone given.now) turnstile.now m) matchers.new.items }
+    ensures work { AllOf (λ m. WorksAt C.tick (C.is_clone given.now) turnstile.now m) matchers.new.items }
+    ensures count { length matchers.new.items ≡ length matchers.old.items }
 {
     for _n in 0..matchers.len() {
         let Some(matcher) = matchers.pop_front() else {
@@ -191,13 +193,14 @@ where
     requires work { WorksAt C.tick (C.is_clone given.now) (arc_value hall.old.turnstile) matcher }
     ensures ready { IsReady hall.new }
     ensures gathers { Gathers C.tick (C.is_clone given.now) hall.old hall.new }
+    ensures out { (others : ℕ) → HasOut (others + 1) hall.old.seat → HasOut others hall.new.seat }
 {
     let Rested { seat, clock: _ } = finish_matcher(rt, &hall.turnstile, matcher, given);
     hall.turnstile.join(&mut hall.seat, seat);
 }
 
-/// Stops all matchers.
-pub(crate) fn stop_matchers<S, K, C, R>(
+/// Waits for the end of each matcher, and joins all their seats to the main one.
+fn join_matchers<S, K, C, R>(
     rt: &R,
     hall: &mut Hall<S, K, C>,
     mut matchers: VecDeque<Matcher<C>>,
@@ -212,16 +215,40 @@ where
     requires work { WorkIn C.tick (C.is_clone given.now) hall.old matchers.items }
     ensures ready { IsReady hall.new }
     ensures gathers { Gathers C.tick (C.is_clone given.now) hall.old hall.new }
+    ensures out { (others : ℕ) → HasOut (others + length matchers.items) hall.old.seat → HasOut others hall.new.seat }
 {
-    for matcher in matchers.iter() {
-        if let Matcher::Thread { handle: _, stop } = matcher {
-            stop.set();
-        }
-    }
     for _n in 0..matchers.len() {
         let Some(matcher) = matchers.pop_front() else {
             return;
         };
         end_matcher(rt, hall, matcher, given);
     }
+}
+
+/// Stops all matchers, and looks at the history as they left it. Where no connection is served any
+/// more, the main seat has met all its entries then.
+pub(crate) fn stop_matchers<S, K, C, R>(
+    rt: &R,
+    hall: &mut Hall<S, K, C>,
+    matchers: VecDeque<Matcher<C>>,
+    given: &C,
+)
+where
+    S: Source + Drop,
+    K: Sink + Drop,
+    C: Clock + Clone + Drop,
+    R: Threads,
+    requires ready { IsReady hall.old }
+    requires work { WorkIn C.tick (C.is_clone given.now) hall.old matchers.items }
+    ensures ready { IsReady hall.new }
+    ensures gathers { Gathers C.tick (C.is_clone given.now) hall.old hall.new }
+    ensures whole { HasOut (length matchers.items) hall.old.seat → IsWholeIn hall.new }
+{
+    for matcher in matchers.iter() {
+        if let Matcher::Thread { handle: _, stop } = matcher {
+            stop.set();
+        }
+    }
+    join_matchers(rt, hall, matchers, given);
+    hall.turnstile.settle(&mut hall.seat);
 }

@@ -4,7 +4,7 @@ ghost use Rattle.std.specs.Arc.{arc_value};
 ghost use Rattle.std.specs.VecDeque.{deque_len};
 ghost use Rattle.q_outside.specs.Doors.{DoorsView};
 ghost use Rattle.quaestor_serve.specs.declared.begun.Done.{Done};
-ghost use Rattle.quaestor_serve.specs.Halls.{IsReady, Stays, setting_in};
+ghost use Rattle.quaestor_serve.specs.Halls.{IsReady, Stays, KeepsOut, setting_in};
 ghost use Rattle.quaestor_serve.specs.Going.{Going, HaveRoom, GoesOn, HandsBack};
 ghost use Rattle.quaestor_serve.specs.Kept.{KeptOf};
 
@@ -172,7 +172,7 @@ where
 }
 
 /// Begins to serve a connection that came, at a vacant place.
-#[tactic(auto, using(crate::proofs::HallLemmas::ready_split))]
+#[tactic(auto, using(crate::proofs::HallLemmas::ready_split, crate::proofs::HallLemmas::fresh_split))]
 fn admit<P, C, G, R>(
     rt: &R,
     alloc: Global,
@@ -198,6 +198,7 @@ where
     requires turnstile { arc_value turnstile ≡ arc_value hall.old.turnstile }
     ensures stays { Stays hall.old hall.new }
     ensures ready { IsReady hall.new }
+    ensures out { KeepsOut hall.old hall.new }
     ensures room { HaveRoom (P.at doors.new) hall.new 0 }
     ensures going { (given : C) (first : DoorsView P.From P.To) (count : ℕ) → C.is_clone given clock → Going P.From.at P.To.at C.tick (C.is_clone given) first (P.at doors.old) hall.old ((source, sink) ∷ []) count 0 → Going P.From.at P.To.at C.tick (C.is_clone given) first (P.at doors.new) hall.new [] count 0 }
 {
@@ -242,6 +243,7 @@ where
     requires room { HaveRoom (P.at doors.old) hall.old 0 }
     ensures stays { Stays hall.old hall.new }
     ensures ready { IsReady hall.new }
+    ensures out { KeepsOut hall.old hall.new }
     ensures room { HaveRoom (P.at doors.new) hall.new 0 }
     ensures going { (first : DoorsView P.From P.To) (count : ℕ) → Going P.From.at P.To.at C.tick (C.is_clone clock.now) first (P.at doors.old) hall.old [] count 0 → GoesOn P.From.at P.To.at C.tick (C.is_clone clock.now) first (P.at doors.new) hall.new count result }
 {

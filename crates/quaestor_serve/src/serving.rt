@@ -1,11 +1,12 @@
 //! A server from its beginning to its end.
-ghost use Rattle.std.specs.Prelude.{◌≡◌, ℕ, ◌<◌, ◌≤◌, [], vec_len, vec_capacity, IfOk};
+ghost use Rattle.std.specs.Prelude.{◌≡◌, ℕ, ◌+◌, ◌<◌, ◌≤◌, [], length, vec_len, vec_capacity, IfOk};
 ghost use Rattle.std.specs.VecDeque.{deque_capacity};
 ghost use Rattle.q_outside.specs.Doors.{DoorsView};
-ghost use Rattle.quaestor_serve.specs.Halls.{IsReady, Stays, met_in, setting_in};
+ghost use Rattle.quaestor_serve.specs.Halls.{IsReady, Stays, KeepsOut, met_in, setting_in};
 ghost use Rattle.quaestor_serve.specs.Going.{Going, HaveRoom};
 ghost use Rattle.quaestor_serve.specs.Matchers.{WorkIn};
 ghost use Rattle.quaestor_serve.specs.Serves.{Ends, IsUnbegun, Serves};
+ghost use Rattle.turnstile.specs.Seats.{HasOut};
 
 use crate::crew::Crew;
 use crate::endings::Endings;
@@ -52,6 +53,7 @@ where
     ensures ready { IfOk result (λ h. IsReady h) }
     ensures setting { IfOk result (λ h. setting_in h ≡ config) }
     ensures empty { IfOk result (λ h. (h.running.items ≡ []) × (met_in h ≡ [])) }
+    ensures out { IfOk result (λ h. HasOut 0 h.seat) }
 {
     // The law that an empty history is legal.
     no_entry_is_legal();
@@ -107,6 +109,8 @@ where
     ensures stays { Stays hall.old hall.new }
     ensures ready { IsReady hall.new }
     ensures room { HaveRoom (P.at doors.new) hall.new 0 }
+    ensures out { KeepsOut hall.old hall.new }
+    ensures count { length matchers.new.items ≡ length matchers.old.items }
     ensures work { WorkIn C.tick (C.is_clone clock.now) hall.new matchers.new.items }
     ensures ends { (first : DoorsView P.From P.To) → Going P.From.at P.To.at C.tick (C.is_clone clock.now) first (P.at doors.old) hall.old [] 0 0 → Ends P.From.at P.To.at C.tick (C.is_clone clock.now) first (P.at doors.new) hall.new connections result }
 {
@@ -156,6 +160,7 @@ where
     ensures setting { setting_in hall.new ≡ setting_in hall.old }
     ensures ready { IsReady hall.new }
     ensures room { HaveRoom (P.at doors.new) hall.new 0 }
+    ensures out { HasOut 0 hall.old.seat → HasOut (length matchers.new.items + length hall.new.running.items) hall.new.seat }
     ensures work { WorkIn C.tick (C.is_clone clock.now) hall.new matchers.new.items }
     ensures ends { Ends P.From.at P.To.at C.tick (C.is_clone clock.now) (P.at doors.old) (P.at doors.new) hall.new connections result }
 {

@@ -1,7 +1,7 @@
 //! A connection leaves the hall.
 ghost use Rattle.std.specs.Prelude.{◌≡◌, ◌+◌, ◌<◌};
 ghost use Rattle.std.specs.VecDeque.{deque_len};
-ghost use Rattle.quaestor_serve.specs.Halls.{IsReady, Stays, Releases};
+ghost use Rattle.quaestor_serve.specs.Halls.{IsReady, Stays, KeepsOut, Releases};
 
 use crate::begun::Done;
 use crate::hall::Hall;
@@ -55,6 +55,7 @@ where
     requires ready { IsReady hall.old }
     ensures stays { Stays hall.old hall.new }
     ensures ready { IsReady hall.new }
+    ensures out { KeepsOut hall.old hall.new }
     ensures fewer { deque_len hall.new.running + 1 ≡ deque_len hall.old.running }
     ensures releases { Releases S.at K.at C.tick hall.old hall.new result.source result.sink result.served }
 {

@@ -19,14 +19,21 @@ use turnstile::Turnstile;
 
 impl<R: Wait> Desk for Seated<'_, R> {
     /// The turnstile, and of the seat its number, the entries that it met, how many seats were split
-    /// off it, and what was seen at its joins.
+    /// off it, what was seen at its joins, and the levels of the seats that it is made of and of those
+    /// that were split off these.
     type Anchor = (
         Turnstile<HubValue>,
         (
             u64,
             (
                 LinkedList<(u64, Noted)>,
-                (u64, LinkedList<LinkedList<Noted>>),
+                (
+                    u64,
+                    (
+                        LinkedList<LinkedList<Noted>>,
+                        (LinkedList<u64>, LinkedList<u64>),
+                    ),
+                ),
             ),
         ),
     );

@@ -4,7 +4,7 @@ use Rattle.std.proofs.Common.{rules, [], ◌∷◌, refl, ap}
 use Rattle.std.specs.Arc.{arc_value}
 use Rattle.quaestor_serve.proofs.CrossingLemmas.{leaves, connection_send}
 use Rattle.quaestor_serve.proofs.GoingLemmas.{goes_in, going_same, room_with}
-use Rattle.quaestor_serve.proofs.HallLemmas.{ready_more}
+use Rattle.quaestor_serve.proofs.HallLemmas.{keeps_with, ready_more}
 use Rattle.quaestor_serve.proofs.rounds.admit.Goals as goal
 
 pub start-handle-requires-send-F : goal.start-handle-requires-send-F
@@ -23,3 +23,6 @@ returns-clause-going g c = λ given first count is_clone going.
     goes_in g.P.From.Source.at g.P.To.Sink.at g.C.Clock.tick (g.C.Clone.is_clone given) first (g.P.Doors.at c.start-handle.new.doors) c.start-handle.new.hall _ _ count c.args.source c.args.sink c.args.clock refl c.push_back_reserved.ensures.items (search rules) (search rules) (search rules) refl refl is_clone
     (c.start-handle.ensures.hands.going given first ((c.args.source, c.args.sink) ∷ []) count 0
     (going_same g.P.From.Source.at g.P.To.Sink.at g.C.Clock.tick (g.C.Clone.is_clone given) first (g.P.Doors.at c.args.doors.now) c.args.hall.now _ ((c.args.source, c.args.sink) ∷ []) count 0 (refl, refl, refl, ap (λ m. m.0.met) c.split-seat.ensures.view, ap (λ m. m.0.seen) c.split-seat.ensures.view) going))
+
+pub returns-clause-out : goal.returns-clause-out
+returns-clause-out g c = keeps_with c.args.hall.now.running.items c.start-handle.new.hall.running.items c.push_back_reserved.new.self.items c.args.hall.now.seat c.split-seat.new.seat c.start-handle.new.hall.seat _ (λ n was. (c.split-seat.ensures.out n was).0) c.start-handle.ensures.hands.out c.push_back_reserved.ensures.items

@@ -16,3 +16,7 @@ loop-preserved g c = (
   search rules,
   hands_both g.P.From.Source.at g.P.To.Sink.at g.C.Clock.tick g.C.Clone.is_clone (g.P.Doors.at c.args.doors.now) (g.P.Doors.at c.loop.doors) _ c.args.hall.now c.loop.hall c.hand_back_ended.new.hall c.loop.invariant.2 c.hand_back_ended.ensures,
 )
+
+pub returns-then-is_empty-clause-hands : goal.returns-then-is_empty-clause-hands
+returns-then-is_empty-clause-hands g c =
+    hands_both g.P.From.Source.at g.P.To.Sink.at g.C.Clock.tick g.C.Clone.is_clone (g.P.Doors.at c.args.doors.now) (g.P.Doors.at c.loop.doors) _ c.args.hall.now c.loop.hall c.hand_back_ended.new.hall c.loop.invariant.2 c.hand_back_ended.ensures

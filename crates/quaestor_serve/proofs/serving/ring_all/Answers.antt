@@ -1,5 +1,8 @@
 -- the cause is that of the last round
-use Rattle.std.proofs.Common.{arith}
+use Rattle.std.proofs.Common.{arith, rules, subst, ◌∙◌}
+use Rattle.quaestor_serve.specs.Kept.{HubTurnstile}
+use Rattle.quaestor_serve.specs.Matchers.{WorksAt}
+use Rattle.turnstile.specs.Places.{AllOf}
 use Rattle.quaestor_serve.specs.declared.serve_end.ServeWhy.TheVariants.{Memory, Closed, DoorFault}
 use Rattle.quaestor_serve.proofs.ServesLemmas.{ended_by}
 use Rattle.quaestor_serve.proofs.serving.ring_all.Goals as goal
@@ -14,3 +17,17 @@ returns-in-loop-given-clause-ends g c = λ first going.
       | in-Closed w ↦ ended_by g.P.From.Source.at g.P.To.Sink.at g.C.Clock.tick (g.C.Clone.is_clone c.args.clock.now) first _ _ c.loop-given.given c.args.connections c.match-ring.why Closed w.why-is (w.in-Closed.ensures.going first c.loop-given.given before) less
       | in-Fault w ↦ let failed = w.in-Fault.ensures.going first c.loop-given.given before in ended_by g.P.From.Source.at g.P.To.Sink.at g.C.Clock.tick (g.C.Clone.is_clone c.args.clock.now) first _ _ c.loop-given.given c.args.connections c.match-ring.why DoorFault w.why-is failed.0 (less, failed.1)
     ]
+
+pub loop-given-preserved : goal.loop-given-preserved
+loop-given-preserved g c = (
+  search rules,
+  search rules,
+  search rules,
+  subst (λ (t : HubTurnstile). AllOf (λ m. WorksAt g.C.Clock.tick (g.C.Clone.is_clone c.args.clock.now) t m) c.step_all.new.matchers.items) c.deref.ensures c.step_all.ensures.work,
+  search rules,
+  λ others was. c.ring.ensures.out others (c.loop-given.invariant.5 others was),
+  c.step_all.ensures.count ∙ c.loop-given.invariant.6,
+)
+
+pub returns-in-loop-given-clause-out : goal.returns-in-loop-given-clause-out
+returns-in-loop-given-clause-out g c = λ others was. c.ring.ensures.out others (c.loop-given.invariant.5 others was)

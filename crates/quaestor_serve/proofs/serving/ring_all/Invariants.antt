@@ -1,8 +1,8 @@
 -- the number of connections that came is that of the rounds, and the doors were not closed
-use Rattle.std.proofs.Common.{[]}
+use Rattle.std.proofs.Common.{◌≡◌, [], length}
 use Rattle.q_outside.specs.Doors.{DoorsView}
 use Rattle.quaestor_serve.specs.Going.{Going, HaveRoom}
-use Rattle.quaestor_serve.specs.Halls.{IsReady, Stays}
+use Rattle.quaestor_serve.specs.Halls.{IsReady, Stays, KeepsOut}
 use Rattle.quaestor_serve.specs.Matchers.{WorkIn}
 use Rattle.quaestor_serve.proofs.serving.ring_all.Given as goal
 
@@ -15,3 +15,5 @@ invariant-loop-given g l =
     × ((first : DoorsView g.row.P-From.Denot g.row.P-To.Denot)
     → Going g.P.From.Source.at g.P.To.Sink.at g.C.Clock.tick (g.C.Clone.is_clone l.clock) first (g.P.Doors.at l.initial.doors) l.initial.hall [] 0 0
     → Going g.P.From.Source.at g.P.To.Sink.at g.C.Clock.tick (g.C.Clone.is_clone l.clock) first (g.P.Doors.at l.doors) l.hall [] l.given 0)
+    × KeepsOut l.initial.hall l.hall
+    × (length l.matchers.items ≡ length l.initial.matchers.items)

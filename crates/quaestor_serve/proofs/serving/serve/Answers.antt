@@ -1,8 +1,9 @@
 -- all connections were handed back and all matchers joined
-use Rattle.std.proofs.Common.{[], rules, refl, ap, ◌∙◌}
+use Rattle.std.proofs.Common.{[], length, rules, refl, ap, ◌∙◌}
 use Rattle.quaestor_serve.specs.Kept.{setting_at}
 use Rattle.quaestor_serve.specs.Serves.{closings_by}
 use Rattle.quaestor_serve.specs.declared.serve_end.ServeWhy.TheVariants.{Limit}
+use Rattle.quaestor_serve.proofs.HallLemmas.{none_out}
 use Rattle.quaestor_serve.proofs.ServesLemmas.{ends_later, none_of, serves_none, serves_at_once, serves_all, work_stays}
 use Rattle.quaestor_serve.proofs.serving.serve.Goals as goal
 
@@ -25,6 +26,7 @@ returns g c =
     (ap setting_at c.drain.ensures.hands.stays.0 ∙ c.serve_all-end.ensures.setting ∙ c.in-Ok-hall_of.ensures.setting)
     (none_of _ c.drain.new.hall.running.items c.drain.new.hall.running.ok.0 c.drain.ensures.empty)
     c.stop_matchers.ensures.ready.1
+    (c.stop_matchers.ensures.whole (none_out c.drain.new.hall.running.items c.drain.new.hall.seat (length c.serve_all-end.new.matchers.items) (ap length (none_of _ c.drain.new.hall.running.items c.drain.new.hall.running.ok.0 c.drain.ensures.empty)) (c.drain.ensures.hands.out (length c.serve_all-end.new.matchers.items) (c.serve_all-end.ensures.out c.in-Ok-hall_of.ensures.out))))
     c.stop_matchers.ensures.gathers
     (ends_later end.why _ _ _ end.connections c.args.connections c.drain.ensures.hands.faults c.serve_all-end.ensures.ends.1)
     (c.drain.ensures.hands.going c.args.clock.now _ [] end.connections (closings_by end.why) c.serve_all-end.ensures.ends.0)

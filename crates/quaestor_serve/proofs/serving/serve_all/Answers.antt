@@ -1,6 +1,7 @@
 -- at first nothing was done, and starting matchers changes nothing for connections
-use Rattle.std.proofs.Common.{[]}
+use Rattle.std.proofs.Common.{[], length, refl}
 use Rattle.quaestor_serve.proofs.GoingLemmas.{going_begins, going_same}
+use Rattle.quaestor_serve.proofs.HallLemmas.{all_out}
 use Rattle.quaestor_serve.proofs.ServesLemmas.{ends_none}
 use Rattle.quaestor_serve.proofs.serving.serve_all.Goals as goal
 
@@ -13,3 +14,9 @@ pub returns-clause-ends : goal.returns-clause-ends
 returns-clause-ends g c =
     c.ring_all.ensures.ends (g.P.Doors.at c.args.doors.now)
     (going_same g.P.From.Source.at g.P.To.Sink.at g.C.Clock.tick (g.C.Clone.is_clone c.args.clock.now) (g.P.Doors.at c.args.doors.now) (g.P.Doors.at c.args.doors.now) c.args.hall.now c.start_matchers.new.hall [] 0 0 c.start_matchers.ensures.same (going_begins g.P.From.Source.at g.P.To.Sink.at g.C.Clock.tick (g.C.Clone.is_clone c.args.clock.now) (g.P.Doors.at c.args.doors.now) c.args.hall.now c.requires.empty.0 c.requires.empty.1))
+
+pub returns-clause-out : goal.returns-clause-out
+returns-clause-out g c = λ out. all_out c.args.hall.now.running.items c.start_matchers.new.hall.running.items c.ring_all.new.hall.running.items c.start_matchers.new.hall.seat c.ring_all.new.hall.seat (length c.start_matchers.new.matchers.items) (length c.ring_all.new.matchers.items) c.requires.empty.0 c.start_matchers.ensures.same.2 c.ring_all.ensures.count (c.start_matchers.ensures.out 0 out) c.ring_all.ensures.out
+
+pub returns-then-is_err-clause-out : goal.returns-then-is_err-clause-out
+returns-then-is_err-clause-out g c = λ out. all_out c.args.hall.now.running.items c.start_matchers.new.hall.running.items c.start_matchers.new.hall.running.items c.start_matchers.new.hall.seat c.start_matchers.new.hall.seat (length c.start_matchers.new.matchers.items) (length c.start_matchers.new.matchers.items) c.requires.empty.0 c.start_matchers.ensures.same.2 refl (c.start_matchers.ensures.out 0 out) (λ others was. was)

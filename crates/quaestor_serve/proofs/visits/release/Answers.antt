@@ -3,7 +3,7 @@ use Rattle.std.proofs.Common.{refl, ap, sym, subst}
 use Rattle.hub_desk.specs.HubValue.{hub_setting}
 use Rattle.quaestor_serve.specs.Kept.{HubTurnstile}
 use Rattle.turnstile.specs.Seats.{IsSeatOf}
-use Rattle.quaestor_serve.proofs.HallLemmas.{ready_without, released, seat_at}
+use Rattle.quaestor_serve.proofs.HallLemmas.{keeps_without, ready_without, released, seat_at}
 use Rattle.quaestor_serve.proofs.visits.release.Goals as goal
 
 pub join-requires-clause-own : goal.join-requires-clause-own
@@ -17,3 +17,6 @@ returns-clause-ready g c = ready_without _ c.deref.result.now c.args.hall.now.ru
 
 pub returns-clause-releases : goal.returns-clause-releases
 returns-clause-releases g c = released g.S.Source.at g.K.Sink.at g.C.Clock.tick c.args.hall.now _ c.in-Some.running c.finish-seat.result c.in-Some.ensures.permutation refl c.requires.ready.0 c.finish-seat.ensures c.join.ensures.this c.join.ensures.that (ap (λ m. m.0.met) c.join.ensures.view) c.join.ensures.sound.once
+
+pub returns-clause-out : goal.returns-clause-out
+returns-clause-out g c = keeps_without c.args.hall.now.running.items c.swap_remove_back.new.self.items c.args.hall.now.seat c.join.new.into c.in-Some.running c.in-Some.ensures.permutation (λ n was. c.join.ensures.out n was c.finish-seat.ensures.part)
