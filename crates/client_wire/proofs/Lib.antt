@@ -1,0 +1,8 @@
+mod BodyLemmas
+mod HeadLemmas
+mod LinkLemmas
+mod NumberLemmas
+mod PieceLemmas
+mod RequestLemmas
+mod StandardFacts
+mod TakenLemmas

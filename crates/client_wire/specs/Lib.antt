@@ -1,0 +1,10 @@
+pub mod Heads
+pub mod Judged
+pub mod Links
+pub mod Numbers
+pub mod ReplyFields
+pub mod ReplyHead
+pub mod Requests
+pub mod Taken
+pub mod Taking
+pub mod Values

@@ -1,0 +1,7 @@
+mod FieldLemmas
+mod LineLemmas
+mod PartLemmas
+mod ReplyLemmas
+mod SizeLemmas
+mod ToldLemmas
+mod ValueLemmas
