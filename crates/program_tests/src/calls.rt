@@ -3,6 +3,7 @@ ghost use Rattle.std.specs.Prelude.{◌≡◌, ◌<◌, IfOk, IfSome};
 ghost use Rattle.quaestor_prog.specs.ListPlaces.{AreUnused};
 
 use crate::worked::GIVEN;
+use client_session::{LinkAnswer, SessionRefusal};
 use q_base::{Memory, Moment};
 use q_outside::{
     EndlessSink, FixedClock, Limits, ListDoors, ListSink, ListSource, PlainSource, Script, Served,
@@ -56,21 +57,25 @@ pub(crate) struct Comers {
     pub failing: Option<u64>,
 }
 
-/// How a run ended, what it wrote, how the connections were served that the places have back, where they
-/// have doors, and which limits of time the places were asked for.
+/// How a run ended, what it wrote, and what the places have then.
 #[derive(Debug, Drop)]
 pub(crate) struct Outcome {
     pub status: Status,
     pub written: Vec<u8>,
-    pub handed: Option<Vec<Option<Served>>>,
-    pub limits: Option<Limits>,
+    pub kept: Kept,
 }
 
 /// What the places have at the end of a run.
 #[derive(Debug, Drop)]
 pub(crate) struct Kept {
+    /// How the connections were served, where the places have doors.
     pub handed: Option<Vec<Option<Served>>>,
+    /// The limits of time that they were asked for.
     pub limits: Option<Limits>,
+    /// How many answers the link has left, where the places have one.
+    pub left: Option<usize>,
+    /// Why a read had no answer.
+    pub heard: Option<SessionRefusal>,
 }
 
 /// A script of such calls.
@@ -134,6 +139,13 @@ fn handed_of<M: Ledger>(
     Ok(Some(handed))
 }
 
+/// What there is at the address: who comes, and what a link answers, the first answer last.
+#[derive(Drop)]
+pub(crate) struct Place {
+    pub comers: Option<Comers>,
+    pub answers: Option<Vec<LinkAnswer>>,
+}
+
 /// Runs the program over doors and places whose counts are those of these ledgers. Its status, and what
 /// the places have at the end.
 pub(crate) fn run_with<K, M, F, R>(
@@ -142,7 +154,7 @@ pub(crate) fn run_with<K, M, F, R>(
     words: &[String],
     source: &mut ListSource,
     sink: &mut K,
-    comers: Option<Comers>,
+    place: Place,
     doors: Blank,
     places: Blank,
 ) -> Result<(Status, Kept), Memory>
@@ -158,12 +170,19 @@ where
         at: Moment::of(GIVEN),
     };
     let address = String::from_str(alloc, "here")?;
-    let doors = doors_of::<M>(alloc, comers, doors)?;
-    let mut places = ListPlaces::<PlainSource, EndlessSink, M, F>::new(address, doors, places);
+    let doors = doors_of::<M>(alloc, place.comers, doors)?;
+    let mut places = ListPlaces::<PlainSource, EndlessSink, M, F>::new(
+        address,
+        doors,
+        place.answers,
+        places,
+    );
     let status = run(rt, alloc, words, source, sink, &mut clock, &mut places);
     let kept = Kept {
         handed: handed_of(alloc, places.kept)?,
         limits: places.limits,
+        left: places.link.as_ref().map(|link| link.answers.len()),
+        heard: places.heard,
     };
     Ok((status, kept))
 }
@@ -176,7 +195,7 @@ fn run_counted<L, M, F, R>(
     source: &mut ListSource,
     capacity: usize,
     script: Script,
-    comers: Option<Comers>,
+    place: Place,
     sink: Blank,
     doors: Blank,
     places: Blank,
@@ -192,25 +211,24 @@ where
 {
     let mut sink = ListSink::<L>::new(alloc, capacity, script, sink)?;
     let (status, kept) = run_with::<ListSink<L>, M, F, R>(
-        rt, alloc, words, source, &mut sink, comers, doors, places,
+        rt, alloc, words, source, &mut sink, place, doors, places,
     )?;
     Ok(Outcome {
         status,
         written: sink.bytes,
-        handed: kept.handed,
-        limits: kept.limits,
+        kept,
     })
 }
 
-/// Runs the program with these words over this input, where such connections come.
-pub(crate) fn run_at<R: Threads + Wait + Copy + Send + AllocGlobal + 'static>(
+/// Runs the program with these words over this input and this place.
+fn run_in<R: Threads + Wait + Copy + Send + AllocGlobal + 'static>(
     rt: &R,
     line: &[&str],
     input: &[u8],
     takes: Calls,
     capacity: usize,
     gives: Calls,
-    comers: Option<Comers>,
+    place: Place,
 ) -> Result<Outcome, Memory> {
     let alloc = rt.alloc();
     let words = words_of(alloc, line)?;
@@ -224,10 +242,49 @@ pub(crate) fn run_at<R: Threads + Wait + Copy + Send + AllocGlobal + 'static>(
         &mut source,
         capacity,
         script,
+        place,
+        Blank::new(1),
+        Blank::new(1),
+        Blank::new(1),
+    )
+}
+
+/// Runs the program with these words over this input, where such connections come.
+pub(crate) fn run_at<R: Threads + Wait + Copy + Send + AllocGlobal + 'static>(
+    rt: &R,
+    line: &[&str],
+    input: &[u8],
+    takes: Calls,
+    capacity: usize,
+    gives: Calls,
+    comers: Option<Comers>,
+) -> Result<Outcome, Memory> {
+    let place = Place {
         comers,
-        Blank::new(1),
-        Blank::new(1),
-        Blank::new(1),
+        answers: None,
+    };
+    run_in(rt, line, input, takes, capacity, gives, place)
+}
+
+/// Runs the program with these words, where a link answers so, over a sink of this capacity.
+pub(crate) fn read_over<R: Threads + Wait + Copy + Send + AllocGlobal + 'static>(
+    rt: &R,
+    line: &[&str],
+    answers: Option<Vec<LinkAnswer>>,
+    capacity: usize,
+) -> Result<Outcome, Memory> {
+    let place = Place {
+        comers: None,
+        answers,
+    };
+    run_in(
+        rt,
+        line,
+        b"x",
+        calls_of(WHOLE),
+        capacity,
+        calls_of(WHOLE),
+        place,
     )
 }
 

@@ -2,7 +2,7 @@
 ghost use Rattle.std.specs.Prelude.{None};
 
 use crate::calls::{
-    AMPLE, Comers, WHOLE, assert_run, calls_of, pipe_over, run_with, script_of, words_of,
+    AMPLE, Comers, Place, WHOLE, assert_run, calls_of, pipe_over, run_with, script_of, words_of,
 };
 use crate::texts::{Row, joined, repeated, reply_of};
 use crate::worked::{CLOSED, ELSEWHERE, EMPTY, GET, NO_ROUTE, NO_ROUTE_LAST, PUT};
@@ -61,9 +61,12 @@ fn run_ended<R: Threads + Wait + Copy + Send + AllocGlobal + 'static>(
     let alloc = rt.alloc();
     let words = words_of(alloc, line)?;
     let mut source = ListSource::of(joined(alloc, PUT, GET)?, script_of(alloc, calls_of(WHOLE))?);
-    let comers = Comers {
-        connections: 1,
-        failing: None,
+    let place = Place {
+        comers: Some(Comers {
+            connections: 1,
+            failing: None,
+        }),
+        answers: Some(Vec::new(alloc)),
     };
     let (status, _) = run_with::<Ended, Brand, Brand, R>(
         rt,
@@ -71,7 +74,7 @@ fn run_ended<R: Threads + Wait + Copy + Send + AllocGlobal + 'static>(
         &words,
         &mut source,
         sink,
-        Some(comers),
+        place,
         Blank::new(1),
         Blank::new(1),
     )?;
@@ -80,11 +83,16 @@ fn run_ended<R: Threads + Wait + Copy + Send + AllocGlobal + 'static>(
 
 #[test]
 fn the_sink_is_ended_once_behind_all_that_is_given(rt: HostRuntime) -> Result<(), Fail> {
-    let rows: [(&[&str], Status); 4] = [
+    let rows: [(&[&str], Status); 6] = [
         (&["pipe"], Status::Done),
         (&["serve"], Status::Words),
         (&["serve", "here"], Status::Done),
         (&["serve", "there"], Status::PlaceFault),
+        (&["read", "here", "strong", "r/shop/p1"], Status::LinkFault),
+        (
+            &["read", "there", "strong", "r/shop/p1"],
+            Status::PlaceFault,
+        ),
     ];
     for (at, (line, status)) in rows.into_iter().enumerate() {
         let mut sink = Ended {

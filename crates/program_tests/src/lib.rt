@@ -16,6 +16,8 @@ mod helped;
 #[cfg(test)]
 mod purges;
 #[cfg(test)]
+mod reads;
+#[cfg(test)]
 mod serving;
 #[cfg(test)]
 mod tagged;

@@ -21,7 +21,7 @@ const FAILING: Option<Comers> = Some(Comers {
 
 /// How many connections the places have back, where they have doors.
 fn count_of(outcome: &Outcome) -> Option<usize> {
-    outcome.handed.as_ref().map(|handed| handed.len())
+    outcome.kept.handed.as_ref().map(|handed| handed.len())
 }
 
 #[test]
@@ -89,7 +89,7 @@ fn a_server_says_what_it_does(rt: HostRuntime) -> Result<(), Fail> {
         assert_eq!(rt; outcome.status, status, "at {at}");
         assert_eq!(rt; outcome.written.as_slice(), written, "at {at}");
         assert_eq!(rt; count_of(&outcome), count, "at {at}");
-        if let Some(handed) = &outcome.handed {
+        if let Some(handed) = &outcome.kept.handed {
             for served in handed {
                 assert_eq!(rt; *served, Some(well), "at {at}");
             }
@@ -177,7 +177,7 @@ fn the_places_get_the_limits_of_time(rt: HostRuntime) -> Result<(), Fail> {
             calls_of(WHOLE),
             coming(1),
         )?;
-        assert_eq!(rt; outcome.limits, limits);
+        assert_eq!(rt; outcome.kept.limits, limits);
     }
     Ok(())
 }

@@ -81,7 +81,16 @@ fn options_are_numbers_within_their_limits(rt: HostRuntime) -> Result<(), Fail> 
         ("pipe --bytes 134217729", Status::Words),
         ("pipe x", Status::Words),
         ("pipe --frobnicate 1", Status::Words),
-        ("world 7 0", Status::Words),
+        ("read here session", Status::Words),
+        ("read here Session r/shop/p1", Status::Words),
+        ("read here weak r/shop/p1", Status::Words),
+        ("read here session r/shop", Status::Words),
+        (
+            "read here session q/shop/objects/f=true;o=;s=0;n=0100",
+            Status::Words,
+        ),
+        ("read here session r/shop/p1 r/shop/p2", Status::Words),
+        ("read here session r/shop/p1 --clock 5", Status::Words),
         ("serve here there", Status::Words),
         ("serve here --clock 5", Status::Words),
         ("serve here --bits 9", Status::Words),
@@ -181,12 +190,19 @@ fn lifetimes_are_within_their_limits(rt: HostRuntime) -> Result<(), Fail> {
 
 #[test]
 fn help_and_version_are_written(rt: HostRuntime) -> Result<(), Fail> {
-    for line in ["--help", "-h", "pipe --help", "pipe -h", "serve --help"] {
+    for line in [
+        "--help",
+        "-h",
+        "pipe --help",
+        "pipe -h",
+        "serve --help",
+        "read --help",
+    ] {
         let outcome = run_line(&rt, line)?;
         assert_eq!(rt; outcome.status, Status::Done, "of {line}");
         assert!(rt; outcome.written.len() > USAGE.len(), "of {line}");
     }
-    for line in ["--version", "-V", "pipe --version", "serve -V"] {
+    for line in ["--version", "-V", "pipe --version", "serve -V", "read -V"] {
         let outcome = run_line(&rt, line)?;
         assert_run(&rt, &outcome, Status::Done, b"quaestor 0.1.0\n", 0);
     }
@@ -195,7 +211,19 @@ fn help_and_version_are_written(rt: HostRuntime) -> Result<(), Fail> {
 
 #[test]
 fn refused_words_have_a_message(rt: HostRuntime) -> Result<(), Fail> {
-    let rows: [(&[&str], &str); 5] = [
+    let rows: [(&[&str], &str); 8] = [
+        (
+            &["read", "here", "weak", "r/shop/p1"],
+            "error: LEVEL is session, causal or strong, not 'weak'\n",
+        ),
+        (
+            &["read", "here", "causal", "q/shop/ids/f=(true);o=;s=0;n=100"],
+            "error: KEY is r/COLLECTION/ID, or q/COLLECTION/KIND/f=FILTER;o=ORDER;s=SKIP;n=TAKE of a query in its normal form, and 'q/shop/ids/f=(true);o=;s=0;n=100' is not from its byte 13 on\n",
+        ),
+        (
+            &["read", "here", "causal"],
+            "error: the following required arguments were not provided:\n  <KEY>\n",
+        ),
         (
             &["pipe", "--bits", "9"],
             "error: --bits is a decimal number from 10 to 22, not '9'\n",

@@ -1,7 +1,8 @@
-//! The program: its words, standard input and output, and the system's clock.
+//! The program: its words, standard input and output, the system's clock and its network.
 #![tactic(auto)]
 
 mod clock;
+mod link;
 mod places;
 
 use clock::HostClock;

@@ -1,7 +1,10 @@
-//! Places of this machine, where connections are listened for over TCP.
+//! Places of this machine, where connections are listened for over TCP, and servers are reached.
 ghost use Rattle.std.specs.Prelude.{◌≡◌};
 
-use q_outside::{Failed, Limits};
+use crate::link::{TcpLink, connect};
+use client_session::SessionRefusal;
+use client_wire::WireLink;
+use q_outside::{Failed, Limits, ReadSource, WriteSink};
 use quaestor_prog::Places;
 use std::fs::{File, Files};
 use std::io;
@@ -10,14 +13,16 @@ use std::rt::Clock;
 use std::sync::{OnceLock, Wait};
 use tcp_doors::TcpDoors;
 
-/// The addresses of this machine. Why one of them cannot be listened at is said on standard error.
-/// The address that is told is that of the first doors: a run has one listener.
+/// The addresses of this machine, and those that it reaches. Why one of them cannot be listened at or
+/// reached, and why a server gives no answer, is said on standard error. The address that is told is that of
+/// the first doors: a run has one listener.
 #[derive(Drop)]
 pub struct TcpPlaces<R: Drop> {
     rt: R,
     faults: u64,
     address: OnceLock<String>,
     kept: Option<TcpDoors<R>>,
+    link: Option<TcpLink>,
 }
 
 impl<R: AllocGlobal + Drop> TcpPlaces<R> {
@@ -28,6 +33,7 @@ impl<R: AllocGlobal + Drop> TcpPlaces<R> {
             rt,
             faults: 0,
             kept: None,
+            link: None,
         }
     }
 }
@@ -94,11 +100,15 @@ where
 {
     type Doors = TcpDoors<R>;
 
-    ghost at = { λ p. record { faults = p.faults; kept = p.kept } };
+    type Link = TcpLink;
+
+    ghost at = { λ p. record { faults = p.faults; kept = p.kept; link = p.link } };
 
     ghost gives = { λ _ _ _ _ _. Unit {0} };
 
     ghost tells = { λ _ _. Unit {0} };
+
+    ghost links = { λ _ _ _ _. Unit {0} };
 
     fn listen(&mut self, address: &str, limits: Limits) -> Result<TcpDoors<R>, Failed> {
         for _ in self.rt.forever() {
@@ -123,7 +133,35 @@ where
         }
     }
 
+    fn reach(&mut self, address: &str) -> Result<TcpLink, Failed> {
+        for _ in self.rt.forever() {
+            match connect(&self.rt, address) {
+                Ok(ends) => {
+                    let source = ReadSource::new(ends.reader);
+                    let sink = WriteSink::new(ends.writer);
+                    return Ok(WireLink::new(self.rt.alloc(), source, sink, ends.host));
+                }
+                Err(error) => {
+                    if self.faults < u64::MAX {
+                        let _ = eprint!(self.rt; "quaestor: cannot reach {address}: {error}\n");
+                        self.faults += 1;
+                        return Err(Failed);
+                    }
+                }
+            }
+        }
+        unreachable!()
+    }
+
     fn keep_doors(&mut self, doors: TcpDoors<R>) {
         self.kept = Some(doors);
+    }
+
+    fn hear(&mut self, refusal: SessionRefusal) {
+        let _ = eprint!(self.rt; "quaestor: the read has no answer: {refusal}\n");
+    }
+
+    fn keep_link(&mut self, link: TcpLink) {
+        self.link = Some(link);
     }
 }

@@ -1,16 +1,16 @@
 -- The commands, as clap reads them, and the answers that clap has for their words.
-use Rattle.std.proofs.Common.{◌≡◌, ◌≢◌, ◌⊎◌, ℕ, true, List, [], ◌∷◌, length, Option, Some, codes, refl, sym, ap, ◌∙◌, subst, arith, ⊎_elim, inl, inr}
-use Rattle.std.specs.Prelude.{Result, Ok, Err, IfOk}
+use Rattle.std.proofs.Common.{◌≡◌, ◌≢◌, ◌⊎◌, ℕ, true, List, [], ◌∷◌, length, Option, Some, codes, get_or, slice_get, refl, sym, ap, ◌∙◌, subst, arith, ⊎_elim, inl, inr}
+use Rattle.std.specs.Prelude.{Result, Ok, Err, IfOk, unwrap_or}
 use Rattle.std.specs.Option.{option_map_or}
 use Rattle.clap.specs.Words.{App, Text, with_rule, fault_of, kind_of, Kinds, IsAmong, HasMatchesOf, found_of, rows_of, matches_of, is_simple, is_simple_and_free}
 use Rattle.clap.specs.declared.parser.matches.ArgMatches.{ArgMatches}
 use Rattle.clap.specs.declared.error.kind.ErrorKind.{ErrorKind}
 use Rattle.clap.specs.declared.error.kind.ErrorKind.TheVariants as kind
 use Rattle.hub_model.specs.Setting.{Setting}
-use Rattle.quaestor_prog.specs.Commands.{number_rule, address_rule, with_limit_rules, with_setting_rules, versioned, pipe_app, serve_app, program_app, NamesPipe, NamesServe, NamesNone, FaultsAre, IsAnswered, AskHelp}
-use Rattle.quaestor_prog.specs.Words.{AreRun, AreTaken, Asks, IsAnswerOf, IsPipe, IsServe, ServeAsk}
+use Rattle.quaestor_prog.specs.Commands.{number_rule, word_rule, with_limit_rules, with_setting_rules, versioned, pipe_app, serve_app, read_app, program_app, NamesPipe, NamesServe, NamesRead, NamesNone, FaultsAre, IsAnswered, AskHelp}
+use Rattle.quaestor_prog.specs.Words.{AreRun, AreTaken, Asks, FoundRead, IsAnswerOf, IsPipe, IsRead, IsServe, ReadAsk, ServeAsk}
 use Rattle.quaestor_prog.specs.declared.words.Invocation.{Invocation}
-use Rattle.quaestor_prog.specs.declared.words.Invocation.TheVariants.{Pipe, Serve, Help, Invalid}
+use Rattle.quaestor_prog.specs.declared.words.Invocation.TheVariants.{Pipe, Serve, Read, Help, Invalid}
 use Rattle.quaestor_prog.specs.declared.refusal.Refusal.TheVariants as why
 use Rattle.quaestor_prog.proofs.Singles.{Single, fault_single}
 
@@ -30,12 +30,16 @@ five a b c d e f pb pc pd pe pf =
     pf ∙ ap (λ x. with_rule x (number_rule (codes "grace"))) (pe ∙ ap (λ x. with_rule x (number_rule (codes "least-rate")))
     (pd ∙ ap (λ x. with_rule x (number_rule (codes "reply-time"))) (pc ∙ ap (λ x. with_rule x (number_rule (codes "head-time"))) pb)))
 
-pub serve_is : (a b c d e f g h : App) → a ≡ versioned (codes "serve") → b ≡ with_rule a address_rule → c ≡ with_setting_rules b → d ≡ with_rule c (number_rule (codes "places")) → e ≡ with_rule d (number_rule (codes "workers"))
+pub serve_is : (a b c d e f g h : App) → a ≡ versioned (codes "serve") → b ≡ with_rule a (word_rule (codes "ADDR")) → c ≡ with_setting_rules b → d ≡ with_rule c (number_rule (codes "places")) → e ≡ with_rule d (number_rule (codes "workers"))
     → f ≡ with_rule e (number_rule (codes "matchers")) → g ≡ with_rule f (number_rule (codes "connections")) → h ≡ with_limit_rules g → h ≡ serve_app
 serve_is a b c d e f g h pa pb pc pd pe pf pg ph =
     ph ∙ ap with_limit_rules (pg ∙ ap (λ x. with_rule x (number_rule (codes "connections"))) (pf ∙ ap (λ x. with_rule x (number_rule (codes "matchers")))
     (pe ∙ ap (λ x. with_rule x (number_rule (codes "workers"))) (pd ∙ ap (λ x. with_rule x (number_rule (codes "places")))
-    (pc ∙ ap with_setting_rules (pb ∙ ap (λ x. with_rule x address_rule) pa))))))
+    (pc ∙ ap with_setting_rules (pb ∙ ap (λ x. with_rule x (word_rule (codes "ADDR"))) pa))))))
+
+pub read_is : (a b c d : App) → a ≡ versioned (codes "read") → b ≡ with_rule a (word_rule (codes "ADDR")) → c ≡ with_rule b (word_rule (codes "LEVEL")) → d ≡ with_rule c (word_rule (codes "KEY")) → d ≡ read_app
+read_is a b c d pa pb pc pd =
+    pd ∙ ap (λ x. with_rule x (word_rule (codes "KEY"))) (pc ∙ ap (λ x. with_rule x (word_rule (codes "LEVEL"))) (pb ∙ ap (λ x. with_rule x (word_rule (codes "ADDR"))) pa))
 
 -- clap has at most one kind of error for the words of a command
 pub pipe_single : (words : List Text) → Single (fault_of pipe_app words)
@@ -43,6 +47,9 @@ pipe_single words = fault_single pipe_app words refl refl refl
 
 pub serve_single : (words : List Text) → Single (fault_of serve_app words)
 serve_single words = fault_single serve_app words refl refl refl
+
+pub read_single : (words : List Text) → Single (fault_of read_app words)
+read_single words = fault_single read_app words refl refl refl
 
 pub program_single : (words : List Text) → Single (fault_of program_app words)
 program_single words = fault_single program_app words refl refl refl
@@ -81,41 +88,64 @@ nothing_answered [] e (inl q) = q
 nothing_answered [] e (inr q) = q
 nothing_answered (k ∷ ks) e q = absurd cc
 
--- the words name one command
-pub not_both : (words : List Text) → NamesPipe words → NamesServe words → ⊥
-not_both words pipe serve =
-    let same : Some (codes "pipe") ≡ Some (codes "serve") = sym pipe ∙ serve in
-    let long : 4 ≡ 5 = ap (λ o. option_map_or length o 0) same in
-    absurd (omega (arith, long))
+-- the words name one command: the names begin with different letters, but for none
+first_of_name : (words : List Text) (a b : Text) → slice_get words 0 ≡ Some a → slice_get words 0 ≡ Some b → get_or a 0 0 ≡ get_or b 0 0
+first_of_name words a b p q = ap (λ o. get_or (unwrap_or o []) 0 0) (sym p ∙ q)
+
+pub pipe_serve : (words : List Text) → NamesPipe words → NamesServe words → ⊥
+pipe_serve words p q = let bad : 112 ≡ 115 = first_of_name words _ _ p q in absurd (omega (arith, bad))
+
+pub pipe_read : (words : List Text) → NamesPipe words → NamesRead words → ⊥
+pipe_read words p q = let bad : 112 ≡ 114 = first_of_name words _ _ p q in absurd (omega (arith, bad))
+
+pub serve_read : (words : List Text) → NamesServe words → NamesRead words → ⊥
+serve_read words p q = let bad : 115 ≡ 114 = first_of_name words _ _ p q in absurd (omega (arith, bad))
 
 -- what is said of clap's faults for the words is said of those of the command that they name
 pub faults_pipe : (such : Kinds → Type 0) (words : List Text) → NamesPipe words → FaultsAre such words → such (fault_of pipe_app words)
 faults_pipe such words named (inl p) = p.1
-faults_pipe such words named (inr (inl s)) = absurd (not_both words named s.0)
-faults_pipe such words named (inr (inr n)) = absurd (n.0.0 named)
+faults_pipe such words named (inr (inl s)) = absurd (pipe_serve words named s.0)
+faults_pipe such words named (inr (inr (inl r))) = absurd (pipe_read words named r.0)
+faults_pipe such words named (inr (inr (inr n))) = absurd (n.0.0 named)
 
 pub faults_serve : (such : Kinds → Type 0) (words : List Text) → NamesServe words → FaultsAre such words → such (fault_of serve_app words)
-faults_serve such words named (inl p) = absurd (not_both words p.0 named)
+faults_serve such words named (inl p) = absurd (pipe_serve words p.0 named)
 faults_serve such words named (inr (inl s)) = s.1
-faults_serve such words named (inr (inr n)) = absurd (n.0.1 named)
+faults_serve such words named (inr (inr (inl r))) = absurd (serve_read words named r.0)
+faults_serve such words named (inr (inr (inr n))) = absurd (n.0.1 named)
+
+pub faults_read : (such : Kinds → Type 0) (words : List Text) → NamesRead words → FaultsAre such words → such (fault_of read_app words)
+faults_read such words named (inl p) = absurd (pipe_read words p.0 named)
+faults_read such words named (inr (inl s)) = absurd (serve_read words s.0 named)
+faults_read such words named (inr (inr (inl r))) = r.1
+faults_read such words named (inr (inr (inr n))) = absurd (n.0.2 named)
 
 pub faults_program : (such : Kinds → Type 0) (words : List Text) → NamesNone words → FaultsAre such words → such (fault_of program_app words)
 faults_program such words none (inl p) = absurd (none.0 p.0)
 faults_program such words none (inr (inl s)) = absurd (none.1 s.0)
-faults_program such words none (inr (inr n)) = n.1
+faults_program such words none (inr (inr (inl r))) = absurd (none.2 r.0)
+faults_program such words none (inr (inr (inr n))) = n.1
 
 -- words that a command runs are those that it takes
 pub pipe_runs : (words : List Text) → NamesPipe words → AreRun words → (g : Setting) × (at : Option ℕ) × IsPipe words g at
 pipe_runs words named (inl p) = p
-pipe_runs words named (inr s) = absurd (not_both words named s.1.named)
+pipe_runs words named (inr (inl s)) = absurd (pipe_serve words named s.1.named)
+pipe_runs words named (inr (inr r)) = absurd (pipe_read words named r.1.named)
 
 pub serve_runs : (words : List Text) → NamesServe words → AreRun words → (ask : ServeAsk) × IsServe words ask
-serve_runs words named (inl p) = absurd (not_both words p.2.named named)
-serve_runs words named (inr s) = s
+serve_runs words named (inl p) = absurd (pipe_serve words p.2.named named)
+serve_runs words named (inr (inl s)) = s
+serve_runs words named (inr (inr r)) = absurd (serve_read words named r.1.named)
+
+pub read_runs : (words : List Text) → NamesRead words → AreRun words → (ask : ReadAsk) × IsRead words ask
+read_runs words named (inl p) = absurd (pipe_read words p.2.named named)
+read_runs words named (inr (inl s)) = absurd (serve_read words s.1.named named)
+read_runs words named (inr (inr r)) = r
 
 pub none_runs : (words : List Text) → NamesNone words → AreRun words → ⊥
 none_runs words none (inl p) = none.0 p.2.named
-none_runs words none (inr s) = none.1 s.1.named
+none_runs words none (inr (inl s)) = none.1 s.1.named
+none_runs words none (inr (inr r)) = none.2 r.1.named
 
 -- an error that is not out of memory has one of the kinds
 pub among_kinds : (kinds : Kinds) (of own : ErrorKind) → (of ≡ kind.OutOfMemory) ⊎ IsAmong of kinds → of ≢ kind.OutOfMemory → own ≡ of → IsAmong own kinds
@@ -128,6 +158,7 @@ pub asks_error : {E : Type 0} (words : List Text) (kinds : Kinds) (of : ErrorKin
     → (of ≡ kind.OutOfMemory) ⊎ IsAmong of kinds → IsAnswerOf of r → IfOk r (Asks words)
 asks_error words kinds of (Ok (Pipe p)) single says helps runs k a = absurd a
 asks_error words kinds of (Ok (Serve s)) single says helps runs k a = absurd a
+asks_error words kinds of (Ok (Read r)) single says helps runs k a = absurd a
 asks_error words kinds of (Ok (Help t)) single says helps runs k a = says IsAnswered (answered kinds of k a)
 asks_error words kinds of (Ok (Invalid (why.Words e))) single says helps runs k a = (
   (λ taken. ⊎_elim (λ r. not_taken kinds of k a.0 (runs r)) (λ h. unanswered kinds of single k a.0 a.1 a.2 (helps h)) taken),
@@ -143,8 +174,11 @@ asks_pipe words of r named k a = asks_error words (fault_of pipe_app words) of r
 pub asks_serve : {E : Type 0} (words : List Text) (of : ErrorKind) (r : Result Invocation E) → NamesServe words → (of ≡ kind.OutOfMemory) ⊎ IsAmong of (fault_of serve_app words) → IsAnswerOf of r → IfOk r (Asks words)
 asks_serve words of r named k a = asks_error words (fault_of serve_app words) of r (serve_single words) (λ such s. inr (inl (named, s))) (faults_serve IsAnswered words named) (λ runs. (serve_runs words named runs).1.taken) k a
 
+pub asks_read : {E : Type 0} (words : List Text) (of : ErrorKind) (r : Result Invocation E) → NamesRead words → (of ≡ kind.OutOfMemory) ⊎ IsAmong of (fault_of read_app words) → IsAnswerOf of r → IfOk r (Asks words)
+asks_read words of r named k a = asks_error words (fault_of read_app words) of r (read_single words) (λ such s. inr (inr (inl (named, s)))) (faults_read IsAnswered words named) (λ runs. (read_runs words named runs).1.taken) k a
+
 pub asks_program : {E : Type 0} (words : List Text) (of : ErrorKind) (r : Result Invocation E) → NamesNone words → (of ≡ kind.OutOfMemory) ⊎ IsAmong of (fault_of program_app words) → IsAnswerOf of r → IfOk r (Asks words)
-asks_program words of r none k a = asks_error words (fault_of program_app words) of r (program_single words) (λ such s. inr (inr (none, s))) (faults_program IsAnswered words none) (λ runs. absurd (none_runs words none runs)) k a
+asks_program words of r none k a = asks_error words (fault_of program_app words) of r (program_single words) (λ such s. inr (inr (inr (none, s)))) (faults_program IsAnswered words none) (λ runs. absurd (none_runs words none runs)) k a
 
 -- words that a command takes, though not with these values, are not taken at all
 pub pipe_refused : (words : List Text) → NamesPipe words → fault_of pipe_app words ≡ [] → ((g : Setting) (at : Option ℕ) → IsPipe words g at → ⊥) → AreTaken words → ⊥
@@ -154,6 +188,22 @@ pipe_refused words named taken none (inr help) = nothing_answered _ taken (fault
 pub serve_refused : (words : List Text) → NamesServe words → fault_of serve_app words ≡ [] → ((ask : ServeAsk) → IsServe words ask → ⊥) → AreTaken words → ⊥
 serve_refused words named taken none (inl runs) = let s = serve_runs words named runs in none s.0 s.1
 serve_refused words named taken none (inr help) = nothing_answered _ taken (faults_serve IsAnswered words named help)
+
+pub read_refused : (words : List Text) → NamesRead words → fault_of read_app words ≡ [] → ((ask : ReadAsk) → IsRead words ask → ⊥) → AreTaken words → ⊥
+read_refused words named taken none (inl runs) = let r = read_runs words named runs in none r.0 r.1
+read_refused words named taken none (inr help) = nothing_answered _ taken (faults_read IsAnswered words named help)
+
+-- what clap found for the words of `read` says what they ask for
+pub read_asked : {E : Type 0} (words : List Text) (r : Result Invocation E) → NamesRead words → fault_of read_app words ≡ [] → IfOk r (FoundRead (matches_of read_app words)) → IfOk r (Asks words)
+read_asked words (Ok (Read r)) named taken found = record { named = named; taken = taken; options = found }
+read_asked words (Ok (Invalid (why.Value v))) named taken found =
+    (read_refused words named taken (λ ask r. found.0 ask r.options), inr (inr (named, taken, found.1)))
+read_asked words (Ok (Invalid why.NoCommand)) named taken found = absurd found
+read_asked words (Ok (Invalid (why.Words e))) named taken found = absurd found
+read_asked words (Ok (Pipe p)) named taken found = absurd found
+read_asked words (Ok (Serve s)) named taken found = absurd found
+read_asked words (Ok (Help t)) named taken found = absurd found
+read_asked words (Err e) named taken found = tt
 
 pub program_refused : (words : List Text) → NamesNone words → fault_of program_app words ≡ [] → AreTaken words → ⊥
 program_refused words none taken (inl runs) = none_runs words none runs

@@ -1,5 +1,6 @@
-mod AddressLemmas
 mod CommandLemmas
+mod GivenLemmas
+mod ReadLemmas
 mod RunLemmas
 mod ServingLemmas
 mod Singles

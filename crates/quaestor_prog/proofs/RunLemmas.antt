@@ -16,10 +16,12 @@ use Rattle.q_outside.specs.Doors.{DoorsView}
 use Rattle.q_outside.specs.declared.limits.Limits.{Limits}
 use Rattle.quaestor_prog.specs.Commands.{AskHelp, IsAnswered}
 use Rattle.quaestor_prog.specs.Places.{PlacesView}
+use Rattle.quaestor_prog.specs.Reading.{HasRead}
 use Rattle.quaestor_prog.specs.Serving.{HasServed}
-use Rattle.quaestor_prog.specs.Words.{IsPipe, IsServe, ServeAsk}
-use Rattle.quaestor_prog.proofs.CommandLemmas.{nothing_answered, faults_pipe, faults_serve}
-use Rattle.quaestor_prog.proofs.WordLemmas.{one_pipe, one_ask}
+use Rattle.client_session.specs.Link.{Exchange, LinkView}
+use Rattle.quaestor_prog.specs.Words.{IsPipe, IsRead, IsServe, ReadAsk, ServeAsk}
+use Rattle.quaestor_prog.proofs.CommandLemmas.{nothing_answered, faults_pipe, faults_serve, faults_read}
+use Rattle.quaestor_prog.proofs.WordLemmas.{one_pipe, one_ask, one_read}
 use Rattle.quaestor_prog.specs.declared.status.Status.{Status}
 use Rattle.quaestor_server.specs.Conversation.{Conversation}
 
@@ -72,8 +74,18 @@ pub no_help_serving : (words : List Text) (ask : ServeAsk) → IsServe words ask
 no_help_serving words ask s help = nothing_answered _ s.taken (faults_serve IsAnswered words s.named help)
 
 -- what `serve` did is said of what the words ask it for
-pub served_of : {P D S K C : Type 0} (source_at : S → End) (sink_at : K → End) (tick : C → ℕ → C → Type 0) (may : C → Type 0) (doors_at : D → DoorsView S K) (places_at : P → PlacesView D) (gives : P → List ℕ → Limits → D → P → Type 0) (tells : P → List ℕ → Type 0)
+pub served_of : {P D L S K C : Type 0} (source_at : S → End) (sink_at : K → End) (tick : C → ℕ → C → Type 0) (may : C → Type 0) (doors_at : D → DoorsView S K) (places_at : P → PlacesView D L) (gives : P → List ℕ → Limits → D → P → Type 0) (tells : P → List ℕ → Type 0)
     (words : List Text) (a b : ServeAsk) (sink sink' : End) (places places' : P) (status : Status) → IsServe words a → IsServe words b
     → HasServed source_at sink_at tick may doors_at places_at gives tells a sink sink' places places' status → HasServed source_at sink_at tick may doors_at places_at gives tells b sink sink' places places' status
 served_of source_at sink_at tick may doors_at places_at gives tells words a b sink sink' places places' status p q served =
     subst (λ (ask : ServeAsk). HasServed source_at sink_at tick may doors_at places_at gives tells ask sink sink' places places' status) (one_ask words a b p q) served
+
+pub no_help_reading : (words : List Text) (ask : ReadAsk) → IsRead words ask → AskHelp words → ⊥
+no_help_reading words ask r help = nothing_answered _ r.taken (faults_read IsAnswered words r.named help)
+
+-- what `read` did is said of what the words ask it for
+pub read_of : {P D L : Type 0} (link_at : L → LinkView) (answers : L → Exchange → L → Type 0) (places_at : P → PlacesView D L) (links : P → List ℕ → L → P → Type 0)
+    (words : List Text) (a b : ReadAsk) (sink sink' : End) (places places' : P) (status : Status) → IsRead words a → IsRead words b
+    → HasRead link_at answers places_at links a sink sink' places places' status → HasRead link_at answers places_at links b sink sink' places places' status
+read_of link_at answers places_at links words a b sink sink' places places' status p q reads =
+    subst (λ (ask : ReadAsk). HasRead link_at answers places_at links ask sink sink' places places' status) (one_read words a b p q) reads

@@ -1,15 +1,18 @@
 -- What options show is one configuration and one clock, and what `serve` is asked for is one thing.
-use Rattle.std.proofs.Common.{◌≡◌, ◌||◌, ◌<◌, ◌≤◌, ◌^◌, ℕ, Bool, true, false, List, [], ◌∷◌, Option, Some, None, Result, Ok, Err, nat_lt, if◌then◌else◌, refl, sym, ap, ◌∙◌, subst, arith, decimal}
+use Rattle.std.proofs.Common.{◌≡◌, ◌||◌, ◌<◌, ◌≤◌, ◌^◌, ℕ, Bool, true, false, List, [], ◌∷◌, Option, Some, None, Result, Ok, Err, nat_lt, if◌then◌else◌, refl, sym, ap, ◌∙◌, subst, arith, decimal, get_or}
 use Rattle.std.proofs.lemmas.Fmt.{decimal_injective}
 use Rattle.std.specs.Prelude.{map, slice_get, option_map, unwrap_or, IfErr, codes}
 use Rattle.std.specs.Borrow.{Bor}
 use Rattle.clap.specs.Words.{Row, Text, first_of}
+use Rattle.client_core.specs.declared.level.Level.{Level}
+use Rattle.client_core.specs.declared.level.Level.TheVariants as level
+use Rattle.query_lang.proofs.KeyReading.{texts_tell}
 use Rattle.hub_core.specs.Config.{configured}
 use Rattle.hub_core.specs.declared.config.ConfigRefusal.{ConfigRefusal}
 use Rattle.hub_model.specs.Setting.{Setting, IsWithinLimits}
 use Rattle.q_outside.specs.declared.limits.Limits.{Limits}
 use Rattle.quaestor_prog.specs.declared.ranges.TheConstants.{MOST_PLACES, DEFAULT_PLACES, MOST_WORKERS, DEFAULT_WORKERS, MOST_MATCHERS, DEFAULT_MATCHERS, MOST_CONNECTIONS, MOST_SECONDS, DEFAULT_IDLE, DEFAULT_HEAD_TIME, DEFAULT_REPLY_TIME, MOST_RATE, DEFAULT_RATE, DEFAULT_GRACE}
-use Rattle.quaestor_prog.specs.Words.{IsCount, IsNumber, IsNumberIn, IsClock, IsConfiguration, IsPipe, IsServe, AreLimits, AreServeOptions, ServeAsk}
+use Rattle.quaestor_prog.specs.Words.{IsCount, IsNumber, IsNumberIn, IsClock, IsConfiguration, IsPipe, IsServe, IsRead, AreLimits, AreServeOptions, AreReadOptions, ReadAsk, ServeAsk, level_word}
 
 -- the first word, as a text
 pub first_is : {A : Type 0} (f : A → Text) (xs : List A) (x : A) (t : Text) → slice_get xs 0 ≡ Some x → f x ≡ t → slice_get (map f xs) 0 ≡ Some t
@@ -142,6 +145,28 @@ of_error Q (Err e) q = q
 -- words ask `serve` for one thing
 pub one_ask : (words : List Text) (a b : ServeAsk) → IsServe words a → IsServe words b → a ≡ b
 one_ask words a b p q = one_options _ a b p.options q.options
+
+-- a word is that of one level
+one_level : (a b : Level) → level_word a ≡ level_word b → a ≡ b
+one_level level.Session level.Session e = refl
+one_level level.Session level.Causal e = absurd (let bad : 115 ≡ 99 = ap (λ t. get_or t 0 0) e in omega (arith, bad))
+one_level level.Session level.Strong e = absurd (let bad : 101 ≡ 116 = ap (λ t. get_or t 1 0) e in omega (arith, bad))
+one_level level.Causal level.Session e = absurd (let bad : 99 ≡ 115 = ap (λ t. get_or t 0 0) e in omega (arith, bad))
+one_level level.Causal level.Causal e = refl
+one_level level.Causal level.Strong e = absurd (let bad : 99 ≡ 115 = ap (λ t. get_or t 0 0) e in omega (arith, bad))
+one_level level.Strong level.Session e = absurd (let bad : 116 ≡ 101 = ap (λ t. get_or t 1 0) e in omega (arith, bad))
+one_level level.Strong level.Causal e = absurd (let bad : 115 ≡ 99 = ap (λ t. get_or t 0 0) e in omega (arith, bad))
+one_level level.Strong level.Strong e = refl
+
+same_read : (a b : ReadAsk) → a.address ≡ b.address → a.level ≡ b.level → a.key ≡ b.key → a ≡ b
+same_read a b p q r = λ i. record { address = p i; level = q i; key = r i }
+
+-- words ask `read` for one thing
+pub one_read : (words : List Text) (a b : ReadAsk) → IsRead words a → IsRead words b → a ≡ b
+one_read words a b p q = same_read a b
+    (one_text _ a.address b.address p.options.address q.options.address)
+    (one_level a.level b.level (one_text _ _ _ p.options.level q.options.level))
+    (texts_tell a.key b.key p.options.is_key q.options.is_key (one_text _ _ _ p.options.key q.options.key))
 
 skip : (b : Bool) (e r : Result Setting ConfigRefusal) → b ≡ false → (if b then e else r) ≡ r
 skip true e r is = absurd cc

@@ -12,9 +12,9 @@ number_rule name = record (new_rule name) { long = Some name; action = Some Set;
 abbrev pub versioned : Text → App
 versioned name = record (new_app name) { top = record (new_app name).top { has_version = true } }
 
--- the positional word ADDR, which has to be given
-abbrev pub address_rule : Rule
-address_rule = record (new_rule (codes "address")) { action = Some Set; value_names = 1; required = true }
+-- a positional word of this name, which has to be given
+abbrev pub word_rule : Text → Rule
+word_rule name = record (new_rule name) { action = Some Set; value_names = 1; required = true }
 
 -- the command with the six options of a configuration behind its others
 abbrev pub with_setting_rules : App → App
@@ -34,8 +34,12 @@ with_limit_rules app = with_rule (with_rule (with_rule (with_rule (with_rule app
 
 -- the command `serve`
 abbrev pub serve_app : App
-serve_app = with_limit_rules (with_rule (with_rule (with_rule (with_rule (with_setting_rules (with_rule (versioned (codes "serve")) address_rule))
+serve_app = with_limit_rules (with_rule (with_rule (with_rule (with_rule (with_setting_rules (with_rule (versioned (codes "serve")) (word_rule (codes "ADDR"))))
     (number_rule (codes "places"))) (number_rule (codes "workers"))) (number_rule (codes "matchers"))) (number_rule (codes "connections")))
+
+-- the command `read`
+abbrev pub read_app : App
+read_app = with_rule (with_rule (with_rule (versioned (codes "read")) (word_rule (codes "ADDR"))) (word_rule (codes "LEVEL"))) (word_rule (codes "KEY"))
 
 -- the program where no command is named: it has the flags `--help` and `--version` alone
 abbrev pub program_app : App
@@ -49,15 +53,20 @@ NamesPipe words = slice_get words 0 ≡ Some (codes "pipe")
 abbrev pub NamesServe : List Text → Type 0
 NamesServe words = slice_get words 0 ≡ Some (codes "serve")
 
--- it names neither
+-- the first word names the command `read`
+abbrev pub NamesRead : List Text → Type 0
+NamesRead words = slice_get words 0 ≡ Some (codes "read")
+
+-- it names none of them
 abbrev pub NamesNone : List Text → Type 0
-NamesNone words = (NamesPipe words → ⊥) × (NamesServe words → ⊥)
+NamesNone words = (NamesPipe words → ⊥) × (NamesServe words → ⊥) × (NamesRead words → ⊥)
 
 -- the kinds of error that clap has for the words, by the command that they name, are such
 abbrev pub FaultsAre : (Kinds → Type 0) → List Text → Type 0
 FaultsAre such words =
     (NamesPipe words × such (fault_of pipe_app words))
     ⊎ (NamesServe words × such (fault_of serve_app words))
+    ⊎ (NamesRead words × such (fault_of read_app words))
     ⊎ (NamesNone words × such (fault_of program_app words))
 
 -- clap answers with a text of help, or with the version

@@ -31,8 +31,10 @@ abbrev pub IsWithoutMemory : {P : Type 0} → (sink sink' : End) (places places'
 IsWithoutMemory sink sink' places places' status = (status ≡ Memory) × (sink' ≡ sink) × (places' ≡ places)
 
 -- the places failed, and nothing was given
-abbrev pub IsUnplaced : {D : Type 0} → (sink sink' : End) (places places' : PlacesView D) → Status → Type 0
-IsUnplaced sink sink' places places' status = (status ≡ PlaceFault) × (sink' ≡ sink) × (places'.kept ≡ places.kept) × (places.faults < places'.faults)
+abbrev pub IsUnplaced : {D L : Type 0} → (sink sink' : End) (places places' : PlacesView D L) → Status → Type 0
+IsUnplaced sink sink' places places' status =
+    (status ≡ PlaceFault) × (sink' ≡ sink)
+    × (places'.kept ≡ places.kept) × (places'.link ≡ places.link) × (places.faults < places'.faults)
 
 -- the first line was given in part, and the doors are as they were
 abbrev pub IsUnannounced : {D : Type 0} → (address : List ℕ) → (sink sink' : End) → (doors doors' : D) → Status → Type 0
@@ -51,7 +53,7 @@ module _ {D S K C : Type 0} (source_at : S → End) (sink_at : K → End) (tick 
       IsUnannounced address sink sink' doors doors' status
       ⊎ ((announced : End) × GaveBytes sink announced (listening_line address) × IsServed ask announced sink' doors doors' status)
 
-module _ {P D S K C : Type 0} (source_at : S → End) (sink_at : K → End) (tick : C → ℕ → C → Type 0) (may : C → Type 0) (doors_at : D → DoorsView S K) (places_at : P → PlacesView D) (gives : P → List ℕ → Limits → D → P → Type 0) (tells : P → List ℕ → Type 0) where
+module _ {P D L S K C : Type 0} (source_at : S → End) (sink_at : K → End) (tick : C → ℕ → C → Type 0) (may : C → Type 0) (doors_at : D → DoorsView S K) (places_at : P → PlacesView D L) (gives : P → List ℕ → Limits → D → P → Type 0) (tells : P → List ℕ → Type 0) where
   -- The places gave doors at the address, and have them back as they are now.
   pub record HasListened (ask : ServeAsk) (sink sink' : End) (places places' : P) (status : Status) : Type 0 where
     pub doors : D
@@ -63,7 +65,7 @@ module _ {P D S K C : Type 0} (source_at : S → End) (sink_at : K → End) (tic
     pub address : List ℕ
     pub told : tells listening address
     pub are_new : AreNew (doors_at doors)
-    pub kept : places_at places' ≡ record { faults = (places_at places).faults; kept = Some doors_left }
+    pub kept : places_at places' ≡ record (places_at places) { kept = Some doors_left }
     pub through : IsThrough source_at sink_at tick may doors_at ask address sink sink' doors doors_left status
 
   -- the places failed; or doors were listened at, and what came of it

@@ -3,17 +3,24 @@ use Rattle.std.specs.Prelude.{◌≡◌, ◌≢◌, ◌⊎◌, ℕ, ◌+◌, ◌
 use Rattle.clap.specs.Words.{Row, Text, IsAmong, first_of, kind_of, matches_of, fault_of}
 use Rattle.clap.specs.declared.error.kind.ErrorKind.{ErrorKind}
 use Rattle.clap.specs.declared.error.kind.ErrorKind.TheVariants as kind
+use Rattle.client_core.specs.declared.level.Level.{Level}
+use Rattle.client_core.specs.declared.level.Level.TheVariants as level
 use Rattle.hub_model.specs.Setting.{Setting, IsWithinLimits, default_setting}
+use Rattle.query_lang.specs.KeyTexts.{read_key}
+use Rattle.query_lang.specs.declared.key_reader.KeyRefusal.TheVariants.{BadKey}
+use Rattle.query_normal.specs.Keys.{key_text, IsKey}
+use Rattle.query_normal.specs.declared.key.KeyShape.{KeyShape}
 use Rattle.q_outside.specs.declared.limits.Limits.{Limits}
-use Rattle.quaestor_prog.specs.Commands.{pipe_app, serve_app, program_app, NamesPipe, NamesServe, NamesNone, AskHelp, FaultsAre}
+use Rattle.quaestor_prog.specs.Commands.{pipe_app, serve_app, read_app, program_app, NamesPipe, NamesServe, NamesRead, NamesNone, AskHelp, FaultsAre}
 use Rattle.quaestor_prog.specs.declared.ranges.TheConstants.{MOST_PLACES, DEFAULT_PLACES, MOST_WORKERS, DEFAULT_WORKERS, MOST_MATCHERS, DEFAULT_MATCHERS, MOST_CONNECTIONS, MOST_SECONDS, DEFAULT_IDLE, DEFAULT_HEAD_TIME, DEFAULT_REPLY_TIME, MOST_RATE, DEFAULT_RATE, DEFAULT_GRACE}
 use Rattle.quaestor_prog.specs.declared.refusal.BadValue.{BadValue}
-use Rattle.quaestor_prog.specs.declared.refusal.BadValue.TheVariants.{Number, Lifetimes}
+use Rattle.quaestor_prog.specs.declared.refusal.BadValue.TheVariants.{Number, Lifetimes, NoLevel, NoKey}
 use Rattle.quaestor_prog.specs.declared.refusal.Refusal.{Refusal}
 use Rattle.quaestor_prog.specs.declared.refusal.Refusal.TheVariants as why
 use Rattle.quaestor_prog.specs.declared.words.Invocation.{Invocation}
 use Rattle.quaestor_prog.specs.declared.words.ServeOptions.{ServeOptions}
-use Rattle.quaestor_prog.specs.declared.words.Invocation.TheVariants.{Pipe, Serve, Help, Invalid}
+use Rattle.quaestor_prog.specs.declared.words.ReadOptions.{ReadOptions}
+use Rattle.quaestor_prog.specs.declared.words.Invocation.TheVariants.{Pipe, Serve, Read, Help, Invalid}
 
 -- the number that an option shows in decimal digits without a sign and without leading zeros; the default where it is not given
 abbrev pub IsNumber : Option Text → ℕ → ℕ → Type 0
@@ -74,7 +81,7 @@ pub record AreLimits (found : List Row) (l : Limits) : Type 0 where
 
 -- The options of `serve`, by what clap found for each.
 pub record AreServeOptions (found : List Row) (ask : ServeAsk) : Type 0 where
-  pub address : first_of (codes "address") found ≡ Some ask.address
+  pub address : first_of (codes "ADDR") found ≡ Some ask.address
   pub setting : IsConfiguration found ask.setting
   pub places : IsNumberIn found (codes "places") 1 MOST_PLACES DEFAULT_PLACES ask.places
   pub workers : IsNumberIn found (codes "workers") 1 MOST_WORKERS DEFAULT_WORKERS ask.workers
@@ -88,9 +95,37 @@ pub record IsServe (words : List Text) (ask : ServeAsk) : Type 0 where
   pub taken : fault_of serve_app words ≡ []
   pub options : AreServeOptions (matches_of serve_app words) ask
 
+-- how a level is written
+abbrev pub level_word : Level → Text
+level_word level.Session = codes "session"
+level_word level.Causal = codes "causal"
+level_word level.Strong = codes "strong"
+
+-- what `read` is asked for
+pub record ReadAsk : Type 0 where
+  pub address : Text
+  pub level : Level
+  pub key : KeyShape
+
+-- The words of `read`, by what clap found for each.
+pub record AreReadOptions (found : List Row) (ask : ReadAsk) : Type 0 where
+  pub address : first_of (codes "ADDR") found ≡ Some ask.address
+  pub level : first_of (codes "LEVEL") found ≡ Some (level_word ask.level)
+  pub key : first_of (codes "KEY") found ≡ Some (key_text ask.key)
+  pub is_key : IsKey ask.key
+
+-- The words are `read`, an address, a level and the text of a key, which ask for this.
+pub record IsRead (words : List Text) (ask : ReadAsk) : Type 0 where
+  pub named : NamesRead words
+  pub taken : fault_of read_app words ≡ []
+  pub options : AreReadOptions (matches_of read_app words) ask
+
 -- the words run a command
 abbrev pub AreRun : List Text → Type 0
-AreRun words = ((g : Setting) × (at : Option ℕ) × IsPipe words g at) ⊎ ((ask : ServeAsk) × IsServe words ask)
+AreRun words =
+    ((g : Setting) × (at : Option ℕ) × IsPipe words g at)
+    ⊎ ((ask : ServeAsk) × IsServe words ask)
+    ⊎ ((ask : ReadAsk) × IsRead words ask)
 
 -- the words run a command, or ask for a help or for the version
 abbrev pub AreTaken : List Text → Type 0
@@ -116,18 +151,21 @@ IsRange option least most =
     ⊎ ((option ≡ codes "least-rate") × (least ≡ 1) × (most ≡ MOST_RATE))
     ⊎ ((option ≡ codes "grace") × (least ≡ 0) × (most ≡ MOST_SECONDS))
 
--- what is refused of the values: an option shows no number of its range, or the least lifetime is above the greatest
+-- what is refused of the values: an option shows no number of its range, the least lifetime is above the greatest, or a word is that of no level or of no key
 abbrev pub IsBadValue : List Row → BadValue → Type 0
 IsBadValue found (Number option text least most) =
     IsRange option.now least most × (first_of option.now found ≡ Some text.now) × ((n : ℕ) → text.now ≡ decimal n → least ≤ n → n ≤ most → ⊥)
 IsBadValue found (Lifetimes low high) =
     IsNumber (first_of (codes "ttl-low") found) default_setting.ttl_low low × IsNumber (first_of (codes "ttl-high") found) default_setting.ttl_high high × (high < low)
+IsBadValue found (NoLevel text) = (first_of (codes "LEVEL") found ≡ Some text.now) × ((l : Level) → text.now ≡ level_word l → ⊥)
+IsBadValue found (NoKey text place) = (first_of (codes "KEY") found ≡ Some text.now) × (read_key text.now ≡ Err (BadKey place))
 
 -- clap finds no fault with the words of a command that is named, and what it finds for them is such
 abbrev pub FoundAre : (List Row → Type 0) → List Text → Type 0
 FoundAre such words =
     (NamesPipe words × (fault_of pipe_app words ≡ []) × such (matches_of pipe_app words))
     ⊎ (NamesServe words × (fault_of serve_app words ≡ []) × such (matches_of serve_app words))
+    ⊎ (NamesRead words × (fault_of read_app words ≡ []) × such (matches_of read_app words))
 
 -- why the words are refused: they name no command and clap finds no fault; clap's fault; or a value, where clap finds none
 abbrev pub IsReason : List Text → Refusal → Type 0
@@ -147,10 +185,15 @@ ask_of s = record {
   limits = s.limits;
 }
 
+-- the same of `read`
+abbrev pub read_ask_of : ReadOptions → ReadAsk
+read_ask_of r = record { address = r.address.now; level = r.level; key = r.key }
+
 -- what the words ask for
 abbrev pub Asks : List Text → Invocation → Type 0
 Asks words (Pipe p) = IsPipe words p.config p.clock
 Asks words (Serve s) = IsServe words (ask_of s)
+Asks words (Read r) = IsRead words (read_ask_of r)
 Asks words (Help text) = AskHelp words
 Asks words (Invalid refusal) = (AreTaken words → ⊥) × IsReason words refusal
 
@@ -158,7 +201,14 @@ Asks words (Invalid refusal) = (AreTaken words → ⊥) × IsReason words refusa
 abbrev pub IsAnswerOf : {E : Type 0} → ErrorKind → Result Invocation E → Type 0
 IsAnswerOf of (Ok (Pipe p)) = ⊥
 IsAnswerOf of (Ok (Serve s)) = ⊥
+IsAnswerOf of (Ok (Read r)) = ⊥
 IsAnswerOf of (Ok (Help text)) = (of ≡ kind.DisplayHelp) ⊎ (of ≡ kind.DisplayVersion)
 IsAnswerOf of (Ok (Invalid (why.Words error))) = (of ≢ kind.OutOfMemory) × (of ≢ kind.DisplayHelp) × (of ≢ kind.DisplayVersion) × (kind_of error ≡ of)
 IsAnswerOf of (Ok (Invalid refusal)) = ⊥
 IsAnswerOf of (Err e) = of ≡ kind.OutOfMemory
+
+-- what clap found for the words of `read` asks for a read, or a value is refused, which they have for no read
+abbrev pub FoundRead : List Row → Invocation → Type 0
+FoundRead found (Read r) = AreReadOptions found (read_ask_of r)
+FoundRead found (Invalid (why.Value value)) = ((ask : ReadAsk) → AreReadOptions found ask → ⊥) × IsBadValue found value
+FoundRead found other = ⊥

@@ -1,7 +1,7 @@
 //! The commands as clap reads them.
 ghost use Rattle.std.specs.Prelude.{◌≡◌, codes, false, IfOk};
 ghost use Rattle.clap.specs.Words.{app_of, rule_of, with_rule};
-ghost use Rattle.quaestor_prog.specs.Commands.{address_rule, number_rule, pipe_app, program_app, serve_app, versioned, with_limit_rules, with_setting_rules};
+ghost use Rattle.quaestor_prog.specs.Commands.{number_rule, pipe_app, program_app, read_app, serve_app, versioned, with_limit_rules, with_setting_rules, word_rule};
 
 use clap::{Arg, ArgAction, Command};
 use std::alloc::{AllocError, Global};
@@ -11,7 +11,7 @@ const VERSION: &str = "0.1.0";
 
 /// The commands, at the end of the help of the program.
 const COMMANDS: &str =
-    "Commands:\n  pipe   Serves standard input as one connection\n  serve  Serves the connections that come to an address\n\nquaestor COMMAND --help shows the options of a command.";
+    "Commands:\n  pipe   Serves standard input as one connection\n  serve  Serves the connections that come to an address\n  read   Reads a key at the server of an address\n\nquaestor COMMAND --help shows the options of a command.";
 
 /// The program where no command is named.
 pub(crate) fn program_command<'a>(alloc: Global) -> Result<Command<'a>, AllocError>
@@ -45,7 +45,12 @@ pub(crate) fn serve_command<'a>(alloc: Global) -> Result<Command<'a>, AllocError
     ensures { IfOk result (λ c. app_of c ≡ serve_app) }
 {
     let bare = bare_serve(alloc)?;
-    let address = with_address(alloc, bare)?;
+    let address = with_word(
+        alloc,
+        bare,
+        "ADDR",
+        "The address, such as 127.0.0.1:8080; port 0 takes a free one",
+    )?;
     let config = with_config(alloc, address)?;
     let places = with_number(
         alloc,
@@ -73,6 +78,32 @@ pub(crate) fn serve_command<'a>(alloc: Global) -> Result<Command<'a>, AllocError
     )?;
     let limits = with_limits(alloc, connections)?;
     Ok(limits)
+}
+
+/// The command `read`.
+pub(crate) fn read_command<'a>(alloc: Global) -> Result<Command<'a>, AllocError>
+    ensures { IfOk result (λ c. app_of c ≡ read_app) }
+{
+    let bare = bare_read(alloc)?;
+    let address = with_word(
+        alloc,
+        bare,
+        "ADDR",
+        "The address of the server, such as 127.0.0.1:8080",
+    )?;
+    let level = with_word(
+        alloc,
+        address,
+        "LEVEL",
+        "session or causal, which accept a copy of a cache that the server's page vouches for, or strong, which asks the server",
+    )?;
+    let key = with_word(
+        alloc,
+        level,
+        "KEY",
+        "r/COLLECTION/ID, or q/COLLECTION/KIND/f=FILTER;o=ORDER;s=SKIP;n=TAKE, where KIND is objects or ids",
+    )?;
+    Ok(key)
 }
 
 /// The command with the options of the limits of time.
@@ -167,11 +198,16 @@ fn with_number<'a>(
     command.arg(number_option(alloc, name, help))
 }
 
-/// The command with the word ADDR.
-fn with_address<'a>(alloc: Global, command: Command<'a>) -> Result<Command<'a>, AllocError>
-    ensures { IfOk result (λ c. app_of c ≡ with_rule (app_of command.entry) address_rule) }
+/// The command with one more word, which it needs.
+fn with_word<'a>(
+    alloc: Global,
+    command: Command<'a>,
+    name: &'a str,
+    help: &'a str,
+) -> Result<Command<'a>, AllocError>
+    ensures { IfOk result (λ c. app_of c ≡ with_rule (app_of command.entry) (word_rule name.entry.now)) }
 {
-    command.arg(address_argument(alloc))
+    command.arg(word_argument(alloc, name, help))
 }
 
 /// The command `pipe` without its options.
@@ -196,16 +232,29 @@ fn bare_serve<'a>(alloc: Global) -> Result<Command<'a>, AllocError>
         .display_name("quaestor")
 }
 
-/// The word ADDR.
-fn address_argument<'a>(alloc: Global) -> Arg<'a>
-    ensures rule { rule_of result ≡ address_rule }
+/// The command `read` without its words.
+fn bare_read<'a>(alloc: Global) -> Result<Command<'a>, AllocError>
+    ensures { IfOk result (λ c. app_of c ≡ versioned (codes "read")) }
+{
+    Command::new(alloc, "read")
+        .version(VERSION)
+        .about(
+            "Fetches the page of a server, reads a key by a new session, and writes its commit, its way and what it has",
+        )
+        .bin_name("quaestor read")?
+        .display_name("quaestor")
+}
+
+/// A word that a command needs.
+fn word_argument<'a>(alloc: Global, name: &'a str, help: &'a str) -> Arg<'a>
+    ensures rule { rule_of result ≡ word_rule name.entry.now }
     ensures local { result.global ≡ false }
 {
-    Arg::new(alloc, "address")
+    Arg::new(alloc, name)
         .action(ArgAction::Set)
-        .value_name("ADDR")
+        .value_name(name)
         .required(true)
-        .help("The address, such as 127.0.0.1:8080; port 0 takes a free one")
+        .help(help)
 }
 
 /// An option with a number.

@@ -1,14 +1,15 @@
-//! Places with doors in memory.
+//! Places with doors and a link in memory.
 ghost use Rattle.std.specs.Prelude.{◌≡◌, ◌<◌, Some, None, IfSome, string_bytes};
 ghost use Rattle.quaestor_prog.specs.ListPlaces.{AreUnused, AreUnusedIn};
 
 use crate::places::Places;
 use crate::words::is_text;
+use client_session::{LastReplies, LinkAnswer, ListLink, SessionRefusal};
 use q_outside::{Failed, Faults, Limits, ListDoors, Sink, Source};
 use std::sync::ledger::{Blank, Ledger};
 
-/// Places that have one address, give its doors once, and otherwise fail. They show all that they give
-/// and keep.
+/// Places that have one address, give its doors and its link once, and otherwise fail. They show all that
+/// they give, hear and keep.
 #[derive(Drop)]
 pub struct ListPlaces<S: Drop, K: Drop, L: Ledger, F: Ledger> {
     /// The address.
@@ -19,16 +20,23 @@ pub struct ListPlaces<S: Drop, K: Drop, L: Ledger, F: Ledger> {
     pub limits: Option<Limits>,
     /// The doors last handed back.
     pub kept: Option<ListDoors<S, K, L>>,
+    /// What its link answers, the first answer last, until it is given.
+    pub answers: Option<Vec<LinkAnswer>>,
+    /// The link last handed back.
+    pub link: Option<ListLink>,
+    /// Why a read over a link last had no answer.
+    pub heard: Option<SessionRefusal>,
     /// The number of faults so far.
     pub faults: Faults<F>,
     ghost unused: { AreUnusedIn left },
 }
 
 impl<S: Drop, K: Drop, L: Ledger, F: Ledger> ListPlaces<S, K, L, F> {
-    /// Places that give these doors at this address, or none.
+    /// Places that give these doors at this address, or none, and a link with these answers, or none.
     pub fn new(
         address: String,
         doors: Option<ListDoors<S, K, L>>,
+        answers: Option<Vec<LinkAnswer>>,
         blank: Blank,
     ) -> ListPlaces<S, K, L, F>
         requires unused { IfSome doors AreUnused }
@@ -38,6 +46,8 @@ impl<S: Drop, K: Drop, L: Ledger, F: Ledger> ListPlaces<S, K, L, F> {
         ensures address { result.address ≡ address }
         ensures left { result.left ≡ doors }
         ensures kept { result.kept ≡ None }
+        ensures answers { result.answers ≡ answers }
+        ensures link { result.link ≡ None }
         ensures faults { result.faults ≡ 0 }
     {
         ListPlaces {
@@ -45,6 +55,9 @@ impl<S: Drop, K: Drop, L: Ledger, F: Ledger> ListPlaces<S, K, L, F> {
             left: doors,
             limits: None,
             kept: None,
+            answers,
+            link: None,
+            heard: None,
             faults: Faults::new(blank),
         }
     }
@@ -57,11 +70,15 @@ where
 {
     type Doors = ListDoors<S, K, L>;
 
-    ghost at = { λ p. record { faults = p.faults; kept = p.kept } };
+    type Link = ListLink;
+
+    ghost at = { λ p. record { faults = p.faults; kept = p.kept; link = p.link } };
 
     ghost gives = { λ p address limits doors q. (string_bytes p.address ≡ address) × (p.left ≡ Some doors) × (q.limits ≡ Some limits) × (q.address ≡ p.address) };
 
     ghost tells = { λ p address. string_bytes p.address ≡ address };
+
+    ghost links = { λ p address link q. (string_bytes p.address ≡ address) × (p.answers ≡ Some link.answers) × (q.address ≡ p.address) };
 
     fn listen(&mut self, address: &str, limits: Limits) -> Result<ListDoors<S, K, L>, Failed> {
         if !is_text(&self.address, address) {
@@ -82,7 +99,34 @@ where
         self.address.as_str()
     }
 
+    fn reach(&mut self, address: &str) -> Result<ListLink, Failed> {
+        if !is_text(&self.address, address) {
+            self.faults.rise();
+            return Err(Failed);
+        }
+        match self.answers.take() {
+            Some(answers) => Ok(ListLink {
+                answers,
+                faults: 0,
+                bad_replies: 0,
+                last: LastReplies::none(),
+            }),
+            None => {
+                self.faults.rise();
+                Err(Failed)
+            }
+        }
+    }
+
     fn keep_doors(&mut self, doors: ListDoors<S, K, L>) {
         self.kept = Some(doors);
+    }
+
+    fn hear(&mut self, refusal: SessionRefusal) {
+        self.heard = Some(refusal);
+    }
+
+    fn keep_link(&mut self, link: ListLink) {
+        self.link = Some(link);
     }
 }

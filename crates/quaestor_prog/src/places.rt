@@ -1,19 +1,23 @@
-//! Places, where connections are listened for.
+//! Places, where connections are listened for, and which clients reach.
 //!
 //! They have a count of faults that never falls, and fail only where it rose.
 ghost use Rattle.std.specs.Prelude.{◌≡◌, ℕ, List, Some, IfOk};
 ghost use Rattle.q_outside.specs.declared.limits.Limits.{Limits as LimitsOf};
-ghost use Rattle.quaestor_prog.specs.Places.{AreNew, Listened, PlacesView};
+ghost use Rattle.quaestor_prog.specs.Places.{AreNew, HasGiven, IsUnasked, PlacesView};
 
+use client_session::{Link, SessionRefusal};
 use q_outside::{Doors, Failed, Limits};
 
-/// Where connections are listened for, by address.
+/// Where connections are listened for, and servers are reached, by address.
 pub trait Places {
     /// Doors, through which the connections of an address come.
     type Doors: Doors;
+    /// A link to the server of an address.
+    type Link: Link;
 
-    /// What contracts see of the places: the number of their faults, and the doors last handed back.
-    ghost at: { Self → PlacesView Self.Doors };
+    /// What contracts see of the places: the number of their faults, and the doors and the link last
+    /// handed back.
+    ghost at: { Self → PlacesView Self.Doors Self.Link };
 
     /// From the first state the places gave these doors at this address, within these limits of time, and
     /// came to the second state, where they show so.
@@ -22,17 +26,35 @@ pub trait Places {
     /// The places tell this as the address at which they gave doors last, where they show so.
     ghost tells: { Self → List ℕ → Type 0 };
 
+    /// From the first state the places gave this link to this address and came to the second state, where
+    /// they show so.
+    ghost links: { Self → List ℕ → Self.Link → Self → Type 0 };
+
     /// Listens for connections at an address. They are served within these limits of time.
     fn listen(&mut self, address: &str, limits: Limits) -> Result<Self::Doors, Failed>
         ensures gives { IfOk result (λ d. gives self.old address.now limits d self.new) }
         ensures unused { IfOk result (λ d. AreNew (Self.Doors.at d)) }
-        ensures count { Listened (at self.old) (at self.new) result };
+        ensures count { HasGiven (at self.old) (at self.new) result };
 
     /// The address at which they gave doors last, as it is told: with the port that the system chose.
     fn address(&self) -> &str
         ensures { tells self.now result.now };
 
+    /// Reaches the server at an address.
+    fn reach(&mut self, address: &str) -> Result<Self::Link, Failed>
+        ensures links { IfOk result (λ l. links self.old address.now l self.new) }
+        ensures unasked { IfOk result (λ l. IsUnasked (Self.Link.at l)) }
+        ensures count { HasGiven (at self.old) (at self.new) result };
+
     /// Hands doors back. It takes no memory.
     fn keep_doors(&mut self, doors: Self::Doors)
-        ensures { at self.new ≡ record { faults = (at self.old).faults; kept = Some doors } };
+        ensures { at self.new ≡ record (at self.old) { kept = Some doors } };
+
+    /// Hears why a read over a link has no answer, for a message. It takes no memory.
+    fn hear(&mut self, refusal: SessionRefusal)
+        ensures { at self.new ≡ at self.old };
+
+    /// Hands a link back. It takes no memory.
+    fn keep_link(&mut self, link: Self::Link)
+        ensures { at self.new ≡ record (at self.old) { link = Some link } };
 }

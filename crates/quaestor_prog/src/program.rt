@@ -3,11 +3,13 @@ ghost use Rattle.std.specs.Prelude.{◌≡◌, ◌⊎◌, ℕ, Option, None, IfO
 ghost use Rattle.hub_model.specs.Setting.{Setting};
 ghost use Rattle.q_outside.specs.Ends.{Ticks};
 ghost use Rattle.quaestor_prog.specs.Commands.{AskHelp};
+ghost use Rattle.quaestor_prog.specs.Reading.{IsReading};
 ghost use Rattle.quaestor_prog.specs.Serving.{IsServing};
 ghost use Rattle.quaestor_prog.specs.Run.{AreTimed, IsHelped, IsRefused, IsRun, IsText, IsUnbegun, IsUsage};
-ghost use Rattle.quaestor_prog.specs.Words.{AreTaken, IsPipe, IsReason, IsServe, ServeAsk};
+ghost use Rattle.quaestor_prog.specs.Words.{AreTaken, IsPipe, IsRead, IsReason, IsServe, ReadAsk, ServeAsk};
 
 use crate::places::Places;
+use crate::reading::read_at;
 use crate::refusal::Refusal;
 use crate::serving::serve_at;
 use crate::status::Status;
@@ -30,7 +32,9 @@ const USAGE: &[u8] = b"usage: quaestor pipe, serve, read or world\n";
 /// configuration that its options ask for. It asks the clock; with `--clock N` it does the same with
 /// a clock that stays at N seconds after 1970. `serve` serves the connections that come to an address,
 /// each in a thread of its own, over one store that begins empty; the sink gets a line before the first
-/// and one behind the last. `--help` and `--version` write a text to the sink.
+/// and one behind the last. `read` fetches a page and reads a key over a link to the server of an address,
+/// and writes the answer; where there is none, the places hear why. `--help` and
+/// `--version` write a text to the sink.
 pub fn run<S: Source, K: Sink, C, P: Places, R>(
     rt: &R,
     alloc: Global,
@@ -50,6 +54,11 @@ where
         × (places.new ≡ places.old) }
     ensures serve { (ask : ServeAsk) → IsServe (map string_bytes words.now) ask
         → IsServing P.Doors.From.at P.Doors.To.at C.tick (C.is_clone clock.old) P.Doors.at P.at P.gives P.tells ask
+        (record { source = S.at source.old; sink = K.at sink.old })
+        (record { source = S.at source.new; sink = K.at sink.new })
+        clock.old clock.new places.old places.new result }
+    ensures read { (ask : ReadAsk) → IsRead (map string_bytes words.now) ask
+        → IsReading P.Link.at P.Link.answers P.at P.links ask
         (record { source = S.at source.old; sink = K.at sink.old })
         (record { source = S.at source.new; sink = K.at sink.new })
         clock.old clock.new places.old places.new result }
@@ -80,6 +89,7 @@ where
             clock,
         ),
         Ok(Invocation::Serve(options)) => serve_at(rt, alloc, options, sink, &*clock, places),
+        Ok(Invocation::Read(options)) => read_at(alloc, &options, sink, places),
         Ok(Invocation::Help(text)) => show(alloc, &text, sink),
         Ok(Invocation::Invalid(_)) => refuse(sink),
         Err(_) => Status::Memory,
@@ -96,6 +106,7 @@ pub fn refusal_of<'a>(alloc: Global, words: &'a [String]) -> Result<Option<Refus
         Invocation::Invalid(refusal) => Ok(Some(refusal)),
         Invocation::Pipe(_) => Ok(None),
         Invocation::Serve(_) => Ok(None),
+        Invocation::Read(_) => Ok(None),
         Invocation::Help(_) => Ok(None),
     }
 }

@@ -1,4 +1,5 @@
-//! The numbers that the options of `serve` may have. Definitions and code read them here.
+//! The numbers that the options of `serve` may have. Definitions and code read them
+//! here.
 
 /// How many connections may be there at the same time.
 pub(crate) const MOST_PLACES: u64 = 32_768;

@@ -15,7 +15,7 @@ pub enum Refusal<'a> {
     Value(BadValue<'a>),
 }
 
-/// The value of an option that is refused.
+/// The value of an option or of a word that is refused.
 #[derive(Clone, Copy, Debug, PartialEq, Eq)]
 pub enum BadValue<'a> {
     /// It is no decimal number, without a sign and without leading zeros, from the least to the greatest.
@@ -29,6 +29,17 @@ pub enum BadValue<'a> {
     Lifetimes {
         low: u64,
         high: u64,
+    },
+    /// It is no level of a session.
+    NoLevel {
+        found: &'a str,
+    },
+    /// It is no text of a key.
+    NoKey {
+        found: &'a str,
+        /// Where the text has all parts of a query's key, the offset of its first byte that is not as in
+        /// that key's text; else 0.
+        place: usize,
     },
 }
 
@@ -47,6 +58,13 @@ impl fmt::Display for BadValue<'_> {
             BadValue::Lifetimes { low, high } => {
                 write!(f, "--ttl-low, {low}, is above --ttl-high, {high}")
             }
+            BadValue::NoLevel { found } => {
+                write!(f, "LEVEL is session, causal or strong, not '{found}'")
+            }
+            BadValue::NoKey { found, place } => write!(
+                f,
+                "KEY is r/COLLECTION/ID, or q/COLLECTION/KIND/f=FILTER;o=ORDER;s=SKIP;n=TAKE of a query in its normal form, and '{found}' is not from its byte {place} on"
+            ),
         }
     }
 }

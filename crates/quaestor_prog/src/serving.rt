@@ -121,7 +121,7 @@ where
 }
 
 /// Gives a line of two parts.
-fn give_line<K: Sink>(sink: &mut K, first: &[u8], second: &[u8]) -> Result<(), Failed>
+pub(crate) fn give_line<K: Sink>(sink: &mut K, first: &[u8], second: &[u8]) -> Result<(), Failed>
     ensures { Gave (K.at sink.old) (K.at sink.new) (first.now ++ second.now ++ codes "\n") result }
 {
     match give_both(sink, first, second) {

@@ -1,12 +1,13 @@
 //! The words of a command line.
 ghost use Rattle.std.specs.Prelude.{◌≡◌, ℕ, ◌<◌, ◌≤◌, ◌^◌, true, Option, Some, is_some, option_map, decimal, map, string_bytes, slice_get, IfSome, IfNone, IfOk, IfErr, IsTrue, ◌↔◌, codes};
 ghost use Rattle.clap.specs.Words.{first_of, found_of, kind_of, rows_of};
+ghost use Rattle.client_core.specs.declared.level.Level.{Level as ALevel};
 ghost use Rattle.hub_model.specs.Setting.{Setting};
-ghost use Rattle.quaestor_prog.specs.Commands.{NamesNone, NamesPipe, NamesServe};
+ghost use Rattle.quaestor_prog.specs.Commands.{NamesNone, NamesPipe, NamesRead, NamesServe};
 ghost use Rattle.q_outside.specs.declared.limits.Limits.{Limits as LimitsOf};
-ghost use Rattle.quaestor_prog.specs.Words.{AreLimits, AreOptions, AreServeOptions, IsCount, Asks, IsNumberIn, ServeAsk, ask_of, IsAnswerOf, IsBadValue, IsClock, IsConfiguration, IsNumber, IsRange};
+ghost use Rattle.quaestor_prog.specs.Words.{AreLimits, AreOptions, AreServeOptions, FoundRead, IsCount, Asks, IsNumberIn, ServeAsk, ask_of, IsAnswerOf, IsBadValue, IsClock, IsConfiguration, IsNumber, IsRange, level_word};
 
-use crate::commands::{pipe_command, program_command, serve_command};
+use crate::commands::{pipe_command, program_command, read_command, serve_command};
 use crate::ranges::{
     DEFAULT_GRACE, DEFAULT_HEAD_TIME, DEFAULT_IDLE, DEFAULT_MATCHERS, DEFAULT_PLACES, DEFAULT_RATE,
     DEFAULT_REPLY_TIME, DEFAULT_WORKERS, MOST_CONNECTIONS, MOST_MATCHERS, MOST_PLACES, MOST_RATE,
@@ -15,10 +16,13 @@ use crate::ranges::{
 use crate::refusal::{BadValue, Refusal};
 use clap::error::ErrorKind;
 use clap::{ArgMatches, Error};
+use client_core::Level;
 use itoa::Buffer;
 use q_base::Memory;
 use q_outside::Limits;
 use quaestor_server::Config;
+use query_lang::{KeyRefusal, read_key};
+use query_normal::Key;
 use std::alloc::Global;
 
 /// The options of the command `pipe`.
@@ -49,6 +53,17 @@ pub struct ServeOptions<'a> {
     pub limits: Limits,
 }
 
+/// The words of the command `read`.
+#[derive(Debug, Drop)]
+pub struct ReadOptions<'a> {
+    /// The address of the server.
+    pub address: &'a str,
+    /// The level of the session that reads.
+    pub level: Level,
+    /// What is read.
+    pub key: Key,
+}
+
 /// What the words of a command line ask for.
 #[derive(Debug, Drop)]
 pub(crate) enum Invocation<'a> {
@@ -56,6 +71,8 @@ pub(crate) enum Invocation<'a> {
     Pipe(PipeOptions),
     /// To serve the connections of an address.
     Serve(ServeOptions<'a>),
+    /// To read a key.
+    Read(ReadOptions<'a>),
     /// To show this text, of the help or of the version.
     Help(Error),
     /// Nothing, since no command takes them.
@@ -69,6 +86,7 @@ pub(crate) fn read_words<'a>(alloc: Global, words: &'a [String]) -> Result<Invoc
     match words.first() {
         Some(first) if is_text(first, "pipe") => read_pipe(alloc, words),
         Some(first) if is_text(first, "serve") => read_serve(alloc, words),
+        Some(first) if is_text(first, "read") => read_read(alloc, words),
         _ => read_program(alloc, words),
     }
 }
@@ -97,6 +115,17 @@ fn read_serve<'a>(alloc: Global, words: &'a [String]) -> Result<Invocation<'a>, 
             Ok(options) => Ok(Invocation::Serve(options)),
             Err(value) => Ok(Invocation::Invalid(Refusal::Value(value))),
         },
+        Err(error) => answer_of(error),
+    }
+}
+
+/// What the words of the command `read` ask for.
+fn read_read<'a>(alloc: Global, words: &'a [String]) -> Result<Invocation<'a>, Memory>
+    requires { NamesRead (map string_bytes words.now) }
+    ensures { IfOk result (Asks (map string_bytes words.entry.now)) }
+{
+    match read_command(alloc)?.try_get_matches_from(words) {
+        Ok(matches) => read_options(alloc, &matches),
         Err(error) => answer_of(error),
     }
 }
@@ -136,15 +165,12 @@ fn pipe_options<'a>(matches: &ArgMatches<'a>) -> Result<PipeOptions, BadValue<'a
 
 /// The address and the options of `serve`, by what clap found.
 fn serve_options<'a>(matches: &ArgMatches<'a>) -> Result<ServeOptions<'a>, BadValue<'a>>
-    requires { is_some (first_of (codes "address") (rows_of (found_of matches.now))) ≡ true }
+    requires { is_some (first_of (codes "ADDR") (rows_of (found_of matches.now))) ≡ true }
     ensures ok { IfOk result (λ s. AreServeOptions (rows_of (found_of matches.now)) (ask_of s)) }
     ensures err { IfErr result (λ _. (ask : ServeAsk) → AreServeOptions (rows_of (found_of matches.now)) ask → ⊥) }
     ensures value { IfErr result (IsBadValue (rows_of (found_of matches.now))) }
 {
-    match value_of(matches, "address") {
-        Some(address) => options_at(matches, address),
-        None => unreachable!(),
-    }
+    options_at(matches, word_of(matches, "ADDR"))
 }
 
 /// The options of `serve` at this address.
@@ -152,7 +178,7 @@ fn options_at<'a>(
     matches: &ArgMatches<'a>,
     address: &'a str,
 ) -> Result<ServeOptions<'a>, BadValue<'a>>
-    requires { first_of (codes "address") (rows_of (found_of matches.now)) ≡ Some address.now }
+    requires { first_of (codes "ADDR") (rows_of (found_of matches.now)) ≡ Some address.now }
     ensures ok { IfOk result (λ s. AreServeOptions (rows_of (found_of matches.now)) (ask_of s)) }
     ensures err { IfErr result (λ _. (ask : ServeAsk) → AreServeOptions (rows_of (found_of matches.now)) ask → ⊥) }
     ensures value { IfErr result (IsBadValue (rows_of (found_of matches.now))) }
@@ -172,6 +198,49 @@ fn options_at<'a>(
         connections,
         limits,
     })
+}
+
+/// What the words of `read` ask for, by what clap found.
+fn read_options<'a>(alloc: Global, matches: &ArgMatches<'a>) -> Result<Invocation<'a>, Memory>
+    requires address { is_some (first_of (codes "ADDR") (rows_of (found_of matches.now))) ≡ true }
+    requires level { is_some (first_of (codes "LEVEL") (rows_of (found_of matches.now))) ≡ true }
+    requires key { is_some (first_of (codes "KEY") (rows_of (found_of matches.now))) ≡ true }
+    ensures { IfOk result (FoundRead (rows_of (found_of matches.now))) }
+{
+    let address = word_of(matches, "ADDR");
+    let written = word_of(matches, "LEVEL");
+    let found = word_of(matches, "KEY");
+    match level_of(written) {
+        Some(level) => match read_key(alloc, found.as_bytes()) {
+            Ok(key) => {
+                // contracts learn from its text that it is a key
+                let _text = key.text();
+                Ok(Invocation::Read(ReadOptions {
+                    address,
+                    level,
+                    key,
+                }))
+            }
+            Err(KeyRefusal::BadKey { place }) => {
+                Ok(Invocation::Invalid(Refusal::Value(BadValue::NoKey { found, place })))
+            }
+            Err(KeyRefusal::Memory) => Err(Memory),
+        },
+        None => Ok(Invocation::Invalid(Refusal::Value(BadValue::NoLevel { found: written }))),
+    }
+}
+
+/// The level that a text shows.
+fn level_of(text: &str) -> Option<Level>
+    ensures some { IfSome result (λ l. text.now ≡ level_word l) }
+    ensures none { IfNone result ((l : ALevel) → text.now ≡ level_word l → ⊥) }
+{
+    match text {
+        "session" => Some(Level::Session),
+        "causal" => Some(Level::Causal),
+        "strong" => Some(Level::Strong),
+        _ => None,
+    }
 }
 
 /// The limits of time that the options ask for.
@@ -296,6 +365,17 @@ fn value_of<'a>(matches: &ArgMatches<'a>, option: &str) -> Option<&'a str>
     ensures { option_map (λ s. s.now) result ≡ first_of option.now (rows_of (found_of matches.now)) }
 {
     matches.get_str(option)
+}
+
+/// The text of a word that clap has found.
+fn word_of<'a>(matches: &ArgMatches<'a>, word: &str) -> &'a str
+    requires { is_some (first_of word.now (rows_of (found_of matches.now))) ≡ true }
+    ensures { first_of word.now (rows_of (found_of matches.now)) ≡ Some result.now }
+{
+    match value_of(matches, word) {
+        Some(found) => found,
+        None => unreachable!(),
+    }
 }
 
 /// The number that a text shows, where it is from the least to the greatest.

@@ -9,4 +9,7 @@ pub returns-in-Pipe-clause-none : goal.returns-in-Pipe-clause-none
 returns-in-Pipe-clause-none c = inl (inl (_, _, rw c.in-Pipe.is at c.in_ok-refusal.ensures))
 
 pub returns-in-Serve-clause-none : goal.returns-in-Serve-clause-none
-returns-in-Serve-clause-none c = inl (inr (_, rw c.in-Serve.is at c.in_ok-refusal.ensures))
+returns-in-Serve-clause-none c = inl (inr (inl (_, rw c.in-Serve.is at c.in_ok-refusal.ensures)))
+
+pub returns-in-Read-clause-none : goal.returns-in-Read-clause-none
+returns-in-Read-clause-none c = inl (inr (inr (_, rw c.in-Read.is at c.in_ok-refusal.ensures)))

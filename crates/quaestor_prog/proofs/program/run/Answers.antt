@@ -1,14 +1,19 @@
 -- the words ask for one thing, or for none
 use Rattle.std.proofs.Common.{refl, inl, inr}
-use Rattle.quaestor_prog.proofs.CommandLemmas.{not_both}
-use Rattle.quaestor_prog.proofs.RunLemmas.{run_of, served_of, no_help, no_help_serving}
+use Rattle.quaestor_prog.proofs.CommandLemmas.{pipe_serve, pipe_read, serve_read}
+use Rattle.quaestor_prog.proofs.RunLemmas.{run_of, served_of, read_of, no_help, no_help_serving, no_help_reading}
 use Rattle.quaestor_prog.proofs.program.run.Goals as goal
+
+-- ---- pipe
 
 pub returns-in-Ok-Pipe-clause-pipe : goal.returns-in-Ok-Pipe-clause-pipe
 returns-in-Ok-Pipe-clause-pipe g c = λ h at is. (run_of g.C.Clock.tick _ _ _ _ h _ at _ _ _ (rw c.in-Ok-Pipe.field-0-is at c.in-Ok-Pipe.ensures) is c.pipe_at.ensures, refl)
 
 pub returns-in-Ok-Pipe-clause-serve : goal.returns-in-Ok-Pipe-clause-serve
-returns-in-Ok-Pipe-clause-serve g c = λ ask is. let pipe = rw c.in-Ok-Pipe.field-0-is at c.in-Ok-Pipe.ensures in absurd (not_both _ pipe.named is.named)
+returns-in-Ok-Pipe-clause-serve g c = λ ask is. let pipe = rw c.in-Ok-Pipe.field-0-is at c.in-Ok-Pipe.ensures in absurd (pipe_serve _ pipe.named is.named)
+
+pub returns-in-Ok-Pipe-clause-read : goal.returns-in-Ok-Pipe-clause-read
+returns-in-Ok-Pipe-clause-read g c = λ ask is. let pipe = rw c.in-Ok-Pipe.field-0-is at c.in-Ok-Pipe.ensures in absurd (pipe_read _ pipe.named is.named)
 
 pub returns-in-Ok-Pipe-clause-help : goal.returns-in-Ok-Pipe-clause-help
 returns-in-Ok-Pipe-clause-help g c = λ help. absurd (no_help _ _ _ (rw c.in-Ok-Pipe.field-0-is at c.in-Ok-Pipe.ensures) help)
@@ -16,17 +21,41 @@ returns-in-Ok-Pipe-clause-help g c = λ help. absurd (no_help _ _ _ (rw c.in-Ok-
 pub returns-in-Ok-Pipe-clause-usage : goal.returns-in-Ok-Pipe-clause-usage
 returns-in-Ok-Pipe-clause-usage g c = λ none. absurd (none (inl (inl (c.in-Ok-Pipe.options.config, c.in-Ok-Pipe.options.clock, rw c.in-Ok-Pipe.field-0-is at c.in-Ok-Pipe.ensures))))
 
+-- ---- serve
+
 pub returns-in-Ok-Serve-clause-pipe : goal.returns-in-Ok-Serve-clause-pipe
-returns-in-Ok-Serve-clause-pipe g c = λ h at is. let serve = rw c.in-Ok-Serve.field-0-is at c.in-Ok-Serve.ensures in absurd (not_both _ is.named serve.named)
+returns-in-Ok-Serve-clause-pipe g c = λ h at is. let serve = rw c.in-Ok-Serve.field-0-is at c.in-Ok-Serve.ensures in absurd (pipe_serve _ is.named serve.named)
 
 pub returns-in-Ok-Serve-clause-serve : goal.returns-in-Ok-Serve-clause-serve
 returns-in-Ok-Serve-clause-serve g c = λ ask is. (refl, refl, inr (served_of _ _ _ _ _ _ _ _ _ _ ask _ _ _ _ _ (rw c.in-Ok-Serve.field-0-is at c.in-Ok-Serve.ensures) is c.serve_at.ensures))
+
+pub returns-in-Ok-Serve-clause-read : goal.returns-in-Ok-Serve-clause-read
+returns-in-Ok-Serve-clause-read g c = λ ask is. let serve = rw c.in-Ok-Serve.field-0-is at c.in-Ok-Serve.ensures in absurd (serve_read _ serve.named is.named)
 
 pub returns-in-Ok-Serve-clause-help : goal.returns-in-Ok-Serve-clause-help
 returns-in-Ok-Serve-clause-help g c = λ help. absurd (no_help_serving _ _ (rw c.in-Ok-Serve.field-0-is at c.in-Ok-Serve.ensures) help)
 
 pub returns-in-Ok-Serve-clause-usage : goal.returns-in-Ok-Serve-clause-usage
-returns-in-Ok-Serve-clause-usage g c = λ none. absurd (none (inl (inr (_, rw c.in-Ok-Serve.field-0-is at c.in-Ok-Serve.ensures))))
+returns-in-Ok-Serve-clause-usage g c = λ none. absurd (none (inl (inr (inl (_, rw c.in-Ok-Serve.field-0-is at c.in-Ok-Serve.ensures)))))
+
+-- ---- read
+
+pub returns-in-Ok-Read-clause-pipe : goal.returns-in-Ok-Read-clause-pipe
+returns-in-Ok-Read-clause-pipe g c = λ h at is. let reads = rw c.in-Ok-Read.field-0-is at c.in-Ok-Read.ensures in absurd (pipe_read _ is.named reads.named)
+
+pub returns-in-Ok-Read-clause-serve : goal.returns-in-Ok-Read-clause-serve
+returns-in-Ok-Read-clause-serve g c = λ ask is. let reads = rw c.in-Ok-Read.field-0-is at c.in-Ok-Read.ensures in absurd (serve_read _ is.named reads.named)
+
+pub returns-in-Ok-Read-clause-read : goal.returns-in-Ok-Read-clause-read
+returns-in-Ok-Read-clause-read g c = λ ask is. (refl, refl, inr (read_of _ _ _ _ _ _ ask _ _ _ _ _ (rw c.in-Ok-Read.field-0-is at c.in-Ok-Read.ensures) is c.read_at.ensures))
+
+pub returns-in-Ok-Read-clause-help : goal.returns-in-Ok-Read-clause-help
+returns-in-Ok-Read-clause-help g c = λ help. absurd (no_help_reading _ _ (rw c.in-Ok-Read.field-0-is at c.in-Ok-Read.ensures) help)
+
+pub returns-in-Ok-Read-clause-usage : goal.returns-in-Ok-Read-clause-usage
+returns-in-Ok-Read-clause-usage g c = λ none. absurd (none (inl (inr (inr (_, rw c.in-Ok-Read.field-0-is at c.in-Ok-Read.ensures)))))
+
+-- ---- help
 
 pub returns-in-Ok-Help-clause-pipe : goal.returns-in-Ok-Help-clause-pipe
 returns-in-Ok-Help-clause-pipe g c = λ h at is. absurd (no_help _ h at is (rw c.in-Ok-Help.field-0-is at c.in-Ok-Help.ensures))
@@ -34,14 +63,22 @@ returns-in-Ok-Help-clause-pipe g c = λ h at is. absurd (no_help _ h at is (rw c
 pub returns-in-Ok-Help-clause-serve : goal.returns-in-Ok-Help-clause-serve
 returns-in-Ok-Help-clause-serve g c = λ ask is. absurd (no_help_serving _ ask is (rw c.in-Ok-Help.field-0-is at c.in-Ok-Help.ensures))
 
+pub returns-in-Ok-Help-clause-read : goal.returns-in-Ok-Help-clause-read
+returns-in-Ok-Help-clause-read g c = λ ask is. absurd (no_help_reading _ ask is (rw c.in-Ok-Help.field-0-is at c.in-Ok-Help.ensures))
+
 pub returns-in-Ok-Help-clause-usage : goal.returns-in-Ok-Help-clause-usage
 returns-in-Ok-Help-clause-usage g c = λ none. absurd (none (inr (rw c.in-Ok-Help.field-0-is at c.in-Ok-Help.ensures)))
+
+-- ---- refused
 
 pub returns-in-Ok-Invalid-clause-pipe : goal.returns-in-Ok-Invalid-clause-pipe
 returns-in-Ok-Invalid-clause-pipe g c = λ h at is. let asks = rw c.in-Ok-Invalid.field-0-is at c.in-Ok-Invalid.ensures in absurd (asks.0 (inl (inl (h, at, is))))
 
 pub returns-in-Ok-Invalid-clause-serve : goal.returns-in-Ok-Invalid-clause-serve
-returns-in-Ok-Invalid-clause-serve g c = λ ask is. let asks = rw c.in-Ok-Invalid.field-0-is at c.in-Ok-Invalid.ensures in absurd (asks.0 (inl (inr (ask, is))))
+returns-in-Ok-Invalid-clause-serve g c = λ ask is. let asks = rw c.in-Ok-Invalid.field-0-is at c.in-Ok-Invalid.ensures in absurd (asks.0 (inl (inr (inl (ask, is)))))
+
+pub returns-in-Ok-Invalid-clause-read : goal.returns-in-Ok-Invalid-clause-read
+returns-in-Ok-Invalid-clause-read g c = λ ask is. let asks = rw c.in-Ok-Invalid.field-0-is at c.in-Ok-Invalid.ensures in absurd (asks.0 (inl (inr (inr (ask, is)))))
 
 pub returns-in-Ok-Invalid-clause-help : goal.returns-in-Ok-Invalid-clause-help
 returns-in-Ok-Invalid-clause-help g c = λ help. let asks = rw c.in-Ok-Invalid.field-0-is at c.in-Ok-Invalid.ensures in absurd (asks.0 (inr help))

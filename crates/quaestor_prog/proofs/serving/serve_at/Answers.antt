@@ -1,5 +1,5 @@
 -- the places gave doors and have them back as they were left, or gave none
-use Rattle.std.proofs.Common.{Some, refl, ap, ◌∙◌, inl, inr}
+use Rattle.std.proofs.Common.{refl, inl, inr}
 use Rattle.quaestor_prog.proofs.ServingLemmas.{through_ended}
 use Rattle.quaestor_prog.proofs.serving.serve_at.Goals as goal
 
@@ -12,9 +12,9 @@ returns-in-Ok g c = inr (record {
   address = c.address.result.now;
   told = c.address.ensures;
   are_new = c.in-Ok.ensures.unused;
-  kept = c.keep_doors.ensures ∙ ap (λ v. record { faults = v.faults; kept = Some c.serve_through-status.new.doors }) c.in-Ok.ensures.count;
+  kept = rw c.in-Ok.ensures.count at c.keep_doors.ensures;
   through = through_ended _ _ _ _ _ _ _ _ _ _ _ _ _ c.end.ensures c.serve_through-status.ensures;
 })
 
 pub returns-in-Err : goal.returns-in-Err
-returns-in-Err g c = inl (refl, c.end-in-Err.ensures, c.in-Err.ensures.count.0, c.in-Err.ensures.count.1)
+returns-in-Err g c = inl (refl, c.end-in-Err.ensures, c.in-Err.ensures.count.0, c.in-Err.ensures.count.1, c.in-Err.ensures.count.2)

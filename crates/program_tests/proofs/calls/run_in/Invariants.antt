@@ -1,5 +1,5 @@
 -- each ledger is the blank one that the call is given
-use Rattle.program_tests.proofs.calls.run_at.Given as goal
+use Rattle.program_tests.proofs.calls.run_in.Given as goal
 
 abbrev pub ghosts-run_counted-L-Ledger : goal.ghosts-run_counted-L-Ledger
 ghosts-run_counted-L-Ledger g a = record { name = a.sink.name; parts = a.sink.parts }

@@ -1,10 +1,10 @@
--- clap has found an address
+-- clap has found the word
 use Rattle.std.proofs.Common.{◌≡◌, false, true, is_some, sym, ap, ◌∙◌}
 use Rattle.quaestor_prog.proofs.WordLemmas.{shown, not_shown}
-use Rattle.quaestor_prog.proofs.words.serve_options.Goals as goal
+use Rattle.quaestor_prog.proofs.words.word_of.Goals as goal
 
-pub options_at-requires : goal.options_at-requires
-options_at-requires c = shown _ _ _ c.value_of.ensures c.in-Some.is
+pub returns : goal.returns
+returns c = shown _ _ _ c.value_of.ensures c.in-Some.is
 
 pub unreachable-requires : goal.unreachable-requires
 unreachable-requires c =
