@@ -34,9 +34,21 @@ ci: fmt lint ## [5 to 60 min] the gate, as a merge runs it, after the layout and
 	rt ci
 dist: ## [5 to 60 min] runs the gate and writes dist/, the proved program for those who have no toolchain
 	@sh tools/dist.sh
-verify-dist: ## [5 to 60 min] runs the gate and compares what it built with dist/quaestor; ANEW=1 proves all again
+verify-dist: ## [5 to 60 min] runs the gate and compares what it built with dist/; ANEW=1 proves all again
 	@sh tools/dist.sh --verify $(if $(ANEW),--anew)
+	@if command -v wasm-opt > /dev/null; then sh tools/wasm.sh --verify $(if $(ANEW),--anew); \
+	else echo 'dist/client_web.wasm was not built again: wasm-opt is missing (apt-get install binaryen)' >&2; fi
+wasm: ## [5 to 30 min] proves the clients' core for WebAssembly and writes dist/client_web.wasm
+	@sh tools/wasm.sh
+client: ## [at once] writes client/js/quaestor.js, the one file that a page loads, from client/src
+	@node client/squeeze.mjs
+client-test: ## [1 min] runs the client's tests in node: vectors, and random sessions against a server
+	@sh tools/client_test.sh node
+browser-test: ## [3 min] runs the client in headless Chromium, straight and through nginx and Varnish
+	@sh tools/client_test.sh browser
+shop: ## [at once] starts a server, the example's page and a cache, and prints the address
+	@node examples/shop/start.mjs $(PORT)
 
 named:
 	@test -n "$(CRATE)" || { echo "say which: CRATE=name" >&2; exit 2; }
-.PHONY: help try test check fmt lint edits plant crate program run example lasts bench ci dist verify-dist named
+.PHONY: help try test check fmt lint edits plant crate program run example lasts bench ci dist verify-dist wasm client client-test browser-test shop named

@@ -25,8 +25,12 @@ sub vcl_recv {
     if (req.url == "/v1/match") {
         return (synth(404));
     }
-    # A client that wants an answer of the server itself asks so.
-    if (req.http.Cache-Control ~ "(?i)no-cache") {
+    # A browser asks so whether a page of another origin may send a request.
+    if (req.method == "OPTIONS") {
+        return (synth(204));
+    }
+    # A client that wants an answer of the server itself asks so; browsers do by `max-age=0`.
+    if (req.http.Cache-Control ~ "(?i)no-cache|max-age=0\b") {
         set req.hash_always_miss = true;
     }
 }
@@ -43,7 +47,25 @@ sub vcl_backend_response {
     set beresp.keep = 1h;
 }
 
+# Pages of this other origin may use the server from a browser, and read these fields of its replies.
+sub tell_pages {
+    set resp.http.Access-Control-Allow-Origin = "https://shop.example";
+    set resp.http.Access-Control-Expose-Headers = "ETag, Date, Age, X-Cache, Quaestor-Commit, Quaestor-Until, Quaestor-Version";
+    set resp.http.Timing-Allow-Origin = resp.http.Access-Control-Allow-Origin;
+}
+
+sub vcl_synth {
+    call tell_pages;
+    if (resp.status == 204) {
+        set resp.http.Access-Control-Allow-Methods = "GET, PUT, DELETE";
+        set resp.http.Access-Control-Allow-Headers = "Content-Type, If-Match, If-None-Match";
+        set resp.http.Access-Control-Max-Age = "600";
+        return (deliver);
+    }
+}
+
 sub vcl_deliver {
+    call tell_pages;
     if (obj.hits > 0) {
         set resp.http.X-Cache = "HIT";
     } else {

@@ -37,6 +37,7 @@ pub const WAYS: usize = 8;
 
 /// A row of the table: what a session knows of one mark.
 #[derive(Clone, Copy, Debug, PartialEq, Eq)]
+#[repr(C)]
 pub struct FloorRow {
     /// The mark of the row's key.
     pub mark: KeyMark,
@@ -63,6 +64,7 @@ impl FloorRow {
 
 /// The numbers beside the table.
 #[derive(Clone, Copy, Debug, PartialEq, Eq)]
+#[repr(C)]
 pub struct Floors {
     /// The floor of all keys, to which rows that are given away raise it.
     pub common: Commit,

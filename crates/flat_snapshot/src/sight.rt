@@ -29,6 +29,7 @@ pub struct Sight {
 
 /// The two hashes of a key's text, from which its positions follow in pages of any size.
 #[derive(Clone, Copy, Debug, PartialEq, Eq)]
+#[repr(C)]
 pub struct KeyMark {
     /// The first hash.
     pub first: u64,
