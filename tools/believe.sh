@@ -6,7 +6,7 @@
 # counts too, so it may find more than is reached, and never less.
 #
 # A file of specs/ with a definition that is reached begins with `-- Believed. `, each other one with
-# `-- Internal. `. docs/BELIEVE.md lists these files, and the files of src/ with types that are reached,
+# `-- Internal. `; of a file that only `read` reaches either is taken. docs/BELIEVE.md lists these files, and the files of src/ with types that are reached,
 # once each, each after those that it uses, and names the kit's crates that they cite. The script prints
 # a line for each thing that is otherwise, and its status is 1 where it printed any.
 #
@@ -15,14 +15,15 @@ cd "$(dirname "$0")/.." || exit 2
 LC_ALL=C; export LC_ALL
 page=docs/BELIEVE.md
 reached=$(mktemp) || exit 2
-trap 'rm -f "$reached" "$reached.line"' EXIT
+trap 'rm -f "$reached" "$reached.line" "$reached.served"' EXIT
 
 specs() { find crates -name out -prune -o -path '*/specs/*.antt' ! -name Lib.antt -print | sort; }
 sources() { find crates -name out -prune -o -path '*/src/*.rt' ! -name tests.rt ! -path '*_tests/*' -print | sort; }
 
-# Prints a line for each file that is reached, with the names; for the kit's crates, `kit NAME`.
+# Prints a line for each file that is reached, with the names; for the kit's crates, `kit NAME`. With the
+# word `served`, what `read` reaches besides is left out.
 closure() {
-    awk '
+    awk -v part="$1" '
         # the names of an import: `PATH.{a, b as c}`, `PATH as x` or `PATH`
         function import(file, path, names,    parts, count, i, pair, target, target_of, kit) {
             sub(/^Rattle\./, "", path)
@@ -90,6 +91,12 @@ closure() {
         }
         {
             sub(/\/\/.*/, "")
+            # what the program does as a client
+            if (part == "served" && crate == "quaestor_prog") {
+                if ($0 ~ /^ *ensures read |^ *type Link|^ *ghost links|^ *fn (reach|hear|keep_link)[(<]/) client = 1
+                else if ($0 ~ /^ *(ensures [a-z]+ |type |ghost [a-z]+:|fn |\{$)|^}/ && !($0 ~ /^ *ensures (gives|links|unused|unasked|count) /)) client = 0
+                if (client) next
+            }
             if (using != "") { using = using " " $0; if ($0 ~ /;/) { use_line(file, crate, using); using = "" } ; next }
             if ($0 ~ /^ *ghost use /) { line = $0; sub(/^ *ghost use /, "", line); import_line(file, line); next }
             if ($0 ~ /^impl.* Model for /) { model = $0; sub(/.* Model for /, "", model); sub(/[^A-Za-z0-9_].*/, "", model) }
@@ -123,6 +130,7 @@ closure() {
         END {
             # a type with a model is seen as that, whatever it is made of
             for (name in value) if (name in where) { text[where[name]] = value[name]; sub(/Value/, "", text[where[name]]); modelled[where[name]] = 1 }
+            if (part == "served") for (name in text) if (home[name] ~ /^quaestor_prog\// && title[name] ~ /^(IsRead|ReadAsk)$/) text[name] = ""
             node = ""
             for (i = 1; i <= root_count; i++) reach(roots[i])
             if (root_count != 2) print "the clauses of run and of Status::code are not found" > "/dev/stderr"
@@ -151,6 +159,7 @@ closure() {
         }' $(specs) $(sources) | sort
 }
 closure > "$reached"
+closure served > "$reached.served"
 
 case "$1" in
     --list) grep -v '^uses ' "$reached"; exit 0 ;;
@@ -162,6 +171,9 @@ found=$(
         file=${path#crates/}
         if grep -q "^$file " "$reached"; then mark=Believed; else mark=Internal; fi
         read -r first < "$path"
+        if [ "$mark" = Believed ] && ! grep -q "^$file " "$reached.served"; then
+            case "$first" in "-- Believed. "*|"-- Internal. "*) [ "$1" = --set ] || continue ;; esac
+        fi
         case "$first" in
             "-- $mark. "*) ;;
             *)  if [ "$1" = --set ]; then
@@ -176,7 +188,9 @@ found=$(
     if [ "$1" != --set ]; then
         grep -oE '^\| `[a-z_]+/(specs|src)/[A-Za-z_/]+\.(antt|rt)`' "$page" | tr -d '`| ' > "$reached.line"
         awk -v page="$page" 'FNR == NR { at[$1] = NR; next }
-            $1 == "uses" && ($2 in at) && ($3 in at) && at[$3] > at[$2] { print page ": lists " $2 " before " $3 ", which it uses" }' "$reached.line" "$reached"
+            $1 == "uses" && ($2 in at) && ($3 in at) { later[$2, $3] = at[$3] > at[$2] }
+            # two files that use each other stand in either order
+            END { for (pair in later) { split(pair, of, SUBSEP); if (later[pair] && !((of[2], of[1]) in later)) print page ": lists " of[1] " before " of[2] ", which it uses" } }' "$reached.line" "$reached"
         sort -o "$reached.line" "$reached.line"
         uniq -d "$reached.line" | while read -r file; do echo "$page: lists $file twice"; done
         awk '$1 ~ /\// { print $1 }' "$reached" | sort | comm -23 - "$reached.line" | while read -r file; do echo "$page: does not list $file, which the top call's contract reaches"; done

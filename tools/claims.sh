@@ -28,8 +28,8 @@ specs() { find crates -name out -prune -o -path '*/specs/*.antt' ! -name Lib.ant
         }
         /^}/ { type = ""; fun = "" }
         type != "" && /^ +ghost [A-Za-z_]+ *[:=]/ { name = $2; sub(/:$/, "", name); print crate "::" type; print crate "::" type "." name }
-        /^ *(pub(\([a-z]+\))? )?(const )?fn / {
-            name = $0; sub(/^ *(pub(\([a-z]+\))? )?(const )?fn /, "", name); sub(/[^A-Za-z0-9_].*/, "", name)
+        /^ *(pub(\([a-z]+\))? )?(const )?(extern "C" )?fn / {
+            name = $0; sub(/^ *(pub(\([a-z]+\))? )?(const )?(extern "C" )?fn /, "", name); sub(/[^A-Za-z0-9_].*/, "", name)
             fun = crate "::" (type == "" ? "" : type "::") name
             print fun
         }

@@ -37,7 +37,7 @@ found=$({
         { gsub(/`/, ""); name = $0; sub(/.*::/, "", name); if (!(name in known) && !seen[$0]++) print "no function " $0 ", which a document names" }'
 
     # Each rule has its own plain words, and no number of an outside document.
-    grep -rnE --exclude-dir=out '(^|[^A-Za-z0-9_/.{"-])[DTWRL][0-9]+(\.[0-9]+)?([^A-Za-z0-9_]|$)' crates docs ./*.md
+    grep -rnIE --exclude-dir=out '(^|[^A-Za-z0-9_/.{"-])[DTWRL][0-9]+(\.[0-9]+)?([^A-Za-z0-9_]|$)' crates docs ./*.md
 
     # Each text that a must-fail edit takes away is exactly once in its file.
     files 'crates/*/must-fail/*.edit' | xargs awk '
