@@ -1,4 +1,3 @@
-mod BodyLemmas
 mod HeadLemmas
 mod LinkLemmas
 mod NumberLemmas

@@ -9,7 +9,6 @@ use Rattle.client_model.specs.declared.reply.Reply.{Reply}
 use Rattle.client_session.specs.Link.{HasCounted}
 use Rattle.client_session.specs.declared.ask.ClientAsk.TheVariants as ask
 use Rattle.client_session.specs.declared.ask.LinkRefusal.{LinkRefusal}
-use Rattle.client_session.specs.declared.ask.LinkRefusal.TheVariants as refusal
 use Rattle.client_session.specs.declared.last.LastReplies.{LastReplies}
 use Rattle.client_wire.specs.Links.{Ends, IsBadCounted, IsCounted, IsPageAnswered, IsPageRefused, ReadsOne, view_by}
 

@@ -1,7 +1,6 @@
 -- Definitions of replies, tried on worked examples.
-use Rattle.std.proofs.Common.{◌≡◌, ℕ, List, [], ◌∷◌, refl}
+use Rattle.std.proofs.Common.{◌≡◌, [], ◌∷◌, refl}
 use Rattle.std.specs.Prelude.{Some, None, codes}
-use Rattle.http_message.specs.Fields.{Pair}
 use Rattle.client_wire.specs.Numbers.{is_number, number_within, number_in, length_in, tag_in}
 use Rattle.client_wire.specs.ReplyFields.{first_refused, lifetime_by, value_place}
 

@@ -1,5 +1,5 @@
 -- Internal. What a link over a source and a sink gives, takes and answers.
-use Rattle.std.specs.Prelude.{◌≡◌, ◌≢◌, ◌⊎◌, ℕ, ◌+◌, ◌<◌, Bool, true, false, not, ◌&&◌, ◌||◌, ◌==◌, List, Option, None, is_none, Result, Ok, Err, IsErr}
+use Rattle.std.specs.Prelude.{◌≡◌, ◌≢◌, ◌⊎◌, ℕ, ◌+◌, ◌<◌, Bool, true, false, ◌&&◌, ◌||◌, ◌==◌, List, Option, None, is_none, Result, Ok, Err, IsErr}
 use Rattle.q_outside.specs.Ends.{End, GaveBytes, GavePart}
 use Rattle.flat_snapshot.specs.Reading.{read_page}
 use Rattle.flat_snapshot.specs.declared.read.PageRefusal.{PageRefusal}

@@ -1,5 +1,5 @@
 -- Internal. The value of a field as the code answers it, and the directives for caches as they are read in turn.
-use Rattle.std.specs.Prelude.{◌≡◌, ℕ, Bool, false, ◌||◌, List, [], ◌∷◌, map, if◌then◌else◌, Option, Some, None, codes}
+use Rattle.std.specs.Prelude.{◌≡◌, ℕ, false, ◌||◌, List, [], ◌∷◌, map, if◌then◌else◌, Option, Some, None, codes}
 use Rattle.std.specs.Borrow.{Bor}
 use Rattle.httparse.specs.Grammar.{trim_ows}
 use Rattle.http_message.specs.Fields.{Pair, is_named, pieces_between}

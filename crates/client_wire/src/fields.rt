@@ -1,21 +1,13 @@
 //! The fields of a reply's head: their values, and which is refused.
 ghost use Rattle.std.specs.Prelude.{◌≡◌, ℕ, List, [], length, map, All, codes};
 ghost use Rattle.httparse.specs.Spans.{header_bytes, IsHeaderWithin};
-ghost use Rattle.http_message.specs.Fields.{is_named};
 ghost use Rattle.client_wire.specs.Numbers.{number_in, length_in, date_in};
 ghost use Rattle.client_wire.specs.ReplyFields.{stands, is_refused_as, is_refused, first_refused, first_value};
 ghost use Rattle.client_wire.specs.Values.{IsValue};
 
 use crate::numbers::{date_in, length_in, number_in};
+use http_message::is_named;
 use httparse::spans::HeaderSpan;
-
-/// Whether the field has this name, without regard to ASCII case.
-pub(crate) fn is_named(text: &[u8], field: HeaderSpan, name: &[u8]) -> bool
-    requires { IsHeaderWithin (length text.now) field }
-    ensures { result ≡ is_named name.now (header_bytes text.now field) }
-{
-    field.name.of(text).eq_ignore_ascii_case(name)
-}
 
 /// Whether a field of this name stands among these.
 fn stands(text: &[u8], fields: &[HeaderSpan], name: &[u8]) -> bool

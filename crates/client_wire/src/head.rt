@@ -1,13 +1,14 @@
-//! The head of a reply, taken byte by byte, so that no byte behind it is taken.
-ghost use Rattle.std.specs.Prelude.{◌≡◌, ◌+◌, ◌<◌, ◌≤◌, [], length, take, slice_range, IfOk, IfErr, IfSome, IfNone};
+//! The head of a reply, taken so that no byte behind it is taken: a line at a time where the source has
+//! it in a buffer of its own, and otherwise byte by byte.
+ghost use Rattle.std.specs.Prelude.{◌≡◌, ◌+◌, ◌<◌, ◌≤◌, true, false, [], length, take, IfOk, IfErr};
 ghost use Rattle.q_outside.specs.Ends.{TookBytes};
-ghost use Rattle.http_message.specs.HeadScan.{IsLine, IsCut as IsCutLine, Skips};
+ghost use Rattle.http_message.specs.HeadScan.{IsScanned};
 ghost use Rattle.http_message.specs.Limits.{head_limit};
-ghost use Rattle.http_message.specs.Text.{begins_bare_cr, empty_lines_at_start};
-ghost use Rattle.client_wire.specs.Heads.{IsScannedBy, IsSeen, IsCut, TakesHead};
+ghost use Rattle.client_wire.specs.Heads.{IsInLine, IsPieceTaken, IsSeen, IsCut, TakesHead};
 
 use crate::room::HEAD_LIMIT;
-use http_message::{TextEnd, find_head_end};
+use http_message::{HeadScan, TextEnd, begins_bare_cr, find_head_end, pass_empty_lines};
+use memchr::memchr;
 use q_outside::{Failed, Source};
 
 /// Why no byte came.
@@ -37,15 +38,6 @@ pub struct HeadTaken {
     pub found: Result<HeadFound, Cut>,
 }
 
-/// How far the search for the end of the head has come.
-#[derive(Clone, Copy, Debug, PartialEq, Eq)]
-pub struct Scan {
-    /// The length of the empty lines at the start.
-    pub empty_lines: usize,
-    /// The number of bytes after these in which no head ends.
-    pub passed: usize,
-}
-
 /// Takes bytes into the buffer until they show what they begin with.
 pub(crate) fn take_head<S: Source>(source: &mut S, buffer: &mut [u8]) -> HeadTaken
     requires { length buffer.old ≡ head_limit }
@@ -53,7 +45,7 @@ pub(crate) fn take_head<S: Source>(source: &mut S, buffer: &mut [u8]) -> HeadTak
     ensures takes { TakesHead (S.at source.old) (S.at source.new) buffer.new result }
 {
     let mut count = 0;
-    let mut scan = Scan {
+    let mut scan = HeadScan {
         empty_lines: 0,
         passed: 0,
     };
@@ -66,37 +58,66 @@ pub(crate) fn take_head<S: Source>(source: &mut S, buffer: &mut [u8]) -> HeadTak
                 };
             }
             Err(further) => {
-                if let Err(cut) = take_byte(source, buffer, count) {
-                    return HeadTaken {
-                        count,
-                        found: Err(cut),
-                    };
+                let begun = has_begun(count, further);
+                match take_piece(source, &mut buffer[count..], begun) {
+                    Ok(size) => {
+                        count += size;
+                        scan = further;
+                    }
+                    Err(cut) => {
+                        return HeadTaken {
+                            count,
+                            found: Err(cut),
+                        };
+                    }
                 }
-                count += 1;
-                scan = further;
             }
         }
     }
 }
 
-/// Takes the next byte into the buffer, at this offset.
-fn take_byte<S: Source>(source: &mut S, buffer: &mut [u8], at: usize) -> Result<(), Cut>
-    requires { at < length buffer.old }
-    ensures len { length buffer.new ≡ length buffer.old }
-    ensures before { take at buffer.new ≡ take at buffer.old }
-    ensures taken { IfOk result (λ _. TookBytes (S.at source.old) (S.at source.new) (slice_range buffer.new at (at + 1))) }
+/// Whether two bytes of the head have come, behind which only a line feed can decide.
+fn has_begun(count: usize, scan: HeadScan) -> bool
+    requires { scan.empty_lines ≤ count }
+    ensures { result ≡ true → scan.empty_lines + 2 ≤ count }
+{
+    count - scan.empty_lines >= 2
+}
+
+/// Takes the next bytes to the start of the buffer, at least one: where a head has begun what the source
+/// holds of its line, and otherwise one byte.
+fn take_piece<S: Source>(source: &mut S, into: &mut [u8], begun: bool) -> Result<usize, Cut>
+    requires { 0 < length into.old }
+    ensures piece { IfOk result (λ size. IsPieceTaken (S.at source.old) (S.at source.new) begun into.new size) }
     ensures cut { IfErr result (λ cut. TookBytes (S.at source.old) (S.at source.new) [] × IsCut (S.at source.old) (S.at source.new) cut) }
 {
-    match source.take(&mut buffer[at..at + 1]) {
+    let most = piece_size(source.held(), begun).min(into.len());
+    match source.take(&mut into[..most]) {
         Ok(0) => Err(Cut::Ended),
-        Ok(_) => Ok(()),
+        Ok(size) => Ok(size),
         Err(Failed) => Err(Cut::Failed),
     }
 }
 
+/// The length of the bytes that are held of a line, up to and with its line feed, or 1 where a head has not
+/// begun or none are held.
+fn piece_size(held: &[u8], begun: bool) -> usize
+    ensures some { 0 < result }
+    ensures line { IsInLine held.now result }
+    ensures one { begun ≡ false → result ≡ 1 }
+{
+    if !begun {
+        return 1;
+    }
+    match memchr(b'\n', held) {
+        Some(feed) => feed + 1,
+        None => held.len().max(1),
+    }
+}
+
 /// Looks at the bytes. Where more bytes are needed, it answers what the search goes on from.
-fn look(held: &[u8], scan: Scan) -> Result<HeadFound, Scan>
-    requires scanned { IsScannedBy held.now scan }
+fn look(held: &[u8], scan: HeadScan) -> Result<HeadFound, HeadScan>
+    requires scanned { IsScanned held.now scan }
     requires within { length held.now ≤ head_limit }
     ensures { IsSeen held.now result }
 {
@@ -111,72 +132,9 @@ fn look(held: &[u8], scan: Scan) -> Result<HeadFound, Scan>
             size,
         }),
         TextEnd::Behind(_) if held.len() >= HEAD_LIMIT => Ok(HeadFound::Unreadable),
-        TextEnd::Behind(passed) => Err(Scan {
+        TextEnd::Behind(passed) => Err(HeadScan {
             empty_lines: scan.empty_lines,
             passed,
         }),
     }
-}
-
-/// Passes over the empty lines that have come.
-fn pass_empty_lines(held: &[u8], scan: Scan) -> Scan
-    requires { IsScannedBy held.now scan }
-    ensures empty_lines { result.empty_lines ≡ empty_lines_at_start held.now }
-    ensures scanned { IsScannedBy held.now result }
-{
-    let empty_lines = skip_empty_lines(held, scan.empty_lines);
-    if empty_lines == scan.empty_lines {
-        return scan;
-    }
-    Scan {
-        empty_lines,
-        passed: 0,
-    }
-}
-
-/// The length of the empty lines at the start, of which `known` bytes are known.
-fn skip_empty_lines(held: &[u8], known: usize) -> usize
-    requires { Skips held.now known }
-    ensures empty_lines { result ≡ empty_lines_at_start held.now }
-    ensures skips { Skips held.now result }
-{
-    let mut empty_lines = known;
-    loop {
-        match empty_line(&held[empty_lines..]) {
-            None => return empty_lines,
-            Some(0) => return empty_lines,
-            Some(size) => empty_lines += size,
-        }
-    }
-}
-
-/// The length of the empty line at the start, 0 where there is none, or nothing where the next byte
-/// decides.
-fn empty_line(rest: &[u8]) -> Option<usize>
-    ensures some { IfSome result (IsLine rest.now) }
-    ensures none { IfNone result (IsCutLine rest.now) }
-{
-    if rest.is_empty() {
-        return None;
-    }
-    if rest[0] == b'\n' {
-        return Some(1);
-    }
-    if rest[0] != b'\r' {
-        return Some(0);
-    }
-    if rest.len() == 1 {
-        return None;
-    }
-    if rest[1] == b'\n' {
-        return Some(2);
-    }
-    Some(0)
-}
-
-/// Whether the bytes begin with a bare CR: a CR that another byte than LF follows.
-fn begins_bare_cr(rest: &[u8]) -> bool
-    ensures { result ≡ begins_bare_cr rest.now }
-{
-    rest.len() >= 2 && rest[0] == b'\r' && rest[1] != b'\n'
 }

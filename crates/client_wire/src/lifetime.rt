@@ -1,17 +1,14 @@
 //! For how long a reply is fresh, by its directives for caches.
-ghost use Rattle.std.specs.Prelude.{◌≡◌, ◌<◌, ◌∷◌, [], length, map, reverse, All, IfSome, IfNone};
-ghost use Rattle.httparse.specs.Grammar.{skip_ows, trim_ows};
+ghost use Rattle.std.specs.Prelude.{◌≡◌, length, map, All};
+ghost use Rattle.httparse.specs.Grammar.{trim_ows};
 ghost use Rattle.httparse.specs.Spans.{header_bytes, IsHeaderWithin};
 ghost use Rattle.http_message.specs.Fields.{pieces_between};
 ghost use Rattle.client_wire.specs.ReplyFields.{directives, lifetime_by, is_no_store, seconds_in};
 ghost use Rattle.client_wire.specs.Values.{with_one, with_all, with_field};
 
-use crate::fields::is_named;
 use crate::numbers::number_within;
-use crate::place::skip_ows;
-use httparse::is_space_or_tab;
+use http_message::{is_named, split_once, trimmed};
 use httparse::spans::HeaderSpan;
-use memchr::memchr;
 
 /// What the directives that were read say.
 #[derive(Clone, Copy, Debug, PartialEq, Eq)]
@@ -88,37 +85,4 @@ fn seconds_in(directive: &[u8]) -> Option<u32>
         Some(seconds) => Some(seconds as u32),
         None => None,
     }
-}
-
-/// The list before its first comma and after it, or nothing where it has none.
-fn split_once(list: &[u8]) -> Option<(&[u8], &[u8])>
-    ensures parts { IfSome result (λ parts. pieces_between 44 list.now ≡ parts.0.now ∷ pieces_between 44 parts.1.now) }
-    ensures less { IfSome result (λ parts. length parts.1.now < length list.now) }
-    ensures none { IfNone result (pieces_between 44 list.now ≡ list.now ∷ []) }
-{
-    match memchr(b',', list) {
-        Some(end) => Some((&list[..end], &list[end + 1..])),
-        None => None,
-    }
-}
-
-/// Without the white space around it.
-#[tactic(auto, unfolding(httparse::specs::Grammar::trim_ows))]
-fn trimmed(text: &[u8]) -> &[u8]
-    ensures { result.now ≡ trim_ows text.now }
-{
-    trim_end(skip_ows(text))
-}
-
-/// Without the white space at the end.
-fn trim_end(text: &[u8]) -> &[u8]
-    ensures { result.now ≡ reverse (skip_ows (reverse text.now)) }
-{
-    let mut rest = text;
-    while let [others @ .., last] = rest
-        && is_space_or_tab(*last)
-    {
-        rest = others;
-    }
-    rest
 }

@@ -5,6 +5,7 @@ ghost use Rattle.std.specs.List.{list_all};
 ghost use Rattle.std.specs.Str.Parse.{digits_value};
 ghost use Rattle.client_wire.specs.Numbers.{body_limit, is_number, number_within, number_in, length_in, date_in, tag_in};
 
+use http_message::are_digits;
 use httpdate::HttpDate;
 
 /// The longest body that a client takes, in bytes.
@@ -32,13 +33,6 @@ fn is_number(text: &[u8]) -> bool
     ensures digits { IsTrue result → list_all is_ascii_digit text.now ≡ true }
 {
     !text.is_empty() && are_digits(text)
-}
-
-/// Whether each byte is a digit.
-fn are_digits(text: &[u8]) -> bool
-    ensures { result ≡ list_all is_ascii_digit text.now }
-{
-    text.iter().all(|byte| byte.is_ascii_digit())
 }
 
 /// The number that the digits write, or this one where it is above.

@@ -1,9 +1,8 @@
 //! Where the value of a field begins in the text of a head.
 ghost use Rattle.std.specs.Prelude.{◌≡◌, ◌≤◌, length};
-ghost use Rattle.httparse.specs.Grammar.{skip_ows};
 ghost use Rattle.client_wire.specs.ReplyFields.{behind, behind_lines, value_place};
 
-use httparse::is_space_or_tab;
+use http_message::trim_start;
 
 /// The bytes behind the first one that is this.
 fn behind(text: &[u8], byte: u8) -> &[u8]
@@ -34,20 +33,6 @@ fn behind_lines(text: &[u8], count: usize) -> &[u8]
     rest
 }
 
-/// Without the white space at the start.
-pub(crate) fn skip_ows(text: &[u8]) -> &[u8]
-    ensures value { result.now ≡ skip_ows text.now }
-    ensures shorter { length result.now ≤ length text.now }
-{
-    let mut rest = text;
-    while let [first, others @ ..] = rest
-        && is_space_or_tab(*first)
-    {
-        rest = others;
-    }
-    rest
-}
-
 /// The offset in a head's text of the value of the field with this index.
 #[tactic(auto, unfolding(crate::specs::ReplyFields::value_place))]
 pub(crate) fn value_place(text: &[u8], index: usize) -> usize
@@ -55,6 +40,6 @@ pub(crate) fn value_place(text: &[u8], index: usize) -> usize
     ensures within { result ≤ length text.now }
 {
     let line = behind_lines(text, index);
-    let value = skip_ows(behind(line, b':'));
+    let value = trim_start(behind(line, b':'));
     text.len() - value.len()
 }

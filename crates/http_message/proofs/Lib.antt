@@ -1,11 +1,11 @@
-mod EmptyLineLemmas
-mod BodyLemmas
+pub mod EmptyLineLemmas
+pub mod BodyLemmas
 mod ChunkLemmas
 mod CodingFacts
 mod CodingLemmas
 mod FieldLemmas
-mod FramingLemmas
-mod BeginningLemmas
+pub mod FramingLemmas
+pub mod BeginningLemmas
 mod HeadLemmas
 mod InputLemmas
 mod ItemLemmas

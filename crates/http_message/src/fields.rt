@@ -59,8 +59,8 @@ pub fn find_named<'a>(text: &'a [u8], fields: &[HeaderSpan], name: &[u8]) -> Nam
     found
 }
 
-/// Whether the field has this name.
-fn is_named(text: &[u8], field: HeaderSpan, name: &[u8]) -> bool
+/// Whether the field has this name, without regard to ASCII case.
+pub fn is_named(text: &[u8], field: HeaderSpan, name: &[u8]) -> bool
     requires { IsHeaderWithin (length text.now) field }
     ensures { result ≡ is_named name.now (header_bytes text.now field) }
 {

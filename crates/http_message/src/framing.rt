@@ -100,7 +100,7 @@ fn is_length(text: &[u8]) -> bool
 }
 
 /// Whether each byte is a digit.
-fn are_digits(text: &[u8]) -> bool
+pub fn are_digits(text: &[u8]) -> bool
     ensures { result ≡ list_all is_ascii_digit text.now }
 {
     text.iter().all(|byte| byte.is_ascii_digit())

@@ -1,5 +1,5 @@
 //! Options in a field that lists them, separated by commas (RFC 9110, section 5.6.1).
-ghost use Rattle.std.specs.Prelude.{◌≡◌, ◌<◌, [], ◌∷◌, length, reverse, IfSome, IfNone};
+ghost use Rattle.std.specs.Prelude.{◌≡◌, ◌<◌, ◌≤◌, [], ◌∷◌, length, reverse, IfSome, IfNone};
 ghost use Rattle.std.specs.Str.{str_eq_ignore_ascii_case};
 ghost use Rattle.httparse.specs.Grammar.{skip_ows, trim_ows};
 ghost use Rattle.http_message.specs.Fields.{has_option, pieces_between};
@@ -22,7 +22,7 @@ pub fn has_option(text: &[u8], option: &[u8]) -> bool
 }
 
 /// The list before its first comma and after it, or nothing where it has none.
-fn split_once(list: &[u8]) -> Option<(&[u8], &[u8])>
+pub fn split_once(list: &[u8]) -> Option<(&[u8], &[u8])>
     ensures parts { IfSome result (λ parts. pieces_between 44 list.now ≡ parts.0.now ∷ pieces_between 44 parts.1.now) }
     ensures less { IfSome result (λ parts. length parts.1.now < length list.now) }
     ensures none { IfNone result (pieces_between 44 list.now ≡ list.now ∷ []) }
@@ -34,16 +34,24 @@ fn split_once(list: &[u8]) -> Option<(&[u8], &[u8])>
 }
 
 /// Whether the member is this option, with white space around it.
-#[tactic(auto, unfolding(httparse::specs::Grammar::trim_ows))]
 fn is_option(member: &[u8], option: &[u8]) -> bool
     ensures { result ≡ str_eq_ignore_ascii_case (trim_ows member.now) option.now }
 {
-    trim_end(trim_start(member)).eq_ignore_ascii_case(option)
+    trimmed(member).eq_ignore_ascii_case(option)
+}
+
+/// Without the white space around it.
+#[tactic(auto, unfolding(httparse::specs::Grammar::trim_ows))]
+pub fn trimmed(text: &[u8]) -> &[u8]
+    ensures { result.now ≡ trim_ows text.now }
+{
+    trim_end(trim_start(text))
 }
 
 /// Without the white space at the start.
-fn trim_start(text: &[u8]) -> &[u8]
-    ensures { result.now ≡ skip_ows text.now }
+pub fn trim_start(text: &[u8]) -> &[u8]
+    ensures value { result.now ≡ skip_ows text.now }
+    ensures shorter { length result.now ≤ length text.now }
 {
     let mut rest = text;
     while let [first, others @ ..] = rest

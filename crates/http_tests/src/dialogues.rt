@@ -322,6 +322,10 @@ struct Patient<'a> {
 impl Source for Patient<'_> {
     ghost at = { λ s. record { bytes = None; faults = s.faults } };
 
+    fn held(&self) -> &[u8] {
+        &[]
+    }
+
     fn take(&mut self, into: &mut [u8]) -> Result<usize, Failed> {
         let Some((piece, due)) = self.pieces.get(self.at) else {
             return Ok(0);
@@ -393,6 +397,10 @@ struct Stopping<'a> {
 
 impl Source for Stopping<'_> {
     ghost at = { λ _. record { bytes = None; faults = 0 } };
+
+    fn held(&self) -> &[u8] {
+        &[]
+    }
 
     fn take(&mut self, into: &mut [u8]) -> Result<usize, Failed> {
         let count = self.left.len().min(into.len());

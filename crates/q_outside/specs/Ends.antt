@@ -46,6 +46,12 @@ Took before after into (Ok count) =
     (count ≤ length into) × TookBytes before after (take count into) × (count ≡ 0 → IsEnded after.bytes)
 Took before after into (Err failed) = TookBytes before after [] × (before.faults < after.faults)
 
+-- the same call, of the bytes that the source has in a buffer of its own: where it has some, it gave the first of these and keeps the others
+abbrev pub GaveFromBuffer : {E : Type 0} → (before after : List ℕ) → (into : List ℕ) → Result ℕ E → Type 0
+GaveFromBuffer [] after into result = Unit {0}
+GaveFromBuffer (b ∷ bytes) after into (Ok count) = b ∷ bytes ≡ take count into ++ after
+GaveFromBuffer (b ∷ bytes) after into (Err failed) = after ≡ b ∷ bytes
+
 -- a call of a sink: the first `count` bytes were given, at least one; or none, and the count of faults rose
 abbrev pub GaveSome : {E : Type 0} → (before after : End) → (bytes : List ℕ) → Result ℕ E → Type 0
 GaveSome before after bytes (Ok count) =

@@ -1,3 +1,4 @@
+pub mod Buffered
 pub mod Clocks
 pub mod Doors
 pub mod Ends

@@ -28,6 +28,10 @@ impl<R: Read + Drop> ReadSource<R> {
 impl<R: Read + Drop> Source for ReadSource<R> {
     ghost at = { λ s. record { bytes = None; faults = s.faults } };
 
+    fn held(&self) -> &[u8] {
+        &[]
+    }
+
     fn take(&mut self, into: &mut [u8]) -> Result<usize, Failed> {
         match self.reader.read(into) {
             Ok(count) => Ok(count),

@@ -2,8 +2,9 @@
 //!
 //! A source may show the bytes that are left, and a sink those that it holds. Of one that shows none
 //! nothing is claimed. Each has a count of faults that never falls, and fails only where that count rose.
-ghost use Rattle.std.specs.Prelude.{◌≡◌, ℕ, ◌<◌, length, true, None};
-ghost use Rattle.q_outside.specs.Ends.{End, Took, GaveSome};
+//! A source that has bytes in a buffer of its own lends them, and gives them first.
+ghost use Rattle.std.specs.Prelude.{◌≡◌, ℕ, ◌<◌, List, [], length, true, None};
+ghost use Rattle.q_outside.specs.Ends.{End, Took, GaveFromBuffer, GaveSome};
 
 use q_base::Moment;
 
@@ -16,10 +17,18 @@ pub trait Source {
     /// What contracts see of the source: the bytes that are left, where it shows them, and its faults.
     ghost at: { Self → End };
 
+    /// The bytes that it has in a buffer of its own. One without such a buffer has none there.
+    ghost buffered: { Self → List ℕ } = { λ _. [] };
+
+    /// The bytes that it has in a buffer of its own, which are the next that it gives.
+    fn held(&self) -> &[u8]
+        ensures { result.now ≡ buffered self.now };
+
     /// Copies the next bytes to the start of the buffer and returns their number. 0 is the end.
     fn take(&mut self, into: &mut [u8]) -> Result<usize, Failed>
         requires { 0 < length into.old }
-        ensures { Took (at self.old) (at self.new) into.new result };
+        ensures took { Took (at self.old) (at self.new) into.new result }
+        ensures buffered { GaveFromBuffer (buffered self.old) (buffered self.new) into.new result };
 
     /// A new request begins, of which bytes were taken already where `held` says so. A source with limits
     /// of time begins to count.

@@ -3,6 +3,7 @@
 #![tactic(auto)]
 
 mod adapters;
+mod buffered;
 mod clocks;
 mod connections;
 mod doors;
@@ -18,6 +19,7 @@ mod sinks;
 mod sources;
 
 pub use adapters::{ReadSource, SystemClock, WriteSink};
+pub use buffered::BufferedSource;
 pub use clocks::{FixedClock, ListClock};
 pub use connections::{Back, Next};
 pub use doors::Doors;

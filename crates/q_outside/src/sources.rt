@@ -27,6 +27,10 @@ impl PlainSource {
 impl Source for PlainSource {
     ghost at = { λ s. record { bytes = Some (drop s.at s.bytes.items); faults = 0 } };
 
+    fn held(&self) -> &[u8] {
+        &[]
+    }
+
     fn take(&mut self, into: &mut [u8]) -> Result<usize, Failed> {
         let taken = copy_piece(self.bytes.as_slice(), self.at, into, usize::MAX);
         self.at += taken;
@@ -80,6 +84,10 @@ impl ListSource {
 impl Source for ListSource {
     ghost at = { λ s. record { bytes = Some (drop s.at s.bytes.items); faults = s.faults } };
 
+    fn held(&self) -> &[u8] {
+        &[]
+    }
+
     fn take(&mut self, into: &mut [u8]) -> Result<usize, Failed> {
         let step = self.script.next();
         if step == ScriptStep::Fails && self.faults < u64::MAX {
@@ -106,7 +114,7 @@ impl Source for ListSource {
 }
 
 /// Copies at most `most` bytes from an offset on to the start of the buffer and returns their number.
-fn copy_piece(bytes: &[u8], at: usize, into: &mut [u8], most: usize) -> usize
+pub(crate) fn copy_piece(bytes: &[u8], at: usize, into: &mut [u8], most: usize) -> usize
     requires some { 0 < most }
     requires from { at ≤ length bytes.now }
     ensures within { result ≤ length into.old }

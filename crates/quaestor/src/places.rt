@@ -4,7 +4,7 @@ ghost use Rattle.std.specs.Prelude.{◌≡◌};
 use crate::link::{TcpLink, connect};
 use client_session::SessionRefusal;
 use client_wire::WireLink;
-use q_outside::{Failed, Limits, ReadSource, WriteSink};
+use q_outside::{Failed, Limits, WriteSink};
 use quaestor_prog::Places;
 use std::fs::{File, Files};
 use std::io;
@@ -137,9 +137,8 @@ where
         for _ in self.rt.forever() {
             match connect(&self.rt, address) {
                 Ok(ends) => {
-                    let source = ReadSource::new(ends.reader);
                     let sink = WriteSink::new(ends.writer);
-                    return Ok(WireLink::new(self.rt.alloc(), source, sink, ends.host));
+                    return Ok(WireLink::new(self.rt.alloc(), ends.source, sink, ends.host));
                 }
                 Err(error) => {
                     if self.faults < u64::MAX {

@@ -27,6 +27,10 @@ impl<R: Clock + Drop> TcpSource<R> {
 impl<R: Clock + Drop> Source for TcpSource<R> {
     ghost at = { λ s. record { bytes = None; faults = s.faults } };
 
+    fn held(&self) -> &[u8] {
+        &[]
+    }
+
     fn take(&mut self, into: &mut [u8]) -> Result<usize, Failed> {
         match self.shared.read(into) {
             Ok(count) => Ok(count),

@@ -3,7 +3,7 @@ ghost use Rattle.std.specs.Prelude.{◌<◌, IfOk};
 
 use client_model::Reply;
 use client_wire::{Lacks, WireRefusal, read_reply};
-use q_outside::PlainSource;
+use q_outside::{BufferedSource, Failed, PlainSource, Source};
 use std::alloc::Global;
 use std::test::Fail;
 
@@ -492,20 +492,39 @@ fn reply_text(alloc: Global, reply: &Reply, lacks: Lacks, taken: usize) -> Resul
     )?)
 }
 
-/// What the bytes are read as, and whether the body is the last of those that were taken.
-fn answer_to(alloc: Global, bytes: Vec<u8>) -> Result<(String, bool), Fail> {
-    let mut source = PlainSource::of(bytes);
-    match read_reply(alloc, &mut source) {
+/// The number of bytes that a source has left.
+fn left_in<S: Source>(source: &mut S) -> Result<usize, Fail> {
+    let mut buffer = [0u8; 64];
+    let mut left: usize = 0;
+    for _ in 0..1_000 {
+        match source.take(&mut buffer) {
+            Ok(0) => return Ok(left),
+            Ok(count) => left = left.wrapping_add(count),
+            Err(Failed) => break,
+        }
+    }
+    Err(Fail::from("a source without an end"))
+}
+
+/// What the bytes of a source are read as, and whether the body is the last of those that were taken.
+fn answer_to<S: Source>(
+    alloc: Global,
+    source: &mut S,
+    bytes: &[u8],
+) -> Result<(String, bool), Fail> {
+    let answer = read_reply(alloc, source);
+    let taken = bytes.len().saturating_sub(left_in(source)?);
+    match answer {
         Ok((reply, lacks)) => {
-            let text = reply_text(alloc, &reply, lacks, source.at)?;
-            let taken = &source.bytes.as_slice()[..source.at];
-            Ok((text, taken.ends_with(reply.body.as_slice())))
+            let text = reply_text(alloc, &reply, lacks, taken)?;
+            let read = bytes.get(..taken).unwrap_or(bytes);
+            Ok((text, read.ends_with(reply.body.as_slice())))
         }
         Err(WireRefusal::BadReply { place }) => {
             Ok((format!(in alloc; "refused bad_reply {place}")?, true))
         }
         Err(WireRefusal::Truncated { taken }) => {
-            let all = taken == source.bytes.len();
+            let all = taken == bytes.len();
             Ok((format!(in alloc; "refused truncated")?, all))
         }
         Err(_) => Err(Fail::from("no answer")),
@@ -519,9 +538,15 @@ fn replies_are_read_as_in_the_vectors(rt: HostRuntime) -> Result<(), Fail> {
         let Some((text, wanted)) = line.split_once(" = ") else {
             return Err(Fail::from("a line without an answer"));
         };
-        let (answer, is_body) = answer_to(alloc, bytes_of(alloc, text.as_bytes())?)?;
+        let bytes = bytes_of(alloc, text.as_bytes())?;
+        let mut plain = PlainSource::of(bytes.clone()?);
+        let mut buffered = BufferedSource::new(alloc, PlainSource::of(bytes.clone()?))?;
+        let (answer, is_body) = answer_to(alloc, &mut plain, &bytes)?;
         assert_eq!(rt; answer.as_str(), wanted, "at {text}");
         assert!(rt; is_body, "the body at {text}");
+        let (answer, is_body) = answer_to(alloc, &mut buffered, &bytes)?;
+        assert_eq!(rt; answer.as_str(), wanted, "in a buffer, at {text}");
+        assert!(rt; is_body, "the body in a buffer, at {text}");
     }
     assert_eq!(rt; lines().lines().count(), 150);
     Ok(())

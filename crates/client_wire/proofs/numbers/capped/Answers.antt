@@ -1,5 +1,5 @@
 use Rattle.std.proofs.Common.{◌≡◌, ◌∙◌, arith}
-use Rattle.client_wire.proofs.NumberLemmas.{number_more, digit_at}
+use Rattle.http_message.proofs.FramingLemmas.{number_more, digit_at}
 use Rattle.client_wire.proofs.numbers.capped.Goals as goal
 
 pub loop-byte-preserved : goal.loop-byte-preserved

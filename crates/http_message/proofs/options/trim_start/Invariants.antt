@@ -1,9 +1,12 @@
-use Rattle.std.proofs.Common.{◌≡◌, length}
+use Rattle.std.proofs.Common.{◌≡◌, ◌≤◌, length}
 use Rattle.httparse.specs.Grammar.{skip_ows}
 use Rattle.http_message.proofs.options.trim_start.Given as goal
 
 abbrev pub invariant-loop-rest : goal.invariant-loop-rest
-invariant-loop-rest l = skip_ows l.rest ≡ skip_ows l.text
+invariant-loop-rest l = record {
+  same : skip_ows l.rest ≡ skip_ows l.text;
+  shorter : length l.rest ≤ length l.text;
+}
 
 abbrev pub decreases-loop-rest : goal.decreases-loop-rest
 decreases-loop-rest l = length l.rest
