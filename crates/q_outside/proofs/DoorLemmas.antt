@@ -23,6 +23,7 @@ module _ {S K : Type 0} where
   pub passed_nothing : (doors : DoorsView S K) → Passes doors doors [] [] 0
   passed_nothing doors = record {
     left = Takes-nothing doors.left;
+    counted = counts_nothing doors.given;
     handed_back = Gives-nothing doors.handed;
     away = counts_nothing doors.away;
     closings = omega arith;
@@ -37,6 +38,7 @@ module _ {S K : Type 0} where
       let away = counts_both first.away middle.away last.away (length given) (length handed) (length given') (length handed') p.away q.away in
       record {
         left = Takes-append first.left middle.left last.left given given' p.left q.left;
+        counted = subst (λ (i : ℕ). Counts first.given last.given i 0) (sym came) (counts_both first.given middle.given last.given (length given) 0 (length given') 0 p.counted q.counted);
         handed_back = Gives-append first.handed middle.handed last.handed handed handed' p.handed_back q.handed_back;
         away = subst (λ (i : ℕ). Counts first.away last.away i (length (handed ++ handed'))) (sym came) (subst (λ (j : ℕ). Counts first.away last.away (length given + length given') j) (sym went) away);
         closings = omega (arith, p.closings, q.closings);

@@ -25,4 +25,6 @@ pub struct Back<S, K> {
     pub sink: K,
     /// How the connection was served, if it was.
     pub served: Option<Served>,
+    /// How many connections the doors had given when it was handed back.
+    pub after: usize,
 }

@@ -1,10 +1,10 @@
 //! Doors, through which connections come and go.
 //!
-//! Doors may show the connections that are left to give and those that were handed back. Of doors that
-//! show neither nothing is claimed of them. They have a count of faults and a count of the times that
-//! they were closed. Neither falls.
-ghost use Rattle.std.specs.Prelude.{◌<◌, ◌∷◌, [], IfSome};
-ghost use Rattle.q_outside.specs.Doors.{DoorsView, Passes, GaveNext};
+//! Doors may show the connections that are left to give, how many they gave, and those that were handed
+//! back, each with how many had been given by then. Of doors that show none of it nothing is claimed of
+//! them. They have a count of faults and a count of the times that they were closed. Neither falls.
+ghost use Rattle.std.specs.Prelude.{◌<◌, IfSome};
+ghost use Rattle.q_outside.specs.Doors.{DoorsView, GaveNext, TookBack};
 
 use crate::connections::Next;
 use crate::environment::{Failed, Sink, Source};
@@ -18,8 +18,8 @@ pub trait Doors {
     /// What they go to.
     type To: Sink + Send + Drop + 'static;
 
-    /// What contracts see of the doors: the connections left to give, those handed back and those in
-    /// between, where the doors show them, and the two counts.
+    /// What contracts see of the doors: the connections left to give, how many were given, those handed
+    /// back and those in between, where the doors show them, and the two counts.
     ghost at: { Self → DoorsView Self.From Self.To };
 
     /// Waits for the next connection.
@@ -29,5 +29,5 @@ pub trait Doors {
     /// Hands a connection back, with how it was served, or none where it was not. It takes no memory.
     fn back(&mut self, source: Self::From, sink: Self::To, served: Option<Served>)
         requires { IfSome (at self.old).away (λ n. 0 < n) }
-        ensures { Passes (at self.old) (at self.new) [] (record { source = source; sink = sink; served = served } ∷ []) 0 };
+        ensures { TookBack (at self.old) (at self.new) source sink served };
 }

@@ -1,5 +1,5 @@
 //! Doors over connections in memory.
-ghost use Rattle.std.specs.Prelude.{◌≡◌, ◌+◌, ◌<◌, ◌≤◌, [], vec_len, vec_capacity, Some, IfOk};
+ghost use Rattle.std.specs.Prelude.{◌≡◌, ◌+◌, ◌<◌, ◌≤◌, [], length, vec_len, vec_capacity, Some, IfOk};
 ghost use Rattle.std.specs.VecDeque.{deque_len};
 
 use crate::connections::{Back, Next};
@@ -15,7 +15,7 @@ use std::sync::ledger::{Blank, Ledger};
 
 /// Doors that give a list of connections in order and are closed behind the last. They keep what is
 /// handed back, in memory that was taken when they were made. A script says which calls fail. They show
-/// all that they give and keep.
+/// all that they give and keep. What they gave is what was handed back and what is away.
 #[derive(Drop)]
 pub struct ListDoors<S: Drop, K: Drop, L: Ledger> {
     /// The connections that are left to give.
@@ -73,6 +73,7 @@ where
 
     ghost at = { λ d. record {
       left = Some d.left.items;
+      given = Some (length d.handed.items + d.away);
       handed = Some d.handed.items;
       away = Some d.away;
       closings = d.closings;
@@ -97,11 +98,13 @@ where
     }
 
     fn back(&mut self, source: S, sink: K, served: Option<Served>) {
+        let after = self.handed.len() + self.away;
         self.away -= 1;
         self.handed.push_reserved(Back {
             source,
             sink,
             served,
+            after,
         });
     }
 }

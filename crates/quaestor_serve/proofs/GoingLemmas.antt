@@ -1,14 +1,14 @@
 -- What a server has done after one step more.
-use Rattle.std.proofs.Common.{◌≡◌, ℕ, ◌+◌, ◌<◌, ◌≤◌, List, [], ◌∷◌, ◌++◌, map, length, Option, Some, None, IfSome, refl, sym, ap, ◌∙◌, subst, arith, append-nil, append_assoc, length-append}
+use Rattle.std.proofs.Common.{◌≡◌, ℕ, ◌+◌, ◌<◌, ◌≤◌, List, [], ◌∷◌, ◌++◌, map, length, Option, Some, None, IfSome, refl, sym, ap, ◌∙◌, subst, arith, append-nil, length-append}
 use Rattle.std.specs.Arc.{arc_value}
-use Rattle.std.specs.List.{flat_map}
+use Rattle.std.specs.List.{enumerate_from, flat_map}
 use Rattle.std.specs.List.Sorted.{IsPermutation}
 use Rattle.std.proofs.lemmas.List.{map-append}
-use Rattle.std.proofs.lemmas.List.Sorted.{IsPermutation-refl, IsPermutation-sym, IsPermutation-cons, IsPermutation-to_front, IsPermutation-map, IsPermutation-append_left, IsPermutation-append_right, IsPermutation-middle, IsPermutation-trans}
+use Rattle.std.proofs.lemmas.List.Sorted.{IsPermutation-refl, IsPermutation-map, IsPermutation-append_right, IsPermutation-trans}
 use Rattle.std.proofs.lemmas.Grind.{flat_map-append}
 use Rattle.hub_model.specs.declared.entry.Entry.{Entry}
 use Rattle.hub_model.specs.Setting.{Setting}
-use Rattle.q_outside.specs.Doors.{DoorsView, Passes, Counts}
+use Rattle.q_outside.specs.Doors.{DoorsView, Passes, Counts, TookBack}
 use Rattle.q_outside.specs.Ends.{End}
 use Rattle.q_outside.specs.declared.connections.Back.{Back}
 use Rattle.q_outside.specs.declared.served.Served.{Served}
@@ -16,16 +16,18 @@ use Rattle.q_outside.proofs.DoorLemmas.{passed_nothing, passed_both}
 use Rattle.quaestor_serve.specs.declared.begun.Begun.{Begun}
 use Rattle.quaestor_serve.specs.declared.hall.Hall.{Hall}
 use Rattle.quaestor_serve.specs.declared.running.Running.{Running}
-use Rattle.quaestor_serve.specs.Going.{Going, HaveRoom, HandsBack, began_with}
+use Rattle.quaestor_serve.specs.Going.{Going, HaveRoom, HandsBack, began_with, open_in}
 use Rattle.quaestor_serve.specs.Halls.{begun_in, setting_in, seen_in, met_in, IsReady, Stays, KeepsOut, Releases}
 use Rattle.quaestor_serve.specs.Kept.{setting_at}
 use Rattle.quaestor_serve.specs.Matchers.{IsAsBefore}
-use Rattle.quaestor_serve.specs.Running.{begun_of, HasBegun}
-use Rattle.quaestor_serve.specs.Visits.{Visit, given_of, back_of, own_of, IsWell}
+use Rattle.quaestor_serve.specs.Running.{begun_of}
+use Rattle.quaestor_serve.specs.Visits.{Visit, given_of, back_of, own_of, given_at, IsWell}
 use Rattle.turnstile.specs.Places.{AllOf, Distinct}
-use Rattle.turnstile.proofs.PlaceLemmas.{all_append}
+use Rattle.turnstile.specs.Seats.{seen}
+use Rattle.turnstile.proofs.PlaceLemmas.{all_append, all_left, all_right}
 use Rattle.quaestor_serve.proofs.HallLemmas.{keeps_both}
-use Rattle.quaestor_serve.proofs.OrderLemmas.{all_permuted, moves_behind, comes_waiting, waits_no_longer}
+use Rattle.quaestor_serve.proofs.OrderLemmas.{all_permuted, all_unmapped, moves_behind, comes_open, leaves_open, waits_no_longer, numbered_last}
+use Rattle.quaestor_serve.proofs.KnownLemmas.{IsLater, count_given, count_now, numbers_below, known_to_none, ordered_more, later_permuted, later_first, later_rest, later_more, ends_known}
 use Rattle.quaestor_serve.proofs.VisitLemmas.{all_stay, some_least}
 
 -- no memory need be kept for none
@@ -59,28 +61,40 @@ module _ {S K C : Type 0} where
 
 module _ {S K C : Type 0} (source_at : S → End) (sink_at : K → End) (tick : C → ℕ → C → Type 0) (may : C → Type 0) where
   -- a connection was handed back
-  pub goes_back : (first old new : DoorsView S K) (h l : Hall S K C) (waiting : List (S × K)) (count closed : ℕ) (source : S) (sink : K) (served : Served) → Stays h l → Releases source_at sink_at tick h l source sink served → Passes old new [] (record { source = source; sink = sink; served = Some served } ∷ []) 0 → Going source_at sink_at tick may first old h waiting count closed → Going source_at sink_at tick may first new l waiting count closed
-  goes_back first old new h l waiting count closed source sink served same r passed going =
-      let visit : Visit S K = record { source = r.begun.source.value; sink = r.begun.sink.value; source_left = source; sink_left = sink; served = served; own = r.own } in
+  pub goes_back : (first old new : DoorsView S K) (h l : Hall S K C) (waiting : List (Begun S K C)) (count closed : ℕ) (source : S) (sink : K) (served : Served) → Stays h l → Releases source_at sink_at tick h l source sink served → TookBack old new source sink (Some served) → Going source_at sink_at tick may first old h waiting count closed → Going source_at sink_at tick may first new l waiting count closed
+  goes_back first old new h l waiting count closed source sink served same r took going =
+      let start = given_at first in
+      let visit : Visit S K = record { number = r.begun.number.value; source = r.begun.source.value; sink = r.begun.sink.value; source_left = source; sink_left = sink; served = served; own = r.own; after = start + count; began = seen r.begun.seat.value; ended = r.ended } in
+      let came = enumerate_from 0 going.came in
+      let passed : Passes old new [] (back_of visit ∷ []) 0 = took (start + count) (count_now first.given old.given (length going.came) count going.count_is going.passed.counted) in
       let setting : setting_in l ≡ setting_in h = ap setting_at same.0 in
+      let left : IsPermutation (open_in waiting h) (r.begun ∷ open_in waiting l) = leaves_open waiting (begun_in h) (begun_in l) r.begun r.leaves in
       let behind : map given_of (going.visits ++ visit ∷ []) ≡ map given_of going.visits ++ given_of visit ∷ [] = map-append given_of going.visits (visit ∷ []) in
-      let left : IsPermutation (map began_with (begun_in h)) (given_of visit ∷ map began_with (begun_in l)) = IsPermutation-map began_with (begun_in h) (r.begun ∷ begun_in l) r.leaves in
-      let moved : IsPermutation going.came ((map given_of going.visits ++ given_of visit ∷ []) ++ (waiting ++ map began_with (begun_in l))) =
-      moves_behind going.came (map given_of going.visits) waiting (map began_with (begun_in h)) (map began_with (begun_in l)) (given_of visit) going.came_are left in
+      let moved : IsPermutation came ((map given_of going.visits ++ given_of visit ∷ []) ++ map began_with (open_in waiting l)) =
+      moves_behind came (map given_of going.visits) (map began_with (open_in waiting h)) (map began_with (open_in waiting l)) (given_of visit) going.came_are (IsPermutation-map began_with (open_in waiting h) (r.begun ∷ open_in waiting l) left) in
+      let came_are : IsPermutation came (map given_of (going.visits ++ visit ∷ []) ++ map began_with (open_in waiting l)) = subst (λ (xs : List (ℕ × (S × K))). IsPermutation came (xs ++ map began_with (open_in waiting l))) (sym behind) moved in
+      let below = numbers_below going.came (map given_of (going.visits ++ visit ∷ []) ++ map began_with (open_in waiting l)) count going.count_is came_are in
+      let below_visits : AllOf (λ (v : Visit S K). v.number < count) (going.visits ++ visit ∷ []) = all_unmapped (λ (p : ℕ × (S × K)). p.0 < count) given_of (going.visits ++ visit ∷ []) (all_left (λ (p : ℕ × (S × K)). p.0 < count) (map given_of (going.visits ++ visit ∷ [])) (map began_with (open_in waiting l)) below) in
+      let below_open : AllOf (λ (b : Begun S K C). b.number.value < count) (open_in waiting l) = all_unmapped (λ (p : ℕ × (S × K)). p.0 < count) began_with (open_in waiting l) (all_right (λ (p : ℕ × (S × K)). p.0 < count) (map given_of (going.visits ++ visit ∷ [])) (map began_with (open_in waiting l)) below) in
+      let later : AllOf (IsLater start (r.begun ∷ open_in waiting l)) going.visits = later_permuted start going.visits (open_in waiting h) (r.begun ∷ open_in waiting l) left going.later in
       let handed : map back_of (going.visits ++ visit ∷ []) ≡ map back_of going.visits ++ back_of visit ∷ [] = map-append back_of going.visits (visit ∷ []) in
       let both : Passes first new (going.came ++ []) (map back_of going.visits ++ back_of visit ∷ []) (closed + 0) = passed_both first old new going.came [] (map back_of going.visits) (back_of visit ∷ []) closed 0 going.passed passed in
       let none : closed + 0 ≡ closed = omega arith in
-      let allowed = all_permuted (λ b. may b.clock.value) (begun_in h) (r.begun ∷ begun_in l) r.leaves going.clocks in
+      let allowed = all_permuted (λ b. may b.clock.value) (open_in waiting h) (r.begun ∷ open_in waiting l) left going.clocks in
       record {
         came = going.came;
         visits = going.visits ++ visit ∷ [];
-        came_are = subst (λ (xs : List (S × K)). IsPermutation going.came (xs ++ (waiting ++ map began_with (begun_in l)))) (sym behind) moved;
+        came_are = came_are;
         passed = subst (λ (n : ℕ). Passes first new going.came (map back_of (going.visits ++ visit ∷ [])) n) none
             (subst (λ (xs : List (Back S K)). Passes first new going.came xs (closed + 0)) (sym handed)
             (subst (λ (xs : List (S × K)). Passes first new xs (map back_of going.visits ++ back_of visit ∷ []) (closed + 0)) (append-nil going.came) both));
         each = all_append (IsWell source_at sink_at tick may (setting_in l) (seen_in l)) going.visits (visit ∷ [])
             (all_stay source_at sink_at tick may (setting_in l) (seen_in h) (seen_in l) going.visits r.grew (subst (λ (g : Setting). AllOf (IsWell source_at sink_at tick may g (seen_in h)) going.visits) (sym setting) going.each))
             ((r.begun.clock.value, allowed.0, r.is_served), tt);
+        ordered = ordered_more start going.visits visit going.ordered (later_first start going.visits r.begun (open_in waiting l) later)
+            (known_to_none start visit count (λ (v : Visit S K). v.number) (λ (v : Visit S K). v.began) (going.visits ++ visit ∷ []) refl below_visits);
+        later = all_append (IsLater start (open_in waiting l)) going.visits (visit ∷ []) (later_rest start going.visits r.begun (open_in waiting l) later)
+            (known_to_none start visit count (λ (b : Begun S K C). b.number.value) (λ (b : Begun S K C). seen b.seat.value) (open_in waiting l) refl below_open, tt);
         met =
             let all : flat_map own_of (going.visits ++ visit ∷ []) ≡ flat_map own_of going.visits ++ (r.own ++ []) = flat_map-append own_of going.visits (visit ∷ []) in
             let own : r.own ++ [] ≡ r.own = append-nil r.own in
@@ -91,7 +105,7 @@ module _ {S K C : Type 0} (source_at : S → End) (sink_at : K → End) (tick : 
       }
 
   -- the doors gave no connection
-  pub goes_on : (first old new : DoorsView S K) (h : Hall S K C) (waiting : List (S × K)) (count closed more : ℕ) → Passes old new [] [] more → Going source_at sink_at tick may first old h waiting count closed → Going source_at sink_at tick may first new h waiting count (closed + more)
+  pub goes_on : (first old new : DoorsView S K) (h : Hall S K C) (waiting : List (Begun S K C)) (count closed more : ℕ) → Passes old new [] [] more → Going source_at sink_at tick may first old h waiting count closed → Going source_at sink_at tick may first new h waiting count (closed + more)
   goes_on first old new h waiting count closed more passed going =
       let handed = map back_of going.visits in
       let both : Passes first new (going.came ++ []) (handed ++ []) (closed + more) = passed_both first old new going.came [] handed [] closed more going.passed passed in
@@ -101,48 +115,60 @@ module _ {S K C : Type 0} (source_at : S → End) (sink_at : K → End) (tick : 
         came_are = going.came_are;
         passed = subst (λ (xs : List (S × K)). Passes first new xs handed (closed + more)) (append-nil going.came) (subst (λ (xs : List (Back S K)). Passes first new (going.came ++ []) xs (closed + more)) (append-nil handed) both);
         each = going.each;
+        ordered = going.ordered;
+        later = going.later;
         met = going.met;
         once = going.once;
         count_is = going.count_is;
         clocks = going.clocks;
       }
 
-  -- a connection came, and waits for a thread
-  pub comes : (first old new : DoorsView S K) (h : Hall S K C) (count : ℕ) (source : S) (sink : K) → Passes old new ((source, sink) ∷ []) [] 0 → Going source_at sink_at tick may first old h [] count 0 → Going source_at sink_at tick may first new h ((source, sink) ∷ []) (count + 1) 0
-  comes first old new h count source sink passed going =
+  -- a connection came, with a seat that was split off the main one since, and waits for a thread
+  pub comes : (first old new : DoorsView S K) (h : Hall S K C) (count : ℕ) (b : Begun S K C) (source : S) (sink : K) → Passes old new ((source, sink) ∷ []) [] 0 → b.number.value ≡ count → b.source.value ≡ source → b.sink.value ≡ sink → seen b.seat.value ≡ seen_in h → may b.clock.value → Going source_at sink_at tick may first old h [] count 0 → Going source_at sink_at tick may first new h (b ∷ []) (count + 1) 0
+  comes first old new h count b source sink passed number_is source_is sink_is seen_is allowed going =
       let handed = map back_of going.visits in
       let both : Passes first new (going.came ++ (source, sink) ∷ []) (handed ++ []) (0 + 0) = passed_both first old new going.came ((source, sink) ∷ []) handed [] 0 0 going.passed passed in
+      let count_is = going.count_is in
+      let number : 0 + length going.came ≡ b.number.value = omega (arith, count_is, number_is) in
+      let begins : (0 + length going.came, (source, sink)) ≡ began_with b =
+      ap (λ (n : ℕ). (n, (source, sink))) number ∙ ap (λ (s : S). (b.number.value, (s, sink))) (sym source_is) ∙ ap (λ (k : K). (b.number.value, (b.source.value, k))) (sym sink_is) in
+      let came : enumerate_from 0 (going.came ++ (source, sink) ∷ []) ≡ enumerate_from 0 going.came ++ began_with b ∷ [] =
+      numbered_last 0 going.came (source, sink) ∙ ap (λ (p : ℕ × (S × K)). enumerate_from 0 going.came ++ p ∷ []) begins in
       record {
         came = going.came ++ (source, sink) ∷ [];
         visits = going.visits;
-        came_are = comes_waiting going.came (map given_of going.visits) (map began_with (begun_in h)) (source, sink) going.came_are;
+        came_are = subst (λ (ps : List (ℕ × (S × K))). IsPermutation ps (map given_of going.visits ++ map began_with (open_in (b ∷ []) h))) (sym came)
+            (comes_open (enumerate_from 0 going.came) (map given_of going.visits) (map began_with (open_in [] h)) (began_with b) going.came_are);
         passed = subst (λ (xs : List (Back S K)). Passes first new (going.came ++ (source, sink) ∷ []) xs 0) (append-nil handed) both;
         each = going.each;
+        ordered = going.ordered;
+        later = later_more (given_at first) going.visits b (open_in [] h) (seen_in h) seen_is (ends_known source_at sink_at tick may (setting_in h) (seen_in h) going.visits going.each) going.later;
         met = going.met;
         once = going.once;
         count_is = length-append going.came ((source, sink) ∷ []) ∙ ap (λ (n : ℕ). n + 1) going.count_is;
-        clocks = going.clocks;
+        clocks = (allowed, going.clocks);
       }
 
   -- it has a thread
-  pub goes_in : (first now : DoorsView S K) (h l : Hall S K C) (r : Running S K C) (count : ℕ) (source : S) (sink : K) (clock : C) → arc_value l.turnstile ≡ arc_value h.turnstile → l.running.items ≡ h.running.items ++ r ∷ [] → (begun_of r).source.value ≡ source → (begun_of r).sink.value ≡ sink → (begun_of r).clock.value ≡ clock → seen_in l ≡ seen_in h → met_in l ≡ met_in h → may clock → Going source_at sink_at tick may first now h ((source, sink) ∷ []) count 0 → Going source_at sink_at tick may first now l [] count 0
-  goes_in first now h l r count source sink clock same more source_is sink_is clock_is seen_same met_same allowed going =
+  pub goes_in : (first now : DoorsView S K) (h l : Hall S K C) (r : Running S K C) (count : ℕ) → arc_value l.turnstile ≡ arc_value h.turnstile → l.running.items ≡ h.running.items ++ r ∷ [] → seen_in l ≡ seen_in h → met_in l ≡ met_in h → Going source_at sink_at tick may first now h (begun_of r ∷ []) count 0 → Going source_at sink_at tick may first now l [] count 0
+  goes_in first now h l r count same more seen_same met_same going =
       let setting : setting_in l ≡ setting_in h = ap setting_at same in
       let given = map given_of going.visits in
       let begins : begun_in l ≡ begun_in h ++ begun_of r ∷ [] = ap (λ (rs : List (Running S K C)). map begun_of rs) more ∙ map-append begun_of h.running.items (r ∷ []) in
-      let pair : began_with (begun_of r) ≡ (source, sink) = ap (λ (s : S). (s, (begun_of r).sink.value)) source_is ∙ ap (λ (k : K). (source, k)) sink_is in
-      let now_with : map began_with (begun_in l) ≡ map began_with (begun_in h) ++ (source, sink) ∷ [] =
-      ap (λ (bs : List (Begun S K C)). map began_with bs) begins ∙ map-append began_with (begun_in h) (begun_of r ∷ []) ∙ ap (λ (p : S × K). map began_with (begun_in h) ++ p ∷ []) pair in
+      let turned : IsPermutation (open_in (begun_of r ∷ []) h) (open_in [] l) = waits_no_longer (begun_in h) (begun_in l) (begun_of r) begins in
       record {
         came = going.came;
         visits = going.visits;
-        came_are = subst (λ (xs : List (S × K)). IsPermutation going.came (given ++ xs)) (sym now_with) (waits_no_longer going.came given (map began_with (begun_in h)) (source, sink) going.came_are);
+        came_are = IsPermutation-trans (enumerate_from 0 going.came) (given ++ map began_with (open_in (begun_of r ∷ []) h)) (given ++ map began_with (open_in [] l)) going.came_are
+            (IsPermutation-append_right given (map began_with (open_in (begun_of r ∷ []) h)) (map began_with (open_in [] l)) (IsPermutation-map began_with (open_in (begun_of r ∷ []) h) (open_in [] l) turned));
         passed = going.passed;
         each = subst (λ (g : Setting). AllOf (IsWell source_at sink_at tick may g (seen_in l)) going.visits) (sym setting) (subst (λ (s : List Entry). AllOf (IsWell source_at sink_at tick may (setting_in h) s) going.visits) (sym seen_same) going.each);
+        ordered = going.ordered;
+        later = later_permuted (given_at first) going.visits (open_in (begun_of r ∷ []) h) (open_in [] l) turned going.later;
         met = met_same ∙ going.met;
         once = subst (λ (ps : List (ℕ × Entry)). Distinct ps) (sym met_same) going.once;
         count_is = going.count_is;
-        clocks = subst (λ (bs : List (Begun S K C)). AllOf (λ b. may b.clock.value) bs) (sym begins) (all_append (λ b. may b.clock.value) (begun_in h) (begun_of r ∷ []) going.clocks (subst may (sym clock_is) allowed, tt));
+        clocks = all_permuted (λ b. may b.clock.value) (open_in (begun_of r ∷ []) h) (open_in [] l) turned going.clocks;
       }
 
   -- the doors failed
@@ -159,6 +185,8 @@ module _ {S K C : Type 0} (source_at : S → End) (sink_at : K → End) (tick : 
         came_are = subst (λ (bs : List (Begun S K C)). IsPermutation [] (map began_with bs)) (sym nobody) (IsPermutation-refl []);
         passed = passed_nothing first;
         each = tt;
+        ordered = tt;
+        later = tt;
         met = met_none;
         once = subst (λ (ps : List (ℕ × Entry)). Distinct ps) (sym met_none) tt;
         count_is = refl;
@@ -166,20 +194,22 @@ module _ {S K C : Type 0} (source_at : S → End) (sink_at : K → End) (tick : 
       }
 
   -- the hall is the same to connections
-  pub going_same : (first now : DoorsView S K) (h l : Hall S K C) (waiting : List (S × K)) (count closed : ℕ) → IsAsBefore h l → Going source_at sink_at tick may first now h waiting count closed → Going source_at sink_at tick may first now l waiting count closed
+  pub going_same : (first now : DoorsView S K) (h l : Hall S K C) (waiting : List (Begun S K C)) (count closed : ℕ) → IsAsBefore h l → Going source_at sink_at tick may first now h waiting count closed → Going source_at sink_at tick may first now l waiting count closed
   going_same first now h l waiting count closed same going =
       let begun : begun_in l ≡ begun_in h = ap (λ (rs : List (Running S K C)). map begun_of rs) same.2 in
       let setting : setting_in l ≡ setting_in h = ap setting_at same.0 in
       record {
         came = going.came;
         visits = going.visits;
-        came_are = subst (λ (bs : List (Begun S K C)). IsPermutation going.came (map given_of going.visits ++ (waiting ++ map began_with bs))) (sym begun) going.came_are;
+        came_are = subst (λ (bs : List (Begun S K C)). IsPermutation (enumerate_from 0 going.came) (map given_of going.visits ++ map began_with (waiting ++ bs))) (sym begun) going.came_are;
         passed = going.passed;
         each = subst (λ (g : Setting). AllOf (IsWell source_at sink_at tick may g (seen_in l)) going.visits) (sym setting) (subst (λ (s : List Entry). AllOf (IsWell source_at sink_at tick may (setting_in h) s) going.visits) (sym same.4) going.each);
+        ordered = going.ordered;
+        later = subst (λ (bs : List (Begun S K C)). AllOf (IsLater (given_at first) (waiting ++ bs)) going.visits) (sym begun) going.later;
         met = same.3 ∙ going.met;
         once = subst (λ (ps : List (ℕ × Entry)). Distinct ps) (sym same.3) going.once;
         count_is = going.count_is;
-        clocks = subst (λ (bs : List (Begun S K C)). AllOf (λ b. may b.clock.value) bs) (sym begun) going.clocks;
+        clocks = subst (λ (bs : List (Begun S K C)). AllOf (λ b. may b.clock.value) (waiting ++ bs)) (sym begun) going.clocks;
       }
 
 module _ {S K C : Type 0} (source_at : S → End) (sink_at : K → End) (tick : C → ℕ → C → Type 0) (is_clone : C → C → Type 0) where
@@ -208,16 +238,18 @@ module _ {S K C : Type 0} (source_at : S → End) (sink_at : K → End) (tick : 
   }
 
   -- one was
-  pub hands_one : (old new : DoorsView S K) (h l : Hall S K C) (source : S) (sink : K) (served : Served) → Stays h l → IsReady l → KeepsOut h l → length l.running.items + 1 ≡ length h.running.items → Releases source_at sink_at tick h l source sink served → Passes old new [] (record { source = source; sink = sink; served = Some served } ∷ []) 0 → HandsBack source_at sink_at tick is_clone old new h l
-  hands_one old new h l source sink served same ready out less r passed = record {
-    stays = same;
-    ready = ready;
-    out = out;
-    fewer = omega (arith, less);
-    room = λ more room. away_still old.away new.away 0 1 (length h.running.items + more) (length l.running.items + more) passed.away (omega (arith, less)) room;
-    faults = passed.count;
-    going = λ clock first waiting count closed going. goes_back source_at sink_at tick (is_clone clock) first old new h l waiting count closed source sink served same r passed going;
-  }
+  pub hands_one : (old new : DoorsView S K) (h l : Hall S K C) (source : S) (sink : K) (served : Served) → Stays h l → IsReady l → KeepsOut h l → length l.running.items + 1 ≡ length h.running.items → Releases source_at sink_at tick h l source sink served → TookBack old new source sink (Some served) → HandsBack source_at sink_at tick is_clone old new h l
+  hands_one old new h l source sink served same ready out less r took =
+      let passed = took (given_at old) (count_given old.given) in
+      record {
+        stays = same;
+        ready = ready;
+        out = out;
+        fewer = omega (arith, less);
+        room = λ more room. away_still old.away new.away 0 1 (length h.running.items + more) (length l.running.items + more) passed.away (omega (arith, less)) room;
+        faults = passed.count;
+        going = λ clock first waiting count closed going. goes_back source_at sink_at tick (is_clone clock) first old new h l waiting count closed source sink served same r took going;
+      }
 
   -- memory for those that are served is kept where some were handed back
   pub room_kept : (a b : DoorsView S K) (h i : Hall S K C) → HandsBack source_at sink_at tick is_clone a b h i → HaveRoom a h 0 → HaveRoom b i 0
@@ -227,4 +259,4 @@ module _ {S K C : Type 0} (source_at : S → End) (sink_at : K → End) (tick : 
 pub ruleset handing = (hands_none, hands_both, room_kept)
 
 -- what a call of the doors comes to
-pub ruleset ringing = (comes, goes_on, room_for_one, room_as_before)
+pub ruleset ringing = (goes_on, room_for_one, room_as_before)

@@ -1,5 +1,5 @@
 -- How a hall changes as connections come and leave.
-use Rattle.std.proofs.Common.{◌≡◌, ℕ, suc, ◌+◌, List, [], ◌∷◌, ◌++◌, map, length, Some, slice_get, refl, sym, ap, ◌∙◌, subst, arith, append-nil, length-append}
+use Rattle.std.proofs.Common.{◌≡◌, ℕ, suc, ◌+◌, List, [], ◌∷◌, ◌++◌, map, length, Some, slice_get, sym, ap, ◌∙◌, subst, arith, append-nil, length-append}
 use Rattle.std.proofs.lemmas.List.{map-append}
 use Rattle.std.specs.Arc.{arc_value}
 use Rattle.std.specs.List.Sorted.{IsPermutation}
@@ -19,12 +19,12 @@ use Rattle.quaestor_serve.specs.Kept.{HubTurnstile, HubSeat, IsFirst, IsFreshAt,
 use Rattle.quaestor_serve.specs.declared.matcher.Rested.{Rested}
 use Rattle.quaestor_serve.specs.Matches.{IsMatchingAt}
 use Rattle.quaestor_serve.specs.Matchers.{HasRested, Gathers}
-use Rattle.quaestor_serve.specs.Running.{begun_of, HasBegun}
+use Rattle.quaestor_serve.specs.Running.{begun_of}
 use Rattle.quaestor_serve.specs.Served.{IsServed, sides_of}
 use Rattle.turnstile.specs.Levels.{level_of, Out}
 use Rattle.turnstile.specs.Places.{AllOf, AreAt, Distinct}
 use Rattle.turnstile.specs.Rule.{Sound, IsWhole}
-use Rattle.turnstile.specs.Seats.{IsSeatOf, IsAlone, IsPart, HasOut, seen, mine, met}
+use Rattle.turnstile.specs.Seats.{IsSeatOf, IsAlone, HasOut, seen, mine, met}
 use Rattle.turnstile.specs.Views.{split_view, after_join, with_seen}
 use Rattle.turnstile.proofs.PlaceLemmas.{all_append}
 use Rattle.quaestor_serve.proofs.MatchLemmas.{matched_by}
@@ -152,15 +152,16 @@ module _ {S K C : Type 0} where
   released source_at sink_at tick h l r done left same all kept this that met_is once =
       let at : (begun_of r).turnstile.value ≡ arc_value h.turnstile = (left_at (arc_value h.turnstile) h.running.items l.running.items r left all).0 in
       let setting : setting_at (begun_of r).turnstile.value ≡ setting_in l = ap setting_at (at ∙ sym same) in
-      let served = served_stays tick (setting_at (begun_of r).turnstile.value) (seen done.seat) (seen_in l) (begun_of r).clock.value (sides_of source_at sink_at (begun_of r).source.value (begun_of r).sink.value) (sides_of source_at sink_at done.source done.sink) (mine done.seat) done.served that kept.served in
+      let served = served_stays tick (setting_at (begun_of r).turnstile.value) (seen done.seat) (seen_in l) (begun_of r).clock.value (seen (begun_of r).seat.value) (seen done.seat) (sides_of source_at sink_at (begun_of r).source.value (begun_of r).sink.value) (sides_of source_at sink_at done.source done.sink) (mine done.seat) done.served that kept.served in
       record {
         begun = begun_of r;
         own = mine done.seat;
+        ended = seen done.seat;
         leaves = IsPermutation-map begun_of h.running.items (r ∷ l.running.items) left;
         met = met_is ∙ ap (λ (xs : List (ℕ × Entry)). met_in h ++ (mine done.seat ++ xs)) kept.met ∙ ap (λ (xs : List (ℕ × Entry)). met_in h ++ xs) (append-nil (mine done.seat));
         once = once;
         grew = this;
-        is_served = subst (λ (g : Setting). IsServed tick g (seen_in l) (begun_of r).clock.value (sides_of source_at sink_at (begun_of r).source.value (begun_of r).sink.value) (sides_of source_at sink_at done.source done.sink) (mine done.seat) done.served) setting served;
+        is_served = subst (λ (g : Setting). IsServed tick g (seen_in l) (begun_of r).clock.value (seen (begun_of r).seat.value) (seen done.seat) (sides_of source_at sink_at (begun_of r).source.value (begun_of r).sink.value) (sides_of source_at sink_at done.source done.sink) (mine done.seat) done.served) setting served;
       }
 
   -- a matcher's seat was joined to the main one

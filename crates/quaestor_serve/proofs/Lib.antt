@@ -2,6 +2,7 @@ mod CrossingLemmas
 mod GoingLemmas
 mod HallLemmas
 mod KeptLemmas
+mod KnownLemmas
 mod MatchLemmas
 mod OrderLemmas
 mod RestLemmas

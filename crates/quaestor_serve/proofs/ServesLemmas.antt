@@ -1,9 +1,10 @@
 -- What a server has done when it ends.
 use Rattle.std.proofs.Common.{◌≡◌, ℕ, ◌<◌, ◌≤◌, List, [], ◌∷◌, ◌++◌, map, length, refl, sym, ap, ◌∙◌, subst, arith, append-nil, append_assoc}
 use Rattle.std.specs.Arc.{arc_value}
-use Rattle.std.specs.List.{flat_map}
+use Rattle.std.specs.List.{enumerate_from, flat_map}
 use Rattle.std.specs.List.Sorted.{IsPermutation}
 use Rattle.std.proofs.lemmas.List.{length-map}
+use Rattle.std.proofs.lemmas.List.FromFn.{length-enumerate_from}
 use Rattle.std.proofs.lemmas.List.Sorted.{IsPermutation-refl, length_permutation}
 use Rattle.hub_model.specs.declared.entry.Entry.{Entry}
 use Rattle.hub_model.specs.Desk.{IsPrefix}
@@ -19,7 +20,7 @@ use Rattle.quaestor_serve.specs.declared.running.Running.{Running}
 use Rattle.quaestor_serve.specs.declared.serve_end.ServeEnd.{ServeEnd}
 use Rattle.quaestor_serve.specs.declared.serve_end.ServeWhy.{ServeWhy}
 use Rattle.quaestor_serve.specs.declared.serve_end.ServeWhy.TheVariants.{Limit, Closed, DoorFault, Memory}
-use Rattle.quaestor_serve.specs.Going.{Going, began_with}
+use Rattle.quaestor_serve.specs.Going.{Going, began_with, open_in}
 use Rattle.quaestor_serve.specs.Halls.{begun_in, setting_in, seen_in, met_in, IsWholeIn}
 use Rattle.quaestor_serve.specs.Kept.{HubTurnstile, setting_at}
 use Rattle.quaestor_serve.specs.declared.matcher.Matcher.TheVariants.{Thread, Here}
@@ -27,7 +28,7 @@ use Rattle.quaestor_serve.specs.Matches.{IsMatched}
 use Rattle.quaestor_serve.specs.Matchers.{HasRested, WorksAt, WorkIn, Gathers}
 use Rattle.quaestor_serve.specs.Running.{begun_of}
 use Rattle.quaestor_serve.specs.Serves.{closings_by, Ends, EndsBy, IsUnbegun, Serves}
-use Rattle.quaestor_serve.specs.Visits.{given_of, back_of, own_of, IsWell}
+use Rattle.quaestor_serve.specs.Visits.{given_of, own_of, IsWell}
 use Rattle.turnstile.specs.Places.{AllOf, AreAt, Distinct}
 use Rattle.turnstile.proofs.PlaceLemmas.{all_append}
 use Rattle.turnstile.proofs.Prefixes.{prefix_self, prefix_trans}
@@ -149,6 +150,7 @@ module _ {S K C : Type 0} (source_at : S → End) (sink_at : K → End) (tick : 
     came_are = IsPermutation-refl [];
     passed = subst (λ (n : ℕ). Passes first first [] [] n) (sym not_closed) (passed_nothing first);
     each = tt;
+    ordered = tt;
     others = [];
     matching = tt;
     apart = tt;
@@ -166,8 +168,8 @@ module _ {S K C : Type 0} (source_at : S → End) (sink_at : K → End) (tick : 
   pub serves_all : (g : Setting) (first last : DoorsView S K) (h l : Hall S K C) (most : ℕ) (end : ServeEnd) → setting_in h ≡ g → h.running.items ≡ [] → IsLegal (setting_in l) (seen_in l) → IsWholeIn l → Gathers tick may h l → EndsBy end.why first last end.connections most → Going source_at sink_at tick may first last h [] end.connections (closings_by end.why) → Serves source_at sink_at tick may g first last most end
   serves_all g first last h l most end setting none legal whole gathers ends going =
       let nobody : begun_in h ≡ [] = ap (λ (rs : List (Running S K C)). map begun_of rs) none in
-      let given : map given_of going.visits ++ ([] ++ map began_with (begun_in h)) ≡ map given_of going.visits = ap (λ (bs : List (Begun S K C)). map given_of going.visits ++ map began_with bs) nobody ∙ append-nil (map given_of going.visits) in
-      let came_are : IsPermutation going.came (map given_of going.visits) = subst (λ (xs : List (S × K)). IsPermutation going.came xs) given going.came_are in
+      let given : map given_of going.visits ++ map began_with (open_in [] h) ≡ map given_of going.visits = ap (λ (bs : List (Begun S K C)). map given_of going.visits ++ map began_with bs) nobody ∙ append-nil (map given_of going.visits) in
+      let came_are : IsPermutation (enumerate_from 0 going.came) (map given_of going.visits) = subst (λ (xs : List (ℕ × (S × K))). IsPermutation (enumerate_from 0 going.came) xs) given going.came_are in
       let last_setting : setting_in l ≡ g = ap setting_at gathers.turnstile ∙ setting in
       let all : met_in l ≡ flat_map own_of going.visits ++ gathers.own = gathers.met ∙ ap (λ (ps : List (ℕ × Entry)). ps ++ gathers.own) going.met in
       record {
@@ -178,11 +180,12 @@ module _ {S K C : Type 0} (source_at : S → End) (sink_at : K → End) (tick : 
         came_are = came_are;
         passed = going.passed;
         each = all_stay source_at sink_at tick may g (seen_in h) (seen_in l) going.visits gathers.grew (subst (λ (s : Setting). AllOf (IsWell source_at sink_at tick may s (seen_in h)) going.visits) setting going.each);
+        ordered = going.ordered;
         others = gathers.own;
         matching = subst (λ (s : Setting). AllOf (IsMatched tick may s (seen_in l)) gathers.own) last_setting gathers.matching;
         apart = subst (λ (ps : List (ℕ × Entry)). Distinct ps) all (gathers.once going.once);
         at_positions = subst (λ (ps : List (ℕ × Entry)). AreAt (seen_in l) ps) all whole.1;
         whole = whole.0 ∙ ap length all;
-        count_is = sym (length-map going.visits given_of) ∙ length_permutation going.came (map given_of going.visits) came_are ∙ going.count_is;
+        count_is = sym (length-map going.visits given_of) ∙ length_permutation (enumerate_from 0 going.came) (map given_of going.visits) came_are ∙ length-enumerate_from 0 going.came ∙ going.count_is;
         ends = ends;
       }

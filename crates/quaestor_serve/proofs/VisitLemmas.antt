@@ -1,5 +1,5 @@
 -- What stays true of connections in a longer history.
-use Rattle.std.proofs.Common.{ℕ, ◌<◌, ◌≤◌, List, Option, Some, None, IfSome, arith}
+use Rattle.std.proofs.Common.{ℕ, ◌<◌, ◌≤◌, List, Option, Some, None, IfSome, subst, arith}
 use Rattle.hub_model.specs.declared.entry.Entry.{Entry}
 use Rattle.hub_model.specs.Desk.{IsPrefix}
 use Rattle.hub_model.specs.Setting.{Setting}
@@ -23,8 +23,8 @@ some_positive None n less room = room
 some_positive (Some m) n less room = omega (arith, less, room)
 
 -- a connection that was well served is so in every longer history
-pub served_stays : {C : Type 0} (tick : C → ℕ → C → Type 0) (g : Setting) (history longer : List Entry) (clock : C) (before after : Sides) (own : List (ℕ × Entry)) (served : Served) → IsPrefix history longer → IsServed tick g history clock before after own served → IsServed tick g longer clock before after own served
-served_stays tick g history longer clock before after own served grew s = record {
+pub served_stays : {C : Type 0} (tick : C → ℕ → C → Type 0) (g : Setting) (history longer : List Entry) (clock : C) (began ended : List Entry) (before after : Sides) (own : List (ℕ × Entry)) (served : Served) → IsPrefix history longer → IsServed tick g history clock began ended before after own served → IsServed tick g longer clock began ended before after own served
+served_stays tick g history longer clock began ended before after own served grew s = record {
   moments = s.moments;
   entered = s.entered;
   late = s.late;
@@ -35,9 +35,15 @@ served_stays tick g history longer clock before after own served grew s = record
     beginning = prefix_trans s.well.ends history longer s.well.beginning grew;
     dialogue = s.well.dialogue;
   };
+  begins = s.begins;
+  ends = s.ends;
 }
+
+-- what it knew at its end is in the history
+pub served_ended : {C : Type 0} (tick : C → ℕ → C → Type 0) (g : Setting) (history : List Entry) (clock : C) (began ended : List Entry) (before after : Sides) (own : List (ℕ × Entry)) (served : Served) → IsServed tick g history clock began ended before after own served → IsPrefix ended history
+served_ended tick g history clock began ended before after own served s = subst (λ (e : List Entry). IsPrefix e history) s.ends s.well.beginning
 
 module _ {S K C : Type 0} (source_at : S → End) (sink_at : K → End) (tick : C → ℕ → C → Type 0) (may : C → Type 0) where
   -- so are all of a list
   pub all_stay : (g : Setting) (history longer : List Entry) (visits : List (Visit S K)) → IsPrefix history longer → AllOf (IsWell source_at sink_at tick may g history) visits → AllOf (IsWell source_at sink_at tick may g longer) visits
-  all_stay g history longer visits grew = all_map (IsWell source_at sink_at tick may g history) (IsWell source_at sink_at tick may g longer) (λ visit w. (w.0, w.1, served_stays tick g history longer w.0 _ _ visit.own visit.served grew w.2)) visits
+  all_stay g history longer visits grew = all_map (IsWell source_at sink_at tick may g history) (IsWell source_at sink_at tick may g longer) (λ visit w. (w.0, w.1, served_stays tick g history longer w.0 visit.began visit.ended _ _ visit.own visit.served grew w.2)) visits

@@ -57,8 +57,10 @@ module _ {S K C : Type 0} where
   pub record Releases (source_at : S → End) (sink_at : K → End) (tick : C → ℕ → C → Type 0) (old new : Hall S K C) (source : S) (sink : K) (served : Served) : Type 0 where
     pub begun : Begun S K C
     pub own : List (ℕ × Entry)
+    -- the history that was known when it ended
+    pub ended : List Entry
     pub leaves : IsPermutation (begun_in old) (begun ∷ begun_in new)
     pub met : met_in new ≡ met_in old ++ own
     pub once : Distinct (met_in new)
     pub grew : IsPrefix (seen_in old) (seen_in new)
-    pub is_served : IsServed tick (setting_in new) (seen_in new) begun.clock.value (sides_of source_at sink_at begun.source.value begun.sink.value) (sides_of source_at sink_at source sink) own served
+    pub is_served : IsServed tick (setting_in new) (seen_in new) begun.clock.value (seen begun.seat.value) ended (sides_of source_at sink_at begun.source.value begun.sink.value) (sides_of source_at sink_at source sink) own served

@@ -1,5 +1,5 @@
 -- Believed. That a connection was well served, at moments of a clock of its own.
-use Rattle.std.specs.Prelude.{ℕ, Bool, List}
+use Rattle.std.specs.Prelude.{◌≡◌, ℕ, Bool, List}
 use Rattle.dialogue.specs.Dialogue.{Sides}
 use Rattle.hub_model.specs.declared.entry.Entry.{Entry}
 use Rattle.hub_model.specs.Setting.{Setting}
@@ -11,11 +11,13 @@ use Rattle.quaestor_server.specs.WellServed.{WellServed}
 abbrev pub sides_of : {S K : Type 0} → (S → End) → (K → End) → S → K → Sides
 sides_of source_at sink_at source sink = record { source = source_at source; sink = sink_at sink }
 
--- The connection was well served in the history, with these entries of its own, at moments that the clock gave.
-pub record IsServed {C : Type 0} (tick : C → ℕ → C → Type 0) (g : Setting) (history : List Entry) (clock : C) (before after : Sides) (own : List (ℕ × Entry)) (served : Served) : Type 0 where
+-- The connection was well served in the history, with these entries of its own, at moments that the clock gave. It knew the first list of entries when it began and the second when it ended.
+pub record IsServed {C : Type 0} (tick : C → ℕ → C → Type 0) (g : Setting) (history : List Entry) (clock : C) (began ended : List Entry) (before after : Sides) (own : List (ℕ × Entry)) (served : Served) : Type 0 where
   pub moments : List ℕ
   pub entered : List Bool
   -- the clock as it is at the end
   pub late : C
   pub ticks : Ticks tick clock moments late
   pub well : WellServed g history moments entered before after own served
+  pub begins : well.begins ≡ began
+  pub ends : well.ends ≡ ended

@@ -1,6 +1,6 @@
 -- Believed. What a server has done when it ends.
 use Rattle.std.specs.Prelude.{◌≡◌, ℕ, ◌<◌, List, [], ◌++◌, map, length}
-use Rattle.std.specs.List.{flat_map}
+use Rattle.std.specs.List.{enumerate_from, flat_map}
 use Rattle.std.specs.List.Sorted.{IsPermutation}
 use Rattle.hub_model.specs.declared.entry.Entry.{Entry}
 use Rattle.hub_model.specs.Legal.{IsLegal}
@@ -13,7 +13,7 @@ use Rattle.quaestor_serve.specs.declared.serve_end.ServeWhy.{ServeWhy}
 use Rattle.quaestor_serve.specs.declared.serve_end.ServeWhy.TheVariants.{Limit, Closed, DoorFault, Memory}
 use Rattle.quaestor_serve.specs.Going.{Going}
 use Rattle.quaestor_serve.specs.Matches.{IsMatched}
-use Rattle.quaestor_serve.specs.Visits.{Visit, given_of, back_of, own_of, IsWell}
+use Rattle.quaestor_serve.specs.Visits.{Visit, given_of, back_of, own_of, given_at, AreOrdered, IsWell}
 use Rattle.turnstile.specs.Places.{AllOf, AreAt, Distinct}
 
 -- how often the doors were closed
@@ -40,16 +40,17 @@ module _ {S K C : Type 0} (source_at : S → End) (sink_at : K → End) (tick : 
   abbrev pub Ends : (first now : DoorsView S K) → Hall S K C → ℕ → ServeEnd → Type 0
   Ends first now h most end = Going source_at sink_at tick may first now h [] end.connections (closings_by end.why) × EndsBy end.why first now end.connections most
 
-  -- Each connection that came was handed back once, in the order in which they ended, with how it was served: well, in one legal history, by entries of its own. Matchers made entries that match all commits before them, and no others. Each position of the history belongs to one of them: the history began empty, and nobody else made entries. The cause of the end is exact.
+  -- Each connection that came was handed back once, in the order in which they ended, with how it was served: well, in one legal history, by entries of its own. Each knew at its beginning all that was known at the end of each that was handed back before it came. Matchers made entries that match all commits before them, and no others. Each position of the history belongs to one of them: the history began empty, and nobody else made entries. The cause of the end is exact.
   pub record Serves (g : Setting) (first last : DoorsView S K) (most : ℕ) (end : ServeEnd) : Type 0 where
     pub history : List Entry
     pub legal : IsLegal g history
     -- the connections in the order in which they came, and in that in which they were handed back
     pub came : List (S × K)
     pub visits : List (Visit S K)
-    pub came_are : IsPermutation came (map given_of visits)
+    pub came_are : IsPermutation (enumerate_from 0 came) (map given_of visits)
     pub passed : Passes first last came (map back_of visits) (closings_by end.why)
     pub each : AllOf (IsWell source_at sink_at tick may g history) visits
+    pub ordered : AreOrdered (given_at first) visits
     -- the entries of the matchers, each with its position
     pub others : List (ℕ × Entry)
     pub matching : AllOf (IsMatched tick may g history) others

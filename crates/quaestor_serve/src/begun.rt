@@ -7,10 +7,14 @@ use std::snapshot::Snapshot;
 /// What a connection begins with. It has no bytes: only contracts see it.
 #[derive(Drop)]
 pub struct Begun<S, K, C> {
+    /// How many connections came before it.
+    pub number: Snapshot<u64>,
     pub source: Snapshot<S>,
     pub sink: Snapshot<K>,
     pub clock: Snapshot<C>,
     pub turnstile: Snapshot<Turnstile<HubValue>>,
+    /// Its seat, which has seen all that the connection knows at first.
+    pub seat: Snapshot<Seat<HubValue>>,
 }
 
 /// The same as the promise of a thread, which may be made again where no thread could be.

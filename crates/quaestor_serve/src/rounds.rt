@@ -1,8 +1,8 @@
 //! The rounds of a server: in each the connections that have ended leave, and then one comes.
-ghost use Rattle.std.specs.Prelude.{◌≡◌, ℕ, ◌+◌, ◌<◌, ◌≤◌, [], ◌∷◌, vec_len};
+ghost use Rattle.std.specs.Prelude.{◌≡◌, ◌+◌, ◌<◌, ◌≤◌, [], ◌∷◌, vec_len};
 ghost use Rattle.std.specs.Arc.{arc_value};
 ghost use Rattle.std.specs.VecDeque.{deque_len};
-ghost use Rattle.q_outside.specs.Doors.{DoorsView};
+ghost use Rattle.q_outside.specs.Doors.{DoorsView, Passes};
 ghost use Rattle.quaestor_serve.specs.declared.begun.Done.{Done};
 ghost use Rattle.quaestor_serve.specs.Halls.{IsReady, Stays, KeepsOut, setting_in};
 ghost use Rattle.quaestor_serve.specs.Going.{Going, HaveRoom, GoesOn, HandsBack};
@@ -171,7 +171,8 @@ where
     unreachable!()
 }
 
-/// Begins to serve a connection that came, at a vacant place.
+/// Begins to serve a connection that came, at a vacant place. Its seat is split off the main one only
+/// now, so it knows all that those knew that were handed back before it came.
 #[tactic(auto, using(crate::proofs::HallLemmas::ready_split, crate::proofs::HallLemmas::fresh_split))]
 fn admit<P, C, G, R>(
     rt: &R,
@@ -183,6 +184,7 @@ fn admit<P, C, G, R>(
     pool: Arc<Pool, Global>,
     gate: G,
     clock: C,
+    number: u64,
     source: P::From,
     sink: P::To,
 )
@@ -200,17 +202,19 @@ where
     ensures ready { IsReady hall.new }
     ensures out { KeepsOut hall.old hall.new }
     ensures room { HaveRoom (P.at doors.new) hall.new 0 }
-    ensures going { (given : C) (first : DoorsView P.From P.To) (count : ℕ) → C.is_clone given clock → Going P.From.at P.To.at C.tick (C.is_clone given) first (P.at doors.old) hall.old ((source, sink) ∷ []) count 0 → Going P.From.at P.To.at C.tick (C.is_clone given) first (P.at doors.new) hall.new [] count 0 }
+    ensures going { (given : C) (first before : DoorsView P.From P.To) → C.is_clone given clock → Passes before (P.at doors.old) ((source, sink) ∷ []) [] 0 → Going P.From.at P.To.at C.tick (C.is_clone given) first before hall.old [] number 0 → Going P.From.at P.To.at C.tick (C.is_clone given) first (P.at doors.new) hall.new [] (number + 1) 0 }
 {
     let Some(place) = hall.vacant.pop() else {
         unreachable!()
     };
     let seat = hall.turnstile.split(&mut hall.seat);
     let begun = Begun {
+        number: Snapshot::of(&number),
         source: Snapshot::of(&source),
         sink: Snapshot::of(&sink),
         clock: Snapshot::of(&clock),
         turnstile: Snapshot::of(&*turnstile),
+        seat: Snapshot::of(&seat),
     };
     let own = *rt;
     let work = move || {
@@ -224,7 +228,7 @@ where
 }
 
 /// Waits for a vacant place, takes the memory for one connection, and then waits for one and begins to
-/// serve it.
+/// serve it. So many came before it.
 #[tactic(auto, using(crate::proofs::GoingLemmas::ringing))]
 pub(crate) fn ring<P, C, G, R>(
     rt: &R,
@@ -233,6 +237,7 @@ pub(crate) fn ring<P, C, G, R>(
     hall: &mut Hall<P::From, P::To, C>,
     clock: &C,
     gate: &G,
+    number: u64,
 ) -> Round
 where
     P: Doors,
@@ -245,7 +250,7 @@ where
     ensures ready { IsReady hall.new }
     ensures out { KeepsOut hall.old hall.new }
     ensures room { HaveRoom (P.at doors.new) hall.new 0 }
-    ensures going { (first : DoorsView P.From P.To) (count : ℕ) → Going P.From.at P.To.at C.tick (C.is_clone clock.now) first (P.at doors.old) hall.old [] count 0 → GoesOn P.From.at P.To.at C.tick (C.is_clone clock.now) first (P.at doors.new) hall.new count result }
+    ensures going { (first : DoorsView P.From P.To) → Going P.From.at P.To.at C.tick (C.is_clone clock.now) first (P.at doors.old) hall.old [] number 0 → GoesOn P.From.at P.To.at C.tick (C.is_clone clock.now) first (P.at doors.new) hall.new number result }
 {
     wait_for_place(rt, doors, hall);
     let Ok(clock) = clock.clone() else {
@@ -266,7 +271,7 @@ where
     match doors.next() {
         Ok(Next::Connection { source, sink }) => {
             admit(
-                rt, alloc, doors, hall, turnstile, endings, pool, gate, clock, source, sink,
+                rt, alloc, doors, hall, turnstile, endings, pool, gate, clock, number, source, sink,
             );
             Round::Came
         }

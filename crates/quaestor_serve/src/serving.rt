@@ -115,7 +115,7 @@ where
     ensures ends { (first : DoorsView P.From P.To) → Going P.From.at P.To.at C.tick (C.is_clone clock.now) first (P.at doors.old) hall.old [] 0 0 → Ends P.From.at P.To.at C.tick (C.is_clone clock.now) first (P.at doors.new) hall.new connections result }
 {
     for given in 0..connections {
-        let why = match ring(rt, alloc, doors, hall, clock, gate) {
+        let why = match ring(rt, alloc, doors, hall, clock, gate, given) {
             Round::Came => {
                 step_all(rt, &hall.turnstile, matchers, clock);
                 continue;

@@ -33,7 +33,7 @@ fn serve_at<R: Wait, S: Source, K: Sink, C: Clock + Drop>(
     pool: &Pool,
 ) -> Done<S, K>
     requires { MayBegin turnstile.now seat pool.now }
-    ensures { Kept S.at K.at C.tick turnstile.now source sink clock result }
+    ensures { Kept S.at K.at C.tick turnstile.now seat source sink clock result }
 {
     let mut desk = Seated::new(rt, turnstile, seat);
     let mut rooms = PoolRooms { rt, pool };
@@ -70,7 +70,7 @@ pub(crate) fn serve_there<R: Wait + Copy, S: Source, K: Sink, C: Clock + Drop, G
     pool: Arc<Pool, Global>,
 ) -> Done<S, K>
     requires { MayBegin (arc_value turnstile) seat (arc_value pool) }
-    ensures { Kept S.at K.at C.tick (arc_value turnstile) source sink clock result }
+    ensures { Kept S.at K.at C.tick (arc_value turnstile) seat source sink clock result }
 {
     gate.pass(place);
     let done = serve_at(&rt, alloc, &turnstile, seat, source, sink, clock, &pool);

@@ -6,4 +6,6 @@ mod ends;
 #[cfg(test)]
 mod gates;
 #[cfg(test)]
+mod order;
+#[cfg(test)]
 mod sinks;

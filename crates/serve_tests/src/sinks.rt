@@ -55,13 +55,21 @@ pub(crate) fn connection_of(
     for _ in 0..count {
         bytes.extend_from_slice(GET)?;
     }
-    let source = PlainSource::of(bytes);
+    Ok(connection_from(alloc, bytes, opens))
+}
+
+/// A connection of these bytes.
+pub(crate) fn connection_from(
+    alloc: Global,
+    bytes: Vec<u8>,
+    opens: Option<HoldGate>,
+) -> (PlainSource, KeptSink) {
     let sink = KeptSink {
         bytes: Vec::new(alloc),
         faults: 0,
         opens,
     };
-    Ok((source, sink))
+    (PlainSource::of(bytes), sink)
 }
 
 /// So many connections of one request each.

@@ -62,7 +62,7 @@ impl<R: Wait + Clock + Copy + Send + Drop + 'static> Doors for TcpDoors<R> {
 
     type To = TcpSink<R>;
 
-    ghost at = { λ d. record { left = None; handed = None; away = None; closings = d.closings; faults = d.faults } };
+    ghost at = { λ d. record { left = None; given = None; handed = None; away = None; closings = d.closings; faults = d.faults } };
 
     fn next(&mut self) -> Result<Next<TcpSource<R>, TcpSink<R>>, Failed> {
         for _ in self.rt.forever() {

@@ -1,9 +1,9 @@
 -- the connection has a thread, and is one of those that are served
 use denote.Param.{param, copied}
-use Rattle.std.proofs.Common.{rules, [], ◌∷◌, refl, ap}
+use Rattle.std.proofs.Common.{rules, ◌+◌, [], ◌∷◌, refl, ap}
 use Rattle.std.specs.Arc.{arc_value}
 use Rattle.quaestor_serve.proofs.CrossingLemmas.{leaves, connection_send}
-use Rattle.quaestor_serve.proofs.GoingLemmas.{goes_in, going_same, room_with}
+use Rattle.quaestor_serve.proofs.GoingLemmas.{comes, goes_in, going_same, room_with}
 use Rattle.quaestor_serve.proofs.HallLemmas.{keeps_with, ready_more}
 use Rattle.quaestor_serve.proofs.rounds.admit.Goals as goal
 
@@ -19,10 +19,11 @@ pub returns-clause-room : goal.returns-clause-room
 returns-clause-room g c = room_with (g.P.Doors.at c.start-handle.new.doors).away c.start-handle.new.hall.running.items c.push_back_reserved.new.self.items _ c.push_back_reserved.ensures.items (c.start-handle.ensures.hands.room 1 c.requires.room)
 
 pub returns-clause-going : goal.returns-clause-going
-returns-clause-going g c = λ given first count is_clone going.
-    goes_in g.P.From.Source.at g.P.To.Sink.at g.C.Clock.tick (g.C.Clone.is_clone given) first (g.P.Doors.at c.start-handle.new.doors) c.start-handle.new.hall _ _ count c.args.source c.args.sink c.args.clock refl c.push_back_reserved.ensures.items (search rules) (search rules) (search rules) refl refl is_clone
-    (c.start-handle.ensures.hands.going given first ((c.args.source, c.args.sink) ∷ []) count 0
-    (going_same g.P.From.Source.at g.P.To.Sink.at g.C.Clock.tick (g.C.Clone.is_clone given) first (g.P.Doors.at c.args.doors.now) c.args.hall.now _ ((c.args.source, c.args.sink) ∷ []) count 0 (refl, refl, refl, ap (λ m. m.0.met) c.split-seat.ensures.view, ap (λ m. m.0.seen) c.split-seat.ensures.view) going))
+returns-clause-going g c = λ given first before is_clone passed going.
+    goes_in g.P.From.Source.at g.P.To.Sink.at g.C.Clock.tick (g.C.Clone.is_clone given) first (g.P.Doors.at c.start-handle.new.doors) c.start-handle.new.hall _ _ (c.args.number + 1) refl c.push_back_reserved.ensures.items refl refl
+    (c.start-handle.ensures.hands.going given first (c.start-handle.result.promise.begun.value ∷ []) (c.args.number + 1) 0
+    (comes g.P.From.Source.at g.P.To.Sink.at g.C.Clock.tick (g.C.Clone.is_clone given) first before (g.P.Doors.at c.args.doors.now) _ c.args.number c.start-handle.result.promise.begun.value c.args.source c.args.sink passed (search rules) (search rules) (search rules) (search rules) (search rules)
+    (going_same g.P.From.Source.at g.P.To.Sink.at g.C.Clock.tick (g.C.Clone.is_clone given) first before c.args.hall.now _ [] c.args.number 0 (refl, refl, refl, ap (λ m. m.0.met) c.split-seat.ensures.view, ap (λ m. m.0.seen) c.split-seat.ensures.view) going)))
 
 pub returns-clause-out : goal.returns-clause-out
 returns-clause-out g c = keeps_with c.args.hall.now.running.items c.start-handle.new.hall.running.items c.push_back_reserved.new.self.items c.args.hall.now.seat c.split-seat.new.seat c.start-handle.new.hall.seat _ (λ n was. (c.split-seat.ensures.out n was).0) c.start-handle.ensures.hands.out c.push_back_reserved.ensures.items
