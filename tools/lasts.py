@@ -4,6 +4,7 @@ slow or many, and ends that are asked for, are tried at servers of their own ove
 side, within half a minute. A line is printed for each, `ok NAME` or `FAILED NAME: WHY`, and then `N passed, M failed`;
 the status is 1 where any failed. The program is what `make program` built, or else dist/quaestor. Names take those
 tests alone. It needs `env` of coreutils 8.31 or later."""
+import multiprocessing
 import os
 import re
 import resource
@@ -180,6 +181,24 @@ def a_free_port_is_told():
     with Server() as it:
         wants(it.port > 0, f"it said {it.line!r}")
         answers(it, 5)
+
+
+def asks(port, seconds):
+    """How long a client that asks as soon as it is answered waited at most."""
+    longest, until = 0.0, time.monotonic() + seconds
+    with socket.create_connection(("127.0.0.1", port), timeout=30) as it:
+        while (start := time.monotonic()) < until:
+            it.sendall(GET)
+            wants(is_whole(reply(it)), "a reply is cut off")
+            longest = max(longest, time.monotonic() - start)
+    return longest
+
+
+@test
+def busy_connections_take_turns():
+    with Server("--workers", "2") as it, multiprocessing.get_context("fork").Pool(8) as pool:
+        longest = max(pool.starmap(asks, [(it.port, 2)] * 8))
+        wants(longest < 1, f"of eight busy clients, two of which are served at once, one waited {longest:.2f} s")
 
 
 @test

@@ -25,7 +25,7 @@ pub fn hold_dialogue<A: Answers, S: Source, K: Sink>(
 {
     let mut pause = Pause::START;
     for _visit in 0..REQUEST_LIMIT {
-        match hold_visit(answerer, source, sink, buffer, pause) {
+        match hold_visit(answerer, source, sink, buffer, pause, REQUEST_LIMIT) {
             VisitEnd::Quiet(next) => pause = next,
             VisitEnd::Ended(served) => return served,
         }

@@ -7,7 +7,7 @@ ghost use Rattle.q_outside.specs.Ends.{Ticks};
 ghost use Rattle.quaestor_server.specs.Conversation.{Conversation};
 
 use crate::responder::Responder;
-use dialogue::hold_dialogue;
+use dialogue::{REQUEST_LIMIT, hold_dialogue};
 use http_front::{ReplyRoom, Routes};
 use http_message::RequestRoom;
 use hub_core::{Config, PageRoom};
@@ -28,6 +28,8 @@ pub struct Room {
     pub(crate) reply: ReplyRoom,
     /// The buffer for the pages that are fetched.
     pub pages: PageRoom,
+    /// How many requests a visit answers before it puts the room back, where the connection could pause.
+    pub share: u64,
     log2_bits: u8,
     hashes: u8,
     ghost all: { routes ≡ all_routes },
@@ -46,6 +48,7 @@ impl Room {
             documents: Box::new(alloc, ReadBuffer::new(alloc))?,
             reply: ReplyRoom::new(alloc)?,
             pages: PageRoom::new(alloc, config)?,
+            share: REQUEST_LIMIT,
             log2_bits: config.log2_bits(),
             hashes: config.hashes(),
         })

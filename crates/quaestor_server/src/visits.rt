@@ -97,5 +97,12 @@ fn serve_visit<D: Desk, S: Source, K: Sink, C: Clock>(
         reply: &mut room.reply,
         pages: &mut room.pages,
     };
-    hold_visit(&mut responder, source, sink, &mut room.requests, from)
+    hold_visit(
+        &mut responder,
+        source,
+        sink,
+        &mut room.requests,
+        from,
+        room.share,
+    )
 }
