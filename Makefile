@@ -28,6 +28,8 @@ example: ## [at once, or 3 min] runs the examples and compares their output with
 	@sh tools/example.sh
 lasts: ## [30 s] tries the server with clients that are silent, slow or many, and ends it
 	@python3 tools/lasts.py
+caches: ## [10 s] tries serve and read against each other, straight and through nginx and Varnish
+	@python3 tools/caches.py
 bench: ## [1 min] measures the server with wrk and prints a table
 	@sh tools/bench.sh
 ci: fmt lint ## [5 to 60 min] the gate, as a merge runs it, after the layout and the style
@@ -51,4 +53,4 @@ shop: ## [at once] starts a server, the example's page and a cache, and prints t
 
 named:
 	@test -n "$(CRATE)" || { echo "say which: CRATE=name" >&2; exit 2; }
-.PHONY: help try test check fmt lint edits plant crate program run example lasts bench ci dist verify-dist wasm client client-test browser-test shop named
+.PHONY: help try test check fmt lint edits plant crate program run example lasts caches bench ci dist verify-dist wasm client client-test browser-test shop named

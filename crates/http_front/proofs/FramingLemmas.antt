@@ -11,13 +11,13 @@ use Rattle.std.specs.Str.Parse.{digits_value}
 use Rattle.http1.specs.Fields.{Header, content_length, elements, is_named, is_number, known_fields}
 use Rattle.http1.specs.Text.{eq_ignore_case}
 use Rattle.http1.specs.declared.fields.ContentLength.TheVariants.{Value}
+use Rattle.http_front.specs.Origins.{LeaveTold}
 use Rattle.http_front.specs.ReadBack.{FramesItsBody}
-use Rattle.http_front.specs.Reply.{head_fields, number_field, date_field, media_field, tag_field, lifetime_field, allow_field, close_field}
+use Rattle.http_front.specs.Reply.{head_fields, number_field, date_field, media_field, tag_field, lifetime_field, allow_field, origin_fields, vary_field, calls_fields, pages_fields, close_field}
 use Rattle.http_front.specs.declared.head.Head.{Head}
 use Rattle.http_front.specs.declared.head.MediaType.{MediaType}
 use Rattle.http_front.specs.declared.head.MediaType.TheVariants.{Json, OctetStream}
 use Rattle.http_front.specs.declared.refused.Allow.{Allow}
-use Rattle.http_front.specs.declared.refused.Allow.TheVariants.{Record, Match, Other}
 use Rattle.http_front.proofs.VisibleLemmas.{decimal_digits}
 
 -- What a search for a name finds: it finds nothing in some fields.
@@ -51,6 +51,12 @@ module _ (found : Header → List (List ℕ)) where
     pub commit : (v : List ℕ) → found (codes "Quaestor-Commit", v) ≡ []
     pub version : (v : List ℕ) → found (codes "Quaestor-Version", v) ≡ []
     pub until : (v : List ℕ) → found (codes "Quaestor-Until", v) ≡ []
+    pub origin : (v : List ℕ) → found (codes "Access-Control-Allow-Origin", v) ≡ []
+    pub exposed : (v : List ℕ) → found (codes "Access-Control-Expose-Headers", v) ≡ []
+    pub vary : (v : List ℕ) → found (codes "Vary", v) ≡ []
+    pub methods : (v : List ℕ) → found (codes "Access-Control-Allow-Methods", v) ≡ []
+    pub headers : (v : List ℕ) → found (codes "Access-Control-Allow-Headers", v) ≡ []
+    pub age : (v : List ℕ) → found (codes "Access-Control-Max-Age", v) ≡ []
     pub close : (v : List ℕ) → found (codes "Connection", v) ≡ []
 
   date_lacks : IsElsewhere → (dated : Bool) (date : List ℕ) → Lacks (date_field dated date)
@@ -76,9 +82,24 @@ module _ (found : Header → List (List ℕ)) where
 
   allow_lacks : IsElsewhere → (allow : Option Allow) → Lacks (allow_field allow)
   allow_lacks e None = none_lacks
-  allow_lacks e (Some Record) = one_lacks _ _ (e.allow _)
-  allow_lacks e (Some Match) = one_lacks _ _ (e.allow _)
-  allow_lacks e (Some Other) = one_lacks _ _ (e.allow _)
+  allow_lacks e (Some allow) = one_lacks _ _ (e.allow _)
+
+  origin_lacks : IsElsewhere → (allow : Option (List ℕ)) → Lacks (origin_fields allow)
+  origin_lacks e None = none_lacks
+  origin_lacks e (Some origin) = lacks-append (one_lacks _ _ (e.origin _)) (one_lacks _ _ (e.exposed _))
+
+  vary_lacks : IsElsewhere → (varies : Bool) → Lacks (vary_field varies)
+  vary_lacks e true = one_lacks _ _ (e.vary _)
+  vary_lacks e false = none_lacks
+
+  calls_lacks : IsElsewhere → (calls : Option Allow) → Lacks (calls_fields calls)
+  calls_lacks e None = none_lacks
+  calls_lacks e (Some allow) =
+      lacks-append (one_lacks _ _ (e.methods _)) (lacks-append (one_lacks _ _ (e.headers _)) (one_lacks _ _ (e.age _)))
+
+  pages_lacks : IsElsewhere → (leave : LeaveTold) (calls : Option Allow) → Lacks (pages_fields leave calls)
+  pages_lacks e leave calls =
+      lacks-append (origin_lacks e leave.allow) (lacks-append (vary_lacks e leave.varies) (calls_lacks e calls))
 
   close_lacks : IsElsewhere → (close : Bool) → Lacks (close_field close)
   close_lacks e true = one_lacks _ _ (e.close _)
@@ -94,7 +115,7 @@ module _ (found : Header → List (List ℕ)) where
       ∙ ahead (number_field (codes "Content-Length") h.length) _
       (lacks-append (tag_lacks e h.tag) (lacks-append (lifetime_lacks e h.ttl) (lacks-append (allow_lacks e h.allow)
       (lacks-append (number_lacks _ e.commit h.commit) (lacks-append (number_lacks _ e.version h.version)
-      (lacks-append (number_lacks _ e.until h.until) (close_lacks e h.close)))))))
+      (lacks-append (number_lacks _ e.until h.until) (lacks-append (pages_lacks e h.leave h.calls) (close_lacks e h.close))))))))
 
 abbrev coding : Header → List (List ℕ)
 coding h = cond (is_named (codes "transfer-encoding") h) (elements h.1) []
@@ -113,6 +134,12 @@ coding_elsewhere = record {
   commit = λ v. refl;
   version = λ v. refl;
   until = λ v. refl;
+  origin = λ v. refl;
+  exposed = λ v. refl;
+  vary = λ v. refl;
+  methods = λ v. refl;
+  headers = λ v. refl;
+  age = λ v. refl;
   close = λ v. refl;
 }
 
@@ -127,6 +154,12 @@ size_elsewhere = record {
   commit = λ v. refl;
   version = λ v. refl;
   until = λ v. refl;
+  origin = λ v. refl;
+  exposed = λ v. refl;
+  vary = λ v. refl;
+  methods = λ v. refl;
+  headers = λ v. refl;
+  age = λ v. refl;
   close = λ v. refl;
 }
 

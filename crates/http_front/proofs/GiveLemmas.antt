@@ -24,7 +24,7 @@ head_up_to shape (Page clock) size close fits = ap (λ n. head_of shape (Page cl
 head_up_to shape (Count stats) size close fits = ap (λ n. head_of shape (Count stats) n close) (fitting size (fits refl))
 head_up_to shape (Purges reply) size close fits =
     let same : min (up_to_greatest size) (2 ^ 64 - 1) ≡ min size (2 ^ 64 - 1) = omega arith in
-    ap (λ n. json_head 200 n close) same
+    ap (λ n. record (json_head 200 n close) { leave = shape.leave }) same
 head_up_to shape (Refusal refused clock) size close fits = ap (λ n. head_of shape (Refusal refused clock) n close) (fitting size (fits refl))
 head_up_to shape Memory size close fits = ap (λ n. head_of shape Memory n close) (fitting size (fits refl))
 
@@ -41,7 +41,7 @@ head_is_of shape told page close body size head text_is counted_is size_is fits 
 -- a head and what is given of a body, one behind the other
 pub reply_given : {T E : Type 0} (before after : End) (shape : Shape) (told : Told) (page : List ℕ) (close : Bool) (clock : ℕ) (head : Head) (written behind : List ℕ) (result : Result T E)
     → head ≡ head_of shape told (length (body_of told page)) close → clock ≡ clock_of told
-    → IsHeadText head clock written → behind ≡ given_body shape (body_of told page)
+    → IsHeadText head clock written → behind ≡ given_body shape told (body_of told page)
     → Gave before after (written ++ behind) result
     → (text : List ℕ) × IsReplyText shape told page close text × Gave before after text result
 reply_given before after shape told page close clock head written behind result head_is clock_is h behind_is gave = (

@@ -8,6 +8,7 @@ mod FieldLemmas
 mod FilterLemmas
 mod KeyTextLemmas
 mod NumberLemmas
+mod OriginLemmas
 mod FramingLemmas
 mod GiveLemmas
 mod HeadLines
@@ -26,5 +27,6 @@ mod StandardFacts
 mod TagLemmas
 mod ValueLemmas
 mod VisibleLemmas
+mod WorkedOrigins
 mod WorkedQueries
 mod WorkedRequests

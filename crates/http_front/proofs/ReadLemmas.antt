@@ -4,7 +4,7 @@ use Rattle.std.proofs.lemmas.Bool.{and_from}
 use Rattle.std.proofs.lemmas.Bool.Decides.{nat_tests}
 use Rattle.std.proofs.lemmas.Fmt.{decimal_digit, decimal_step}
 use Rattle.std.proofs.lemmas.List.{append_assoc}
-use Rattle.std.specs.Prelude.{decimal, nat_le, Option, Some, None}
+use Rattle.std.specs.Prelude.{decimal, nat_le, Option, Some, None, IfSome}
 use Rattle.httparse.specs.Grammar.{is_token, is_token_byte, ReadsResponse, status_code}
 use Rattle.httparse.specs.Spans.{name_and_value}
 use Rattle.httparse.proofs.GrammarLemmas.{response_unique}
@@ -13,8 +13,9 @@ use Rattle.http1.specs.Head.{are_headers, head_refusal, is_status_line, is_trimm
 use Rattle.http1.proofs.HeadLemmas.{are_headers-append, response_text_is}
 use Rattle.http1.proofs.HeadRoundTrip.{response_reads_back}
 use Rattle.http_front.specs.Date.{IsDateOf}
+use Rattle.http_front.specs.Origins.{LeaveTold, IsTellable, is_origin}
 use Rattle.http_front.specs.ReadBack.{OneReplyIsRead, ReadsBack, RepliesHaveOneText}
-use Rattle.http_front.specs.Reply.{status_line, phrase_of, head_text, head_fields, number_field, date_field, media_field, tag_field, lifetime_field, allow_field, close_field, reply_text}
+use Rattle.http_front.specs.Reply.{status_line, phrase_of, head_text, head_fields, number_field, date_field, media_field, tag_field, lifetime_field, methods_text, allow_field, origin_fields, vary_field, calls_fields, pages_fields, close_field, reply_text}
 use Rattle.http_front.specs.ReplyText.{reply_of}
 use Rattle.http_front.specs.declared.head.Head.{Head}
 use Rattle.http_front.specs.declared.head.MediaType.{MediaType}
@@ -22,6 +23,7 @@ use Rattle.http_front.specs.declared.head.MediaType.TheVariants.{Json, OctetStre
 use Rattle.http_front.specs.declared.refused.Allow.{Allow}
 use Rattle.http_front.specs.declared.refused.Allow.TheVariants.{Record, Match, Other}
 use Rattle.http_front.proofs.DateLemmas.{date_value, one_date}
+use Rattle.http_front.proofs.OriginLemmas.{origin_visible}
 use Rattle.http_front.proofs.StatusLemmas.{phrase_is_value}
 use Rattle.http_front.proofs.VisibleLemmas.{AreVisible, visible-append, visible_value, decimal_visible}
 
@@ -71,27 +73,54 @@ lifetime_good (suc n) =
     one_good (codes "Cache-Control") (codes "max-age=" ++ decimal (suc n)) refl
     (visible_value (codes "max-age=" ++ decimal (suc n)) (visible-append word (decimal_visible (suc n))))
 
+methods_value : (allow : Allow) → is_trimmed_value (methods_text allow) ≡ true
+methods_value Record = refl
+methods_value Match = refl
+methods_value Other = refl
+
 allow_good : (allow : Option Allow) → AreGood (allow_field allow)
 unfolding is_token_byte
 allow_good None = none_good
-allow_good (Some Record) = one_good (codes "Allow") (codes "GET, HEAD, PUT, DELETE") refl refl
-allow_good (Some Match) = one_good (codes "Allow") (codes "POST") refl refl
-allow_good (Some Other) = one_good (codes "Allow") (codes "GET, HEAD") refl refl
+allow_good (Some allow) = one_good (codes "Allow") (methods_text allow) refl (methods_value allow)
+
+origin_good : (allow : Option (List ℕ)) → IfSome allow (λ origin. is_origin origin ≡ true) → AreGood (origin_fields allow)
+unfolding is_token_byte
+origin_good None tellable = none_good
+origin_good (Some origin) tellable =
+    good-append (one_good (codes "Access-Control-Allow-Origin") origin refl (visible_value origin (origin_visible origin tellable)))
+    (one_good (codes "Access-Control-Expose-Headers") (codes "Date, ETag, Quaestor-Commit, Quaestor-Until, Quaestor-Version") refl refl)
+
+vary_good : (varies : Bool) → AreGood (vary_field varies)
+unfolding is_token_byte
+vary_good true = one_good (codes "Vary") (codes "Origin") refl refl
+vary_good false = none_good
+
+calls_good : (calls : Option Allow) → AreGood (calls_fields calls)
+unfolding is_token_byte
+calls_good None = none_good
+calls_good (Some allow) =
+    good-append (one_good (codes "Access-Control-Allow-Methods") (methods_text allow) refl (methods_value allow))
+    (good-append (one_good (codes "Access-Control-Allow-Headers") (codes "Cache-Control, Content-Type, If-Match, If-None-Match") refl refl)
+    (one_good (codes "Access-Control-Max-Age") (codes "600") refl refl))
+
+pages_good : (leave : LeaveTold) (calls : Option Allow) → IsTellable leave → AreGood (pages_fields leave calls)
+pages_good leave calls tellable =
+    good-append (origin_good leave.allow tellable) (good-append (vary_good leave.varies) (calls_good calls))
 
 close_good : (close : Bool) → AreGood (close_field close)
 unfolding is_token_byte
 close_good true = one_good (codes "Connection") (codes "close") refl refl
 close_good false = none_good
 
-fields_good : (h : Head) (seconds : ℕ) (date : List ℕ) → IsDateOf seconds date → AreGood (head_fields h date)
+fields_good : (h : Head) (seconds : ℕ) (date : List ℕ) → IsTellable h.leave → IsDateOf seconds date → AreGood (head_fields h date)
 unfolding head_fields is_token_byte
-fields_good h seconds date of =
+fields_good h seconds date tellable of =
     good-append (date_good h.dated seconds date of) (good-append (media_good h.media)
     (good-append (number_good (codes "Content-Length") h.length refl) (good-append (tag_good h.tag)
     (good-append (lifetime_good h.ttl) (good-append (allow_good h.allow)
     (good-append (number_good (codes "Quaestor-Commit") h.commit refl)
     (good-append (number_good (codes "Quaestor-Version") h.version refl)
-    (good-append (number_good (codes "Quaestor-Until") h.until refl) (close_good h.close)))))))))
+    (good-append (number_good (codes "Quaestor-Until") h.until refl) (good-append (pages_good h.leave h.calls tellable) (close_good h.close))))))))))
 
 -- a status has three digits
 three_digits : (n : ℕ) → 100 ≤ n → n < 1000 → decimal n ≡ status_digits n
@@ -113,13 +142,13 @@ head_printed n fields low high =
     ap (λ t. section_text (codes "HTTP/1.1 " ++ t) fields) line ∙ response_text_is 1 n (phrase_of n) fields
 
 -- a head is read back
-pub read_back : (h : Head) → 100 ≤ h.status → h.status < 1000 → ReadsBack h
-read_back h low high seconds date rest of =
+pub read_back : (h : Head) → 100 ≤ h.status → h.status < 1000 → IsTellable h.leave → ReadsBack h
+read_back h low high tellable seconds date rest of =
     let fields = head_fields h date in
     let under : nat_le 100 h.status ≡ true = grind (arith, nat_tests) in
     let over : nat_le h.status 999 ≡ true = grind (arith, nat_tests) in
     let line : is_status_line 1 h.status (phrase_of h.status) ≡ true = and_from _ _ under (and_from _ _ over (phrase_is_value h.status high)) in
-    let accepted : head_refusal (is_status_line 1 h.status (phrase_of h.status)) fields ≡ None = rw (line, (fields_good h seconds date of).all) refl in
+    let accepted : head_refusal (is_status_line 1 h.status (phrase_of h.status)) fields ≡ None = rw (line, (fields_good h seconds date tellable of).all) refl in
     let back = response_reads_back 1 h.status (phrase_of h.status) fields rest accepted in
     record {
       head = response_head 1 h.status (phrase_of h.status) fields;

@@ -1,6 +1,7 @@
 -- Worked replies, computed from the definitions.
 use Rattle.std.proofs.Common.{◌≡◌, ℕ, ◌-◌, ◌<◌, ◌^◌, min, Bool, true, false, List, [], ◌∷◌, ◌++◌, length, Some, None, codes, refl, ap, ◌∙◌, arith}
 use Rattle.std.specs.Fmt.{digits}
+use Rattle.std.specs.Prelude.{if◌then◌else◌}
 use Rattle.http_front.specs.declared.refused.Allow.TheVariants.{Record, Match as MatchAll, Other}
 use Rattle.http_front.specs.declared.refused.DocumentReason.TheVariants.{NotWhole}
 use Rattle.http_front.specs.declared.refused.FilterReason.TheVariants.{Syntax, TooManyPaths}
@@ -10,24 +11,25 @@ use Rattle.http_front.specs.declared.refused.Refused.TheVariants.{Framing, NoRou
 use Rattle.hub_model.specs.declared.entry.Found.TheVariants.{Missing, At}
 use Rattle.hub_model.specs.declared.entry.Outcome.TheVariants.{Whole, Same, Absent}
 use Rattle.hub_model.specs.declared.entry.Written.TheVariants.{Done, Precondition, Full}
+use Rattle.http_front.specs.Origins.{no_leave}
 use Rattle.http_front.specs.Reply.{head_text, head_fields, reply_text, status_line}
 use Rattle.hub_model.specs.Reply.{PurgesTold, told_of}
 use Rattle.hub_model.specs.declared.entry.PurgeReply.{PurgeReply}
 use Rattle.json.specs.Print.{escape_byte}
-use Rattle.http_front.specs.ReplyText.{given_body, json_head, purges_body, reply_of}
+use Rattle.http_front.specs.ReplyText.{json_head, purges_body, reply_of}
 use Rattle.http_front.specs.declared.shape.Shape.{Shape}
 use Rattle.http_front.specs.declared.told.Told.{Told}
 use Rattle.http_front.specs.declared.told.Told.TheVariants.{Write, Read, Count, Purges, Refusal, Memory}
 
 -- the methods of the examples
 get : Shape
-get = record { put = false; head = false }
+get = record { put = false; head = false; asks = false; leave = no_leave }
 
 put : Shape
-put = record { put = true; head = false }
+put = record { put = true; head = false; asks = false; leave = no_leave }
 
 head : Shape
-head = record { put = false; head = true }
+head = record { put = false; head = true; asks = false; leave = no_leave }
 
 -- the text of a reply at 100 seconds after 1970 began
 abbrev text_at_100 : Shape → Told → Bool → List ℕ
@@ -93,7 +95,7 @@ counts = refl
 -- a list of purges with a body of this size, of what it tells
 abbrev purges_of_size : Shape → PurgesTold → ℕ → List ℕ
 purges_of_size shape told size =
-    reply_text (record { status = 200; fields = head_fields (json_head 200 size false) (codes "Thu, 01 Jan 1970 00:01:40 GMT"); body = given_body shape (purges_body told) })
+    reply_text (record { status = 200; fields = head_fields (record (json_head 200 size false) { leave = shape.leave }) (codes "Thu, 01 Jan 1970 00:01:40 GMT"); body = if shape.head then [] else purges_body told })
 
 abbrev purges_at_100 : Shape → PurgesTold → List ℕ
 purges_at_100 shape told = purges_of_size shape told (length (purges_body told))

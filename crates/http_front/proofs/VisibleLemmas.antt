@@ -1,5 +1,5 @@
 -- Values of fields that a head may have.
-use Rattle.std.proofs.Common.{◌≡◌, ℕ, zero, suc, ◌/◌, ◌%◌, ◌<◌, Bool, true, false, not, ◌&&◌, List, [], ◌∷◌, ◌++◌, length, reverse, nat_lt, refl, ap, ◌∙◌, arith, inl, inr}
+use Rattle.std.proofs.Common.{◌≡◌, ℕ, zero, suc, ◌/◌, ◌%◌, ◌<◌, Bool, true, false, not, List, [], ◌∷◌, ◌++◌, length, reverse, nat_lt, refl, ap, ◌∙◌, arith, inl, inr}
 use Rattle.std.proofs.lemmas.Bool.{cases_Bool, and_from}
 use Rattle.std.proofs.lemmas.Bool.Decides.{nat_tests}
 use Rattle.std.proofs.lemmas.List.{reverse-append}
@@ -12,11 +12,8 @@ use Rattle.std.specs.List.{list_all}
 use Rattle.std.specs.Prelude.{decimal, ◌==◌}
 use Rattle.httparse.specs.Grammar.{AllPass, is_ows, is_value_byte}
 use Rattle.httparse.proofs.TrimLemmas.{AllPass-reverse}
+use Rattle.http_front.specs.Origins.{is_visible}
 use Rattle.http1.specs.Head.{is_trimmed_value, starts_visible}
-
--- visible ASCII
-abbrev pub is_visible : ℕ → Bool
-is_visible b = nat_lt 32 b && nat_lt b 127
 
 -- Each byte is visible.
 pub record AreVisible (text : List ℕ) : Type 0 where

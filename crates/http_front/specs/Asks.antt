@@ -1,5 +1,5 @@
 -- Believed. What a request asks of the store, or the first reason why it is refused.
-use Rattle.std.specs.Prelude.{ℕ, Bool, true, false, not, ◌||◌, ◌==◌, nat_le, nat_lt, if◌then◌else◌, bytes_eq, List, [], length, Option, Some, None, unwrap_or, Result, Ok, Err, codes}
+use Rattle.std.specs.Prelude.{ℕ, Bool, true, false, not, ◌&&◌, ◌||◌, ◌==◌, nat_le, nat_lt, if◌then◌else◌, bytes_eq, List, [], length, Option, Some, None, unwrap_or, Result, Ok, Err, codes}
 use Rattle.std.specs.List.{list_all}
 use Rattle.std.specs.Str.{str_eq_ignore_ascii_case}
 use Rattle.percent_encoding.specs.Percent.{percent_decode}
@@ -26,6 +26,7 @@ use Rattle.http_front.specs.declared.refused.Refused.TheVariants.{Framing, BadHo
 use Rattle.http_front.specs.Answered.{and_then, unless}
 use Rattle.http_front.specs.Filters.{letter_of, query_in, text_in}
 use Rattle.http_front.specs.Numbers.{number_of}
+use Rattle.http_front.specs.Origins.{leave_of, names_some, page_of}
 use Rattle.http_front.specs.Query.{NamedValue, fields_in}
 use Rattle.http_front.specs.Routes.{route_of, served_of, collection_in, id_in, queried_in, method_of, allows, methods_of}
 use Rattle.http_front.specs.Tags.{tags_in}
@@ -218,6 +219,15 @@ ask_in s m (Some local) = ask_at m (path_of local) (query_of local) (served_of s
 unfoldable pub ask_of : Served → Message → Result Ask Refused
 ask_of s m = unless (not (has_host m)) BadHost (ask_in s m (local_part m.target))
 
--- whether the method is PUT or HEAD
-abbrev pub shape_of : Message → Shape
-shape_of m = record { put = bytes_eq m.method (codes "PUT"); head = bytes_eq m.method (codes "HEAD") }
+-- what the reply to a request looks like, where a text names these origins
+abbrev pub shape_of : List ℕ → Message → Shape
+shape_of origins m = record {
+  put = bytes_eq m.method (codes "PUT");
+  head = bytes_eq m.method (codes "HEAD");
+  asks = names_some origins && bytes_eq m.method (codes "OPTIONS");
+  leave = leave_of origins (page_of m);
+}
+
+-- what the reply to bytes that cannot be framed looks like: no field of theirs is known
+abbrev pub unframed_shape : List ℕ → Bool → Shape
+unframed_shape origins head = record { put = false; head = head; asks = false; leave = leave_of origins None }

@@ -9,6 +9,7 @@ pub mod Filters
 pub mod Free
 pub mod Lines
 pub mod Numbers
+pub mod Origins
 pub mod Paths
 pub mod Pieces
 pub mod Query

@@ -3,6 +3,7 @@ use Rattle.std.specs.Prelude.{ℕ, zero, suc, Bool, true, false, List, [], ◌�
 use Rattle.http.specs.StatusCode.{reason_phrase, status_text}
 use Rattle.http1.specs.Fields.{Header}
 use Rattle.http1.specs.Head.{section_text}
+use Rattle.http_front.specs.Origins.{LeaveTold}
 use Rattle.http_front.specs.declared.head.Head.{Head}
 use Rattle.http_front.specs.declared.head.MediaType.{MediaType}
 use Rattle.http_front.specs.declared.head.MediaType.TheVariants.{Json, OctetStream}
@@ -57,12 +58,40 @@ abbrev pub lifetime_field : ℕ → List Header
 lifetime_field zero = (codes "Cache-Control", codes "no-store") ∷ []
 lifetime_field (suc n) = (codes "Cache-Control", codes "max-age=" ++ decimal (suc n)) ∷ []
 
+-- methods as a list
+abbrev pub methods_text : Allow → List ℕ
+methods_text Record = codes "GET, HEAD, PUT, DELETE"
+methods_text Match = codes "POST"
+methods_text Other = codes "GET, HEAD"
+
 -- the methods of the route, where they are listed (RFC 9110, section 10.2.1)
 abbrev pub allow_field : Option Allow → List Header
 allow_field None = []
-allow_field (Some Record) = (codes "Allow", codes "GET, HEAD, PUT, DELETE") ∷ []
-allow_field (Some Match) = (codes "Allow", codes "POST") ∷ []
-allow_field (Some Other) = (codes "Allow", codes "GET, HEAD") ∷ []
+allow_field (Some allow) = (codes "Allow", methods_text allow) ∷ []
+
+-- the origin whose pages may read the reply, and what they may read beside its body (the Fetch standard, "HTTP responses")
+abbrev pub origin_fields : Option (List ℕ) → List Header
+origin_fields None = []
+origin_fields (Some origin) =
+    (codes "Access-Control-Allow-Origin", origin)
+    ∷ (codes "Access-Control-Expose-Headers", codes "Date, ETag, Quaestor-Commit, Quaestor-Until, Quaestor-Version") ∷ []
+
+-- pages of other origins may be told otherwise, where they are (RFC 9110, section 12.5.5)
+abbrev pub vary_field : Bool → List Header
+vary_field true = (codes "Vary", codes "Origin") ∷ []
+vary_field false = []
+
+-- what a page may send, and for how many seconds it needs not ask again, where it asked for that
+abbrev pub calls_fields : Option Allow → List Header
+calls_fields None = []
+calls_fields (Some allow) =
+    (codes "Access-Control-Allow-Methods", methods_text allow)
+    ∷ (codes "Access-Control-Allow-Headers", codes "Cache-Control, Content-Type, If-Match, If-None-Match")
+    ∷ (codes "Access-Control-Max-Age", codes "600") ∷ []
+
+-- what a reply says to pages
+abbrev pub pages_fields : LeaveTold → Option Allow → List Header
+pages_fields leave calls = origin_fields leave.allow ++ (vary_field leave.varies ++ calls_fields calls)
 
 -- the connection ends after the reply, where it says so (RFC 9112, section 9.6)
 abbrev pub close_field : Bool → List Header
@@ -75,4 +104,5 @@ head_fields h date =
     date_field h.dated date ++ (media_field h.media ++ (number_field (codes "Content-Length") h.length
     ++ (tag_field h.tag ++ (lifetime_field h.ttl ++ (allow_field h.allow
     ++ (number_field (codes "Quaestor-Commit") h.commit ++ (number_field (codes "Quaestor-Version") h.version
-    ++ (number_field (codes "Quaestor-Until") h.until ++ close_field h.close))))))))
+    ++ (number_field (codes "Quaestor-Until") h.until ++ (pages_fields h.leave h.calls
+    ++ close_field h.close)))))))))

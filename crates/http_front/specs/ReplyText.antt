@@ -1,5 +1,5 @@
 -- Believed. The reply to each request: its status, its fields and its body.
-use Rattle.std.specs.Prelude.{◌≡◌, ℕ, ◌+◌, ◌-◌, ◌^◌, min, Bool, true, false, List, [], ◌++◌, length, Option, Some, None, if◌then◌else◌, codes, decimal}
+use Rattle.std.specs.Prelude.{◌≡◌, ℕ, ◌+◌, ◌-◌, ◌^◌, min, Bool, true, false, ◌&&◌, ◌||◌, List, [], ◌++◌, length, Option, Some, None, if◌then◌else◌, codes, decimal}
 use Rattle.std.specs.List.{join_by}
 use Rattle.json.specs.Print.{quoted}
 use Rattle.hub_model.specs.Reply.{PurgesTold, told_of}
@@ -13,6 +13,7 @@ use Rattle.hub_model.specs.declared.entry.Written.{Written}
 use Rattle.hub_model.specs.declared.entry.Written.TheVariants.{Done, Precondition, Full}
 use Rattle.http_message.specs.declared.refusal.FramingRefusal.TheVariants.{BadHead, HeadTooLarge, BadLength, BadCoding, BodyTooLarge}
 use Rattle.http_front.specs.Date.{IsDateOf}
+use Rattle.http_front.specs.Origins.{LeaveTold, no_leave}
 use Rattle.http_front.specs.Reply.{Reply, head_text, head_fields, reply_text}
 use Rattle.http_front.specs.declared.head.Head.{Head}
 use Rattle.http_front.specs.declared.head.MediaType.TheVariants.{Json, OctetStream}
@@ -140,6 +141,8 @@ json_head status size close = record {
   commit = None;
   version = None;
   until = None;
+  leave = no_leave;
+  calls = None;
   close = close;
 }
 
@@ -181,17 +184,55 @@ read_head a (Same tag version) size close =
     }
 read_head a Absent size close = answer_head a 404 size close
 
--- the head of each reply, of the length of its body; a list of purges tells the greatest number of 64 bits where it is longer
+-- the method of a request is refused
+abbrev pub is_of_method : Refused → Bool
+is_of_method (BadMethod allow) = true
+is_of_method (Framing refused) = false
+is_of_method BadHost = false
+is_of_method BadTarget = false
+is_of_method NoRoute = false
+is_of_method NoLength = false
+is_of_method BadEncoding = false
+is_of_method BadTag = false
+is_of_method (BadFilter r) = false
+is_of_method (BadDocument reason) = false
+
+-- the methods that a page may call, where it may read the reply
+abbrev pub calls_by : Option (List ℕ) → Option Allow → Option Allow
+calls_by None allow = None
+calls_by (Some origin) allow = allow
+
+-- the head of the reply to a page that asks what it may send: its status has no body and no length (RFC 9110, section 8.6)
+abbrev pub asked_head : LeaveTold → Option Allow → Bool → Head
+asked_head leave allow close =
+    record (json_head 204 0 close) {
+      media = None;
+      length = None;
+      allow = allow;
+      calls = calls_by leave.allow allow;
+    }
+
+-- the head of a refusal; where a page asks, that of its method lists what it may send
+abbrev pub refusal_head : Shape → Refused → ℕ → Bool → Head
+refusal_head shape refused size close =
+    if shape.asks && is_of_method refused then asked_head shape.leave (allowed refused) close
+    else record (json_head (refusal refused).status size close) { allow = allowed refused }
+
+-- the head of each reply, of the length of its body, without what it says of pages; a list of purges tells the
+-- greatest number of 64 bits where it is longer
+abbrev pub told_head : Shape → Told → ℕ → Bool → Head
+told_head shape (Write written) size close = written_head shape.put written size close
+told_head shape (Read answer) size close = read_head answer answer.result size close
+told_head shape (Match matched) size close = json_head 200 size close
+told_head shape (Page clock) size close = record (json_head 200 size close) { media = Some OctetStream }
+told_head shape (Count stats) size close = json_head 200 size close
+told_head shape (Purges reply) size close = json_head 200 (min size (2 ^ 64 - 1)) close
+told_head shape (Refusal refused clock) size close = refusal_head shape refused size close
+told_head shape Memory size close = record (json_head 503 size close) { dated = false }
+
+-- the head of each reply
 abbrev pub head_of : Shape → Told → ℕ → Bool → Head
-head_of shape (Write written) size close = written_head shape.put written size close
-head_of shape (Read answer) size close = read_head answer answer.result size close
-head_of shape (Match matched) size close = json_head 200 size close
-head_of shape (Page clock) size close = record (json_head 200 size close) { media = Some OctetStream }
-head_of shape (Count stats) size close = json_head 200 size close
-head_of shape (Purges reply) size close = json_head 200 (min size (2 ^ 64 - 1)) close
-head_of shape (Refusal refused clock) size close =
-    record (json_head (refusal refused).status size close) { allow = allowed refused }
-head_of shape Memory size close = record (json_head 503 size close) { dated = false }
+head_of shape told size close = record (told_head shape told size close) { leave = shape.leave }
 
 -- the moment of a write's date
 abbrev pub written_clock : Written → ℕ
@@ -210,16 +251,27 @@ clock_of (Purges reply) = reply.clock
 clock_of (Refusal refused clock) = clock
 clock_of Memory = 0
 
--- what follows a reply's head: a reply to HEAD has no body (RFC 9110, section 9.3.2)
-abbrev pub given_body : Shape → List ℕ → List ℕ
-given_body shape body = if shape.head then [] else body
+-- a reply says what a page may send, in place of a refusal of its method
+abbrev pub is_asked : Shape → Told → Bool
+is_asked shape (Refusal refused clock) = shape.asks && is_of_method refused
+is_asked shape (Write written) = false
+is_asked shape (Read answer) = false
+is_asked shape (Match matched) = false
+is_asked shape (Page clock) = false
+is_asked shape (Count stats) = false
+is_asked shape (Purges reply) = false
+is_asked shape Memory = false
+
+-- what follows a reply's head: a reply to HEAD has no body (RFC 9110, section 9.3.2), and one that says what a page may send
+abbrev pub given_body : Shape → Told → List ℕ → List ℕ
+given_body shape told body = if is_asked shape told || shape.head then [] else body
 
 -- the reply, with the text of its date: to HEAD it has the head that GET would get, and no body
 abbrev pub reply_of : Shape → Told → List ℕ → List ℕ → Bool → Reply
 reply_of shape told page date close =
     let body = body_of told page in
     let head = head_of shape told (length body) close in
-    record { status = head.status; fields = head_fields head date; body = given_body shape body }
+    record { status = head.status; fields = head_fields head date; body = given_body shape told body }
 
 -- The text is that of a head that is dated by this clock.
 pub record IsHeadText (head : Head) (clock : ℕ) (text : List ℕ) : Type 0 where

@@ -7,7 +7,7 @@ ghost use Rattle.query_normal.specs.Normal.{normal_query};
 ghost use Rattle.query_normal.specs.declared.key.KeyShape.TheVariants as keys;
 ghost use Rattle.http_message.specs.Fields.{values as values_named};
 ghost use Rattle.http_front.specs.Answered.{and_then};
-ghost use Rattle.http_front.specs.Asks.{ask_at, ask_by, ask_of, condition_by, condition_of, delete_of, document_in, known_of, method_in, name_in, put_of, query_by, read_of, record_by, shape_of, start_in, tags_or_not};
+ghost use Rattle.http_front.specs.Asks.{ask_at, ask_by, ask_of, condition_by, condition_of, delete_of, document_in, known_of, method_in, name_in, put_of, query_by, read_of, record_by, start_in, tags_or_not};
 ghost use Rattle.http_front.specs.Early.{is_early};
 ghost use Rattle.http_front.specs.Filters.{query_in};
 ghost use Rattle.http_front.specs.Free.{is_bare, is_bare_put, is_free_at, is_free_call, is_free_record};
@@ -25,7 +25,6 @@ use crate::number::number_of;
 use crate::query::{QueryFields, fields_in};
 use crate::refused::{DocumentReason, QueryField, Refused};
 use crate::routes::{Method, QUERIES, RECORDS, Route, Routes};
-use crate::shape::Shape;
 use crate::tags::{Comparison, TagRefusal, tags_in};
 use crate::target::{local_part, or_root};
 use http_message::{FramingRefusal, Request};
@@ -540,15 +539,4 @@ fn document_in(
         Err(DocRefusal::NotWhole) => Refused::BadDocument(DocumentReason::NotWhole),
     };
     Ok(Err(refused))
-}
-
-/// Whether the method is PUT or HEAD, which decide what a reply looks like.
-pub fn shape_of(request: &Request<'_>) -> Shape
-    ensures { result ≡ shape_of request.now }
-{
-    let method = request.method();
-    Shape {
-        put: method == b"PUT".as_slice(),
-        head: method == b"HEAD".as_slice(),
-    }
 }

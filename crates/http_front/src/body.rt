@@ -2,7 +2,7 @@
 ghost use Rattle.std.specs.Prelude.{◌≡◌, ◌+◌, ◌<◌, ◌≤◌, ◌^◌, ◌++◌, true, length, decimal, codes};
 ghost use Rattle.q_outside.specs.Ends.{Gave};
 ghost use Rattle.http_front.specs.Bodies.{body_text, is_counted, is_counted_in, up_to_greatest};
-ghost use Rattle.http_front.specs.ReplyText.{found_text, written_body, outcome_body, stats_body, filter_body, refusal, body_of, given_body};
+ghost use Rattle.http_front.specs.ReplyText.{found_text, written_body, outcome_body, stats_body, filter_body, refusal, body_of, given_body, is_asked};
 ghost use Rattle.http_front.specs.declared.refused.Refused.TheVariants.{Framing, BadDocument};
 
 use crate::purges::{give_purges, purges_len};
@@ -56,30 +56,40 @@ impl<'a> ReplyBody<'a> {
 /// Gives the body of a reply to a sink: nothing where the request was HEAD. Where the reply is a page,
 /// these are its bytes.
 pub fn write_body<K: Sink>(
-    shape: Shape,
+    shape: &Shape<'_>,
     told: &Told,
     page: &[u8],
     sink: &mut K,
 ) -> Result<(), Failed>
-    ensures { Gave (K.at sink.old) (K.at sink.new) (given_body shape (body_of told.now page.now)) result }
+    ensures { Gave (K.at sink.old) (K.at sink.new) (given_body shape.now told.now (body_of told.now page.now)) result }
 {
     let mut numbers = [0; NUMBERS_CAPACITY];
     let body = body_of(told, page, &mut numbers);
-    match given(shape, body) {
+    match given(shape, told, body) {
         ReplyBody::Piece(piece) => give_all(sink, piece),
         ReplyBody::Result(text) => give_result(sink, &mut [0; PIECE_CAPACITY], 0, text),
         ReplyBody::Purges(reply) => give_purges(sink, &mut [0; PIECE_CAPACITY], 0, reply),
     }
 }
 
-/// What is given of a body: nothing where the request was HEAD.
-pub(crate) fn given<'a>(shape: Shape, body: ReplyBody<'a>) -> ReplyBody<'a>
-    ensures { body_text result ≡ given_body shape (body_text body.entry) }
+/// What is given of a body: nothing where the request was HEAD, or asks what a page may send.
+pub(crate) fn given<'a>(shape: &Shape<'_>, told: &Told, body: ReplyBody<'a>) -> ReplyBody<'a>
+    ensures { body_text result ≡ given_body shape.now told.now (body_text body.entry) }
 {
-    if shape.head {
+    if is_asked(shape, told) || shape.head {
         ReplyBody::Piece(&[])
     } else {
         body
+    }
+}
+
+/// Whether a reply says what a page may send, in place of a refusal of its method.
+fn is_asked(shape: &Shape<'_>, told: &Told) -> bool
+    ensures { result ≡ is_asked shape.now told.now }
+{
+    match told {
+        Told::Refusal(refused, _) => shape.asks && refused.is_of_method(),
+        _ => false,
     }
 }
 

@@ -15,16 +15,16 @@ use q_outside::{Failed, Sink};
 pub fn give_reply<K: Sink>(
     sink: &mut K,
     buffer: &mut ReplyRoom,
-    shape: Shape,
+    shape: &Shape<'_>,
     told: &Told,
     page: &[u8],
     close: bool,
 ) -> Result<(), Failed>
-    ensures reply { (text : List ℕ) × IsReplyText shape told.now page.now close text × Gave (K.at sink.old) (K.at sink.new) text result }
+    ensures reply { (text : List ℕ) × IsReplyText shape.now told.now page.now close text × Gave (K.at sink.old) (K.at sink.new) text result }
 {
     let mut numbers = [0; NUMBERS_CAPACITY];
     let body = body_of(told, page, &mut numbers);
     let head = Head::of(shape, told, body.len(), close);
     buffer.write_head(&head, told.clock());
-    buffer.give_with(sink, given(shape, body))
+    buffer.give_with(sink, given(shape, told, body))
 }

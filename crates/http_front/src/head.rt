@@ -1,9 +1,11 @@
 //! The heads of replies.
-ghost use Rattle.std.specs.Prelude.{◌≡◌, ◌+◌, ◌≤◌, ◌++◌, length, take};
+ghost use Rattle.std.specs.Prelude.{◌≡◌, ◌+◌, ◌≤◌, ◌++◌, length, take, IfSome};
+ghost use Rattle.std.specs.Option.{option_copied};
 ghost use Rattle.http1.specs.Head.{print_headers};
-ghost use Rattle.http_front.specs.Reply.{media_field, allow_field, date_field, lifetime_field, close_field, head_text, head_fields};
-ghost use Rattle.http_front.specs.ReplyText.{json_head, written_head, answer_head, read_head, head_of};
+ghost use Rattle.http_front.specs.Reply.{media_field, methods_text, allow_field, origin_fields, vary_field, calls_fields, pages_fields, date_field, lifetime_field, close_field, head_text, head_fields};
+ghost use Rattle.http_front.specs.ReplyText.{json_head, written_head, answer_head, read_head, calls_by, asked_head, refusal_head, told_head, head_of};
 
+use crate::origins::Leave;
 use crate::put::{put, put_field};
 use crate::refused::{Allow, Refused};
 use crate::shape::Shape;
@@ -13,6 +15,14 @@ use http::StatusCode;
 use hub_model::{Answer, Outcome, Written};
 use q_base::Commit;
 
+/// What stands behind an origin: the fields that its pages may read.
+const EXPOSED: &[u8] =
+    b"\r\nAccess-Control-Expose-Headers: Date, ETag, Quaestor-Commit, Quaestor-Until, Quaestor-Version\r\n";
+
+/// What stands behind the methods that a page may call.
+const CALLS: &[u8] =
+    b"\r\nAccess-Control-Allow-Headers: Cache-Control, Content-Type, If-Match, If-None-Match\r\nAccess-Control-Max-Age: 600\r\n";
+
 /// What a reply's body is (RFC 9110, section 8.3.1).
 #[derive(Clone, Copy, Debug, PartialEq, Eq)]
 pub enum MediaType {
@@ -21,8 +31,8 @@ pub enum MediaType {
 }
 
 /// The status and the fields of a reply.
-#[derive(Clone, Copy)]
-pub struct Head {
+#[derive(Drop)]
+pub struct Head<'a> {
     pub status: StatusCode,
     /// Whether it has a date.
     pub dated: bool,
@@ -40,13 +50,17 @@ pub struct Head {
     pub version: Option<Commit>,
     /// Until when the reply is fresh, in seconds since 1970.
     pub until: Option<u64>,
+    /// What is said of the pages that may read the reply.
+    pub leave: Leave<'a>,
+    /// The methods that a page may call, where it asked for that.
+    pub calls: Option<Allow>,
     /// Whether the connection ends after the reply.
     pub close: bool,
 }
 
-impl Head {
+impl<'a> Head<'a> {
     /// A head that has a date, a body of JSON of this length, and no field of the store.
-    pub fn json(status: StatusCode, length: usize, close: bool) -> Head
+    pub fn json(status: StatusCode, length: usize, close: bool) -> Head<'a>
         ensures { result ≡ json_head status length close }
     {
         Head {
@@ -60,12 +74,14 @@ impl Head {
             commit: None,
             version: None,
             until: None,
+            leave: Leave::none(),
+            calls: None,
             close,
         }
     }
 
     /// The head of the reply to a write.
-    fn of_written(put: bool, written: &Written, length: usize, close: bool) -> Head
+    fn of_written(put: bool, written: &Written, length: usize, close: bool) -> Head<'a>
         ensures { result ≡ written_head put written.now length close }
     {
         match written {
@@ -81,7 +97,7 @@ impl Head {
     }
 
     /// The head of the reply to a read, without the fields of a document.
-    fn of_answer(answer: &Answer, status: StatusCode, length: usize, close: bool) -> Head
+    fn of_answer(answer: &Answer, status: StatusCode, length: usize, close: bool) -> Head<'a>
         ensures { result ≡ answer_head answer.now status length close }
     {
         Head {
@@ -93,7 +109,7 @@ impl Head {
     }
 
     /// The head of the reply to a read.
-    fn of_read(answer: &Answer, length: usize, close: bool) -> Head
+    fn of_read(answer: &Answer, length: usize, close: bool) -> Head<'a>
         ensures { result ≡ read_head answer.now answer.now.result length close }
     {
         match &answer.result {
@@ -113,9 +129,35 @@ impl Head {
         }
     }
 
-    /// The head of a reply whose body has this length.
-    pub fn of(shape: Shape, told: &Told, length: usize, close: bool) -> Head
-        ensures { result ≡ head_of shape told.now length close }
+    /// The head of the reply to a page that asks what it may send, where a path has these methods.
+    fn of_asked(leave: &Leave<'_>, allow: Option<Allow>, close: bool) -> Head<'a>
+        ensures { result ≡ asked_head leave.now allow close }
+    {
+        Head {
+            media: None,
+            length: None,
+            allow,
+            calls: calls_by(leave, allow),
+            ..Head::json(StatusCode::NO_CONTENT, 0, close)
+        }
+    }
+
+    /// The head of a refusal.
+    fn of_refusal(shape: &Shape<'_>, refused: Refused, length: usize, close: bool) -> Head<'a>
+        ensures { result ≡ refusal_head shape.now refused length close }
+    {
+        if shape.asks && refused.is_of_method() {
+            return Head::of_asked(&shape.leave, refused.allowed(), close);
+        }
+        Head {
+            allow: refused.allowed(),
+            ..Head::json(refusal_status(refused), length, close)
+        }
+    }
+
+    /// The head of a reply whose body has this length, without what it says of pages.
+    fn of_told(shape: &Shape<'_>, told: &Told, length: usize, close: bool) -> Head<'a>
+        ensures { result ≡ told_head shape.now told.now length close }
     {
         match told {
             Told::Write(written) => Head::of_written(shape.put, written, length, close),
@@ -127,21 +169,38 @@ impl Head {
                 media: Some(MediaType::OctetStream),
                 ..Head::json(StatusCode::OK, length, close)
             },
-            Told::Refusal(refused, _) => Head {
-                allow: refused.allowed(),
-                ..Head::json(refusal_status(*refused), length, close)
-            },
+            Told::Refusal(refused, _) => Head::of_refusal(shape, *refused, length, close),
             Told::Memory => Head {
                 dated: false,
                 ..Head::json(StatusCode::SERVICE_UNAVAILABLE, length, close)
             },
         }
     }
+
+    /// The head of a reply whose body has this length.
+    pub fn of(shape: &Shape<'a>, told: &Told, length: usize, close: bool) -> Head<'a>
+        ensures { result ≡ head_of shape.now told.now length close }
+    {
+        Head {
+            leave: shape.leave.again(),
+            ..Head::of_told(shape, told, length, close)
+        }
+    }
+}
+
+/// The methods that a page may call, where it may read the reply.
+fn calls_by(leave: &Leave<'_>, allow: Option<Allow>) -> Option<Allow>
+    ensures { result ≡ calls_by leave.now.allow allow }
+{
+    match leave.allow() {
+        None => None,
+        Some(_) => allow,
+    }
 }
 
 /// Writes a head at the start of a buffer.
 #[tactic(auto, using(crate::proofs::HeadLines::head_pieces))]
-pub(crate) fn put_head(buffer: &mut [u8], head: &Head, date: &[u8]) -> usize
+pub(crate) fn put_head(buffer: &mut [u8], head: &Head<'_>, date: &[u8]) -> usize
     requires buffer { 2048 ≤ length buffer.old }
     requires date { length date.now ≡ 29 }
     ensures text { take result buffer.new ≡ head_text head.now.status (head_fields head.now date.now) }
@@ -157,6 +216,7 @@ pub(crate) fn put_head(buffer: &mut [u8], head: &Head, date: &[u8]) -> usize
     at = put_field(buffer, at, b"Quaestor-Commit: ", head.commit, b"\r\n");
     at = put_field(buffer, at, b"Quaestor-Version: ", head.version, b"\r\n");
     at = put_field(buffer, at, b"Quaestor-Until: ", head.until, b"\r\n");
+    at = put_pages(buffer, at, &head.leave, head.calls);
     at = put_close(buffer, at, head.close);
     put(buffer, at, b"\r\n")
 }
@@ -173,6 +233,18 @@ fn media_line(media: Option<MediaType>) -> &'static [u8]
     }
 }
 
+/// Methods as a list.
+fn methods_text(allow: Allow) -> &'static [u8]
+    ensures text { result.now ≡ methods_text allow }
+    ensures short { length result.now ≤ 22 }
+{
+    match allow {
+        Allow::Record => b"GET, HEAD, PUT, DELETE",
+        Allow::Match => b"POST",
+        Allow::Other => b"GET, HEAD",
+    }
+}
+
 /// The line that lists the methods of a route, where they are listed.
 fn allow_line(allow: Option<Allow>) -> &'static [u8]
     ensures field { result.now ≡ print_headers (allow_field allow) }
@@ -184,6 +256,71 @@ fn allow_line(allow: Option<Allow>) -> &'static [u8]
         Some(Allow::Match) => b"Allow: POST\r\n",
         Some(Allow::Other) => b"Allow: GET, HEAD\r\n",
     }
+}
+
+/// The line that says that pages of other origins may be told otherwise, where they are.
+fn vary_line(varies: bool) -> &'static [u8]
+    ensures field { result.now ≡ print_headers (vary_field varies) }
+    ensures short { length result.now ≤ 14 }
+{
+    if varies { b"Vary: Origin\r\n" } else { b"" }
+}
+
+/// Writes what a reply says to pages, where it says something.
+#[inline(always)]
+fn put_pages(buffer: &mut [u8], at: usize, leave: &Leave<'_>, calls: Option<Allow>) -> usize
+    requires { at + 600 ≤ length buffer.old }
+    ensures end { result ≤ at + 600 }
+    ensures text { take result buffer.new ≡ take at buffer.old ++ print_headers (pages_fields leave.now calls) }
+{
+    if leave.is_none() && calls.is_none() {
+        return at;
+    }
+    put_told(buffer, at, leave, calls)
+}
+
+/// Writes what it says.
+#[inline(never)]
+#[tactic(auto, using(crate::proofs::HeadLines::pages_lines))]
+fn put_told(buffer: &mut [u8], at: usize, leave: &Leave<'_>, calls: Option<Allow>) -> usize
+    requires { at + 600 ≤ length buffer.old }
+    ensures end { result ≤ at + 600 }
+    ensures text { take result buffer.new ≡ take at buffer.old ++ print_headers (pages_fields leave.now calls) }
+{
+    let mut behind = put_origin(buffer, at, leave.allow());
+    behind = put(buffer, behind, vary_line(leave.varies()));
+    put_calls(buffer, behind, calls)
+}
+
+/// Writes the origin whose pages may read the reply, and what they may read, where one is told.
+#[tactic(auto, using(crate::proofs::HeadLines::origin_lines))]
+fn put_origin(buffer: &mut [u8], at: usize, allow: Option<&[u8]>) -> usize
+    requires buffer { at + 381 ≤ length buffer.old }
+    requires origin { IfSome (option_copied allow) (λ origin. length origin ≤ 255) }
+    ensures end { result ≤ at + 381 }
+    ensures text { take result buffer.new ≡ take at buffer.old ++ print_headers (origin_fields (option_copied allow.entry)) }
+{
+    let Some(origin) = allow else {
+        return at;
+    };
+    let mut behind = put(buffer, at, b"Access-Control-Allow-Origin: ");
+    behind = put(buffer, behind, origin);
+    put(buffer, behind, EXPOSED)
+}
+
+/// Writes what a page may send, where it asked for that.
+#[tactic(auto, using(crate::proofs::HeadLines::calls_lines))]
+fn put_calls(buffer: &mut [u8], at: usize, calls: Option<Allow>) -> usize
+    requires { at + 200 ≤ length buffer.old }
+    ensures end { result ≤ at + 200 }
+    ensures text { take result buffer.new ≡ take at buffer.old ++ print_headers (calls_fields calls) }
+{
+    let Some(allow) = calls else {
+        return at;
+    };
+    let mut behind = put(buffer, at, b"Access-Control-Allow-Methods: ");
+    behind = put(buffer, behind, methods_text(allow));
+    put(buffer, behind, CALLS)
 }
 
 /// Writes the date, where the reply has one.

@@ -11,17 +11,18 @@ pub fn paths_of_records_have_two_names()
 {}
 
 /// The text of a head is read back by `httparse` as its status and its fields, whatever follows it.
-pub fn replies_read_back(head: Head)
-    ensures { ReadsBack head }
+pub fn replies_read_back(head: Head<'_>)
+    ensures { ReadsBack head.entry }
 {
     let _status = head.status.as_u16();
+    let _allow = head.leave.allow();
 }
 
 /// A head with a length frames just this number of bytes, where its status has a body; where it has none,
 /// as 304, the reply ends with its head.
-pub fn replies_are_framed(head: Head)
-    ensures sized { FramesItsBody head }
-    ensures bodiless { EndsWithItsHead head }
+pub fn replies_are_framed(head: Head<'_>)
+    ensures sized { FramesItsBody head.entry }
+    ensures bodiless { EndsWithItsHead head.entry }
 {}
 
 /// Bytes are read as one status, one list of fields and one rest at most.

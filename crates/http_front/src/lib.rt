@@ -13,6 +13,7 @@ mod head;
 mod laws;
 mod names;
 mod number;
+mod origins;
 mod pieces;
 mod purges;
 mod put;
@@ -28,7 +29,7 @@ mod tags;
 mod target;
 mod told;
 
-pub use ask::{Ask, ask_of, shape_of};
+pub use ask::{Ask, ask_of};
 pub use body::write_body;
 pub use give::give_reply;
 pub use head::{Head, MediaType};
@@ -36,10 +37,11 @@ pub use laws::{
     one_reply_is_read, paths_of_records_have_two_names, replies_are_framed, replies_have_one_text,
     replies_read_back,
 };
+pub use origins::Leave;
 pub use pieces::{Body, Bytes, Parts, give_pieces};
 pub use query::{FieldValue, QueryFields, fields_in};
 pub use refused::{Allow, DocumentReason, FilterReason, FilterRefusal, QueryField, Refused};
 pub use reply::{REPLY_CAPACITY, ReplyRoom, reply_text};
 pub use routes::{ALL_ROUTES, Route, Routes, Served};
-pub use shape::Shape;
+pub use shape::{Shape, shape_of};
 pub use told::Told;

@@ -59,7 +59,7 @@ impl Body for Parts {
 pub fn give_pieces<B: Body, K: Sink>(
     sink: &mut K,
     buffer: &mut ReplyRoom,
-    head: &Head,
+    head: &Head<'_>,
     clock: Moment,
     body: &B,
     to_head: bool,

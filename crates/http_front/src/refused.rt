@@ -1,6 +1,6 @@
 //! Why a request is refused.
 ghost use Rattle.std.specs.Prelude.{◌≡◌, ◌≤◌, length};
-ghost use Rattle.http_front.specs.ReplyText.{allowed, field_name, reason_word};
+ghost use Rattle.http_front.specs.ReplyText.{allowed, field_name, is_of_method, reason_word};
 
 use http_message::FramingRefusal;
 
@@ -105,6 +105,13 @@ impl Refused {
             Refused::BadMethod(methods) => Some(methods),
             _ => None,
         }
+    }
+
+    /// Whether the method was refused.
+    pub fn is_of_method(self) -> bool
+        ensures { result ≡ is_of_method self }
+    {
+        matches!(self, Refused::BadMethod(_))
     }
 }
 

@@ -67,7 +67,7 @@ impl ReplyRoom {
     }
 
     /// Writes a head with the date of a clock over what is there.
-    pub fn write_head(&mut self, head: &Head, clock: Moment)
+    pub fn write_head(&mut self, head: &Head<'_>, clock: Moment)
         ensures head { IsHeadText head.now clock self.new }
         ensures len { length self.new ≤ 2048 }
     {
@@ -125,13 +125,13 @@ impl ReplyRoom {
 /// Writes the head of a reply over what is in the buffer, and answers its length. Where the reply
 /// is a page, these are its bytes.
 pub fn reply_text(
-    shape: Shape,
+    shape: &Shape<'_>,
     told: &Told,
     page: &[u8],
     close: bool,
     buffer: &mut ReplyRoom,
 ) -> usize
-    ensures head { IsHeadText (head_of shape told.now (length (body_of told.now page.now)) close) (clock_of told.now) buffer.new }
+    ensures head { IsHeadText (head_of shape.now told.now (length (body_of told.now page.now)) close) (clock_of told.now) buffer.new }
     ensures len { result ≡ length buffer.new }
     ensures short { result ≤ 2048 }
 {

@@ -2,8 +2,8 @@
 ghost use Rattle.std.specs.Prelude.{◌≡◌, ◌<◌};
 
 use crate::asks::asked;
-use crate::replies::{HEAD, PLAIN, new_room};
-use http_front::{Ask, Shape, Told, give_reply, write_body};
+use crate::replies::{Asked, HEAD, PLAIN, new_room};
+use http_front::{Ask, Told, give_reply, write_body};
 use hub_model::PurgeReply;
 use q_base::{Memory, Moment};
 use q_outside::{ListSink, Script};
@@ -130,18 +130,18 @@ fn sink_of<L: Ledger>(
 pub(crate) fn reply_given(
     alloc: Global,
     told: &Told,
-    shape: Shape,
+    asked: Asked,
     size: usize,
     failing: u64,
 ) -> Result<Vec<u8>, Memory> {
-    reply_counted::<Brand>(alloc, told, shape, size, failing, Blank::new(1))
+    reply_counted::<Brand>(alloc, told, asked, size, failing, Blank::new(1))
 }
 
 /// The same, of a sink whose faults are counted by this ledger.
 fn reply_counted<L: Ledger>(
     alloc: Global,
     told: &Told,
-    shape: Shape,
+    asked: Asked,
     size: usize,
     failing: u64,
     blank: Blank,
@@ -152,7 +152,7 @@ fn reply_counted<L: Ledger>(
 {
     let mut room = new_room(alloc)?;
     let mut sink = sink_of::<L>(alloc, size, failing, blank)?;
-    let _given = give_reply(&mut *sink, &mut room, shape, told, b"", false);
+    let _given = give_reply(&mut *sink, &mut room, &asked.shape(), told, b"", false);
     Ok(Vec::from_slice(alloc, &sink.bytes)?)
 }
 
@@ -168,7 +168,7 @@ fn body_counted<L: Ledger>(alloc: Global, told: &Told, blank: Blank) -> Result<V
     requires some { 0 < L.parts }
 {
     let mut sink = sink_of::<L>(alloc, 7, NEVER, blank)?;
-    let _given = write_body(PLAIN, told, b"", &mut *sink);
+    let _given = write_body(&PLAIN.shape(), told, b"", &mut *sink);
     Ok(Vec::from_slice(alloc, &sink.bytes)?)
 }
 

@@ -1,8 +1,8 @@
 //! Replies, to the byte.
 use http::StatusCode;
 use http_front::{
-    Allow, DocumentReason, Head, Parts, Refused, ReplyRoom, Shape, Told, give_pieces, give_reply,
-    reply_text, write_body,
+    Allow, DocumentReason, Head, Leave, Parts, Refused, ReplyRoom, Shape, Told, give_pieces,
+    give_reply, reply_text, write_body,
 };
 use http_message::FramingRefusal;
 use hub_model::{Answer, Found, Matched, Outcome, Stats, Written};
@@ -13,18 +13,37 @@ use std::alloc::Global;
 use std::process::Abort;
 use std::test::Fail;
 
+/// Which of the methods that decide what a reply looks like a request has.
+#[derive(Clone, Copy)]
+pub(crate) struct Asked {
+    put: bool,
+    head: bool,
+}
+
+impl Asked {
+    /// What the reply looks like where no origin is named.
+    pub(crate) fn shape<'a>(self) -> Shape<'a> {
+        Shape {
+            put: self.put,
+            head: self.head,
+            asks: false,
+            leave: Leave::none(),
+        }
+    }
+}
+
 /// Neither PUT nor HEAD.
-pub(crate) const PLAIN: Shape = Shape {
+pub(crate) const PLAIN: Asked = Asked {
     put: false,
     head: false,
 };
 
-const PUT: Shape = Shape {
+const PUT: Asked = Asked {
     put: true,
     head: false,
 };
 
-pub(crate) const HEAD: Shape = Shape {
+pub(crate) const HEAD: Asked = Asked {
     put: false,
     head: true,
 };
@@ -81,8 +100,8 @@ fn counts(clock: Moment) -> Stats {
     }
 }
 
-/// A reply's shape, what it tells, whether the connection ends behind it, and its text.
-type Row<'a> = (Shape, Told, bool, &'a str);
+/// What a reply answers to, what it tells, whether the connection ends behind it, and its text.
+type Row<'a> = (Asked, Told, bool, &'a str);
 
 /// Room for replies. It is boxed, as what is told is: each end of a function lets go of a value part by
 /// part, which is long to prove, and of a box by one call.
@@ -91,14 +110,14 @@ pub(crate) fn new_room(alloc: Global) -> Result<Box<ReplyRoom>, Memory> {
 }
 
 /// Whether a reply could be given.
-fn is_given(room: &mut ReplyRoom, shape: Shape, told: &Told, close: bool) -> bool {
-    give_reply(&mut EndlessSink, room, shape, told, b"", close).is_ok()
+fn is_given(room: &mut ReplyRoom, asked: Asked, told: &Told, close: bool) -> bool {
+    give_reply(&mut EndlessSink, room, &asked.shape(), told, b"", close).is_ok()
 }
 
 /// Checks the text of each row.
 fn check_rows(rt: &impl Abort, room: &mut ReplyRoom, rows: &[Row<'_>]) {
-    for (shape, told, close, text) in rows {
-        assert!(rt; is_given(room, *shape, told, *close));
+    for (asked, told, close, text) in rows {
+        assert!(rt; is_given(room, *asked, told, *close));
         assert_eq!(rt; room.bytes(), text.as_bytes());
     }
 }
@@ -273,12 +292,13 @@ fn is_with_body(room: &mut ReplyRoom, told: &Told) -> bool {
 
 /// Whether the text of a reply's head is printed without the body.
 fn is_head_printed(room: &mut ReplyRoom, told: &Told) -> bool {
-    reply_text(PLAIN, told, b"", false, room) == READ.len() && room.bytes() == READ.as_bytes()
+    reply_text(&PLAIN.shape(), told, b"", false, room) == READ.len()
+        && room.bytes() == READ.as_bytes()
 }
 
 /// Whether the body could be given.
 fn is_body_given(told: &Told) -> bool {
-    write_body(PLAIN, told, b"", &mut EndlessSink).is_ok()
+    write_body(&PLAIN.shape(), told, b"", &mut EndlessSink).is_ok()
 }
 
 #[test]

@@ -1,8 +1,9 @@
 //! The configuration of a hub.
-ghost use Rattle.std.specs.Prelude.{◌≡◌};
+ghost use Rattle.std.specs.Prelude.{◌≡◌, []};
 ghost use Rattle.hub_core.specs.Config.{configured};
 ghost use Rattle.hub_model.specs.Setting.{IsWithinLimits};
 
+use q_base::SharedText;
 use std::error::Error;
 use std::fmt;
 use std::marker::Model;
@@ -43,9 +44,11 @@ pub struct Config {
     ttl_high: u32,
     active: u32,
     capacity: u64,
+    origins: Option<SharedText>,
 }
 
 impl Model for Config {
+    ghost use Rattle.std.specs.Prelude.{[], unwrap_or};
     ghost use Rattle.hub_model.specs.Setting.{Setting, IsWithinLimits};
 
     ghost Value = { Setting };
@@ -57,6 +60,7 @@ impl Model for Config {
       ttl_high = c.ttl_high;
       active = c.active;
       capacity = c.capacity;
+      origins = unwrap_or c.origins [];
     } };
 
     ghost invariant = { λ c. IsWithinLimits (record {
@@ -66,6 +70,7 @@ impl Model for Config {
       ttl_high = c.ttl_high;
       active = c.active;
       capacity = c.capacity;
+      origins = unwrap_or c.origins [];
     }) };
 }
 
@@ -131,6 +136,7 @@ impl Config {
           ttl_high = ttl_high;
           active = active;
           capacity = capacity;
+          origins = [];
         }) }
     {
         if log2_bits < LEAST_LOG2_BITS || log2_bits > MOST_LOG2_BITS {
@@ -158,7 +164,29 @@ impl Config {
             ttl_high,
             active,
             capacity,
+            origins: None,
         })
+    }
+
+    /// The same configuration with these origins of web pages that may read replies, with a space
+    /// between two.
+    pub fn with_origins(self, origins: SharedText) -> Config
+        ensures { result ≡ record self { origins = origins } }
+    {
+        Config {
+            origins: Some(origins),
+            ..self
+        }
+    }
+
+    /// The origins of web pages that may read replies, with a space between two.
+    pub fn origins(&self) -> &[u8]
+        ensures { result.now ≡ self.now.origins }
+    {
+        match &self.origins {
+            None => b"",
+            Some(origins) => origins.as_slice(),
+        }
     }
 
     /// The logarithm of the number of the page's bits.
@@ -220,6 +248,7 @@ impl Default for Config {
             ttl_high: 3_600,
             active: 10_000,
             capacity: 134_217_728,
+            origins: None,
         }
     }
 }

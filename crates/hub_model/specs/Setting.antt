@@ -1,7 +1,7 @@
 -- Believed. The configuration of a hub, and its limits.
-use Rattle.std.specs.Prelude.{ℕ, ◌≤◌}
+use Rattle.std.specs.Prelude.{ℕ, ◌≤◌, List, []}
 
--- the numbers of a configuration
+-- What a hub is configured with.
 pub record Setting : Type 0 where
   -- the logarithm of the number of the page's bits
   pub log2_bits : ℕ
@@ -14,6 +14,8 @@ pub record Setting : Type 0 where
   pub active : ℕ
   -- the greatest number of kept bytes
   pub capacity : ℕ
+  -- the origins of web pages that may read replies, with a space between two; no entry depends on them
+  pub origins : List ℕ
 
 -- each number is within its limits
 pub record IsWithinLimits (g : Setting) : Type 0 where
@@ -37,4 +39,5 @@ default_setting = record {
   ttl_high = 3600;
   active = 10000;
   capacity = 134217728;
+  origins = [];
 }

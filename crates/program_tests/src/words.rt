@@ -109,6 +109,16 @@ fn options_are_numbers_within_their_limits(rt: HostRuntime) -> Result<(), Fail> 
         ("serve here --grace 3601", Status::Words),
         ("serve here --idle 1 --idle 1", Status::Words),
         ("serve here --frobnicate 1", Status::Words),
+        ("serve here --allow-origin", Status::Words),
+        (
+            "serve here --allow-origin https://a.example/",
+            Status::Words,
+        ),
+        (
+            "serve here --allow-origin https://a.example --allow-origin https://b.example",
+            Status::Words,
+        ),
+        ("pipe --allow-origin https://a.example", Status::Words),
     ];
     for (at, (line, status)) in rows.into_iter().enumerate() {
         let outcome = run_line(&rt, line)?;
@@ -211,7 +221,7 @@ fn help_and_version_are_written(rt: HostRuntime) -> Result<(), Fail> {
 
 #[test]
 fn refused_words_have_a_message(rt: HostRuntime) -> Result<(), Fail> {
-    let rows: [(&[&str], &str); 8] = [
+    let rows: [(&[&str], &str); 9] = [
         (
             &["read", "here", "weak", "r/shop/p1"],
             "error: LEVEL is session, causal or strong, not 'weak'\n",
@@ -244,6 +254,10 @@ fn refused_words_have_a_message(rt: HostRuntime) -> Result<(), Fail> {
             &["serve", "--workers", "2"],
             "error: the following required arguments were not provided:\n  <ADDR>\n",
         ),
+        (
+            &["serve", "here", "--allow-origin", "https://a.example/"],
+            "error: --allow-origin is *, or origins such as https://example.com with a space between two, without a path or a slash at the end, not 'https://a.example/'\n",
+        ),
     ];
     for (line, message) in rows {
         let words = words_of(rt.alloc(), line)?;
@@ -252,6 +266,35 @@ fn refused_words_have_a_message(rt: HostRuntime) -> Result<(), Fail> {
         };
         let text = format!(in rt.alloc(); "{refusal}")?;
         assert!(rt; text.starts_with(message), "{text}");
+    }
+    Ok(())
+}
+
+/// The origins of web pages: a star alone, or origins with one space between two.
+#[test]
+fn origins_are_taken_or_refused(rt: HostRuntime) -> Result<(), Fail> {
+    let rows = [
+        ("*", true),
+        ("https://a.example", true),
+        ("http://localhost:8080", true),
+        ("https://a.example http://[::1]:8080", true),
+        ("https://a.example/", false),
+        ("https://a.example/x", false),
+        ("https://a.example,https://b.example", false),
+        ("https://*.example", false),
+        ("https://a.example  https://b.example", false),
+        (" https://a.example", false),
+        ("* https://a.example", false),
+        ("https://", false),
+        ("a.example", false),
+        ("ftp://a.example", false),
+        ("null", false),
+        ("", false),
+    ];
+    for (origins, taken) in rows {
+        let words = words_of(rt.alloc(), &["serve", "here", "--allow-origin", origins])?;
+        let refusal = refusal_of(rt.alloc(), &words)?;
+        assert_eq!(rt; refusal.is_none(), taken, "of '{origins}'");
     }
     Ok(())
 }

@@ -7,35 +7,35 @@ use Rattle.clap.specs.declared.parser.matches.ArgMatches.{ArgMatches}
 use Rattle.clap.specs.declared.error.kind.ErrorKind.{ErrorKind}
 use Rattle.clap.specs.declared.error.kind.ErrorKind.TheVariants as kind
 use Rattle.hub_model.specs.Setting.{Setting}
-use Rattle.quaestor_prog.specs.Commands.{number_rule, word_rule, with_limit_rules, with_setting_rules, versioned, pipe_app, serve_app, read_app, program_app, NamesPipe, NamesServe, NamesRead, NamesNone, FaultsAre, IsAnswered, AskHelp}
-use Rattle.quaestor_prog.specs.Words.{AreRun, AreTaken, Asks, FoundRead, IsAnswerOf, IsPipe, IsRead, IsServe, ReadAsk, ServeAsk}
+use Rattle.quaestor_prog.specs.Commands.{option_rule, word_rule, with_limit_rules, with_setting_rules, versioned, pipe_app, serve_app, read_app, program_app, NamesPipe, NamesServe, NamesRead, NamesNone, FaultsAre, IsAnswered, AskHelp}
+use Rattle.quaestor_prog.specs.Words.{AreRun, AreTaken, Asks, FoundRead, IsAnswerOf, IsPipe, IsRead, IsServe, IsServeOf, AreServeOptions, ReadAsk, ServeAsk}
 use Rattle.quaestor_prog.specs.declared.words.Invocation.{Invocation}
 use Rattle.quaestor_prog.specs.declared.words.Invocation.TheVariants.{Pipe, Serve, Read, Help, Invalid}
 use Rattle.quaestor_prog.specs.declared.refusal.Refusal.TheVariants as why
 use Rattle.quaestor_prog.proofs.Singles.{Single, fault_single}
 
 -- one option after another makes the command
-pub six : (a b c d e f g : App) → b ≡ with_rule a (number_rule (codes "bits")) → c ≡ with_rule b (number_rule (codes "hashes")) → d ≡ with_rule c (number_rule (codes "ttl-low")) → e ≡ with_rule d (number_rule (codes "ttl-high"))
-    → f ≡ with_rule e (number_rule (codes "active")) → g ≡ with_rule f (number_rule (codes "bytes")) → g ≡ with_setting_rules a
+pub six : (a b c d e f g : App) → b ≡ with_rule a (option_rule (codes "bits")) → c ≡ with_rule b (option_rule (codes "hashes")) → d ≡ with_rule c (option_rule (codes "ttl-low")) → e ≡ with_rule d (option_rule (codes "ttl-high"))
+    → f ≡ with_rule e (option_rule (codes "active")) → g ≡ with_rule f (option_rule (codes "bytes")) → g ≡ with_setting_rules a
 six a b c d e f g pb pc pd pe pf pg =
-    pg ∙ ap (λ x. with_rule x (number_rule (codes "bytes"))) (pf ∙ ap (λ x. with_rule x (number_rule (codes "active")))
-    (pe ∙ ap (λ x. with_rule x (number_rule (codes "ttl-high"))) (pd ∙ ap (λ x. with_rule x (number_rule (codes "ttl-low"))) (pc ∙ ap (λ x. with_rule x (number_rule (codes "hashes"))) pb))))
+    pg ∙ ap (λ x. with_rule x (option_rule (codes "bytes"))) (pf ∙ ap (λ x. with_rule x (option_rule (codes "active")))
+    (pe ∙ ap (λ x. with_rule x (option_rule (codes "ttl-high"))) (pd ∙ ap (λ x. with_rule x (option_rule (codes "ttl-low"))) (pc ∙ ap (λ x. with_rule x (option_rule (codes "hashes"))) pb))))
 
-pub pipe_is : (a b c : App) → a ≡ versioned (codes "pipe") → b ≡ with_setting_rules a → c ≡ with_rule b (number_rule (codes "clock")) → c ≡ pipe_app
-pipe_is a b c pa pb pc = pc ∙ ap (λ x. with_rule x (number_rule (codes "clock"))) (pb ∙ ap with_setting_rules pa)
+pub pipe_is : (a b c : App) → a ≡ versioned (codes "pipe") → b ≡ with_setting_rules a → c ≡ with_rule b (option_rule (codes "clock")) → c ≡ pipe_app
+pipe_is a b c pa pb pc = pc ∙ ap (λ x. with_rule x (option_rule (codes "clock"))) (pb ∙ ap with_setting_rules pa)
 
-pub five : (a b c d e f : App) → b ≡ with_rule a (number_rule (codes "idle")) → c ≡ with_rule b (number_rule (codes "head-time")) → d ≡ with_rule c (number_rule (codes "reply-time")) → e ≡ with_rule d (number_rule (codes "least-rate"))
-    → f ≡ with_rule e (number_rule (codes "grace")) → f ≡ with_limit_rules a
+pub five : (a b c d e f : App) → b ≡ with_rule a (option_rule (codes "idle")) → c ≡ with_rule b (option_rule (codes "head-time")) → d ≡ with_rule c (option_rule (codes "reply-time")) → e ≡ with_rule d (option_rule (codes "least-rate"))
+    → f ≡ with_rule e (option_rule (codes "grace")) → f ≡ with_limit_rules a
 five a b c d e f pb pc pd pe pf =
-    pf ∙ ap (λ x. with_rule x (number_rule (codes "grace"))) (pe ∙ ap (λ x. with_rule x (number_rule (codes "least-rate")))
-    (pd ∙ ap (λ x. with_rule x (number_rule (codes "reply-time"))) (pc ∙ ap (λ x. with_rule x (number_rule (codes "head-time"))) pb)))
+    pf ∙ ap (λ x. with_rule x (option_rule (codes "grace"))) (pe ∙ ap (λ x. with_rule x (option_rule (codes "least-rate")))
+    (pd ∙ ap (λ x. with_rule x (option_rule (codes "reply-time"))) (pc ∙ ap (λ x. with_rule x (option_rule (codes "head-time"))) pb)))
 
-pub serve_is : (a b c d e f g h : App) → a ≡ versioned (codes "serve") → b ≡ with_rule a (word_rule (codes "ADDR")) → c ≡ with_setting_rules b → d ≡ with_rule c (number_rule (codes "places")) → e ≡ with_rule d (number_rule (codes "workers"))
-    → f ≡ with_rule e (number_rule (codes "matchers")) → g ≡ with_rule f (number_rule (codes "connections")) → h ≡ with_limit_rules g → h ≡ serve_app
-serve_is a b c d e f g h pa pb pc pd pe pf pg ph =
-    ph ∙ ap with_limit_rules (pg ∙ ap (λ x. with_rule x (number_rule (codes "connections"))) (pf ∙ ap (λ x. with_rule x (number_rule (codes "matchers")))
-    (pe ∙ ap (λ x. with_rule x (number_rule (codes "workers"))) (pd ∙ ap (λ x. with_rule x (number_rule (codes "places")))
-    (pc ∙ ap with_setting_rules (pb ∙ ap (λ x. with_rule x (word_rule (codes "ADDR"))) pa))))))
+pub serve_is : (a b c d e f g h i : App) → a ≡ versioned (codes "serve") → b ≡ with_rule a (word_rule (codes "ADDR")) → c ≡ with_setting_rules b → d ≡ with_rule c (option_rule (codes "places")) → e ≡ with_rule d (option_rule (codes "workers"))
+    → f ≡ with_rule e (option_rule (codes "matchers")) → g ≡ with_rule f (option_rule (codes "connections")) → h ≡ with_limit_rules g → i ≡ with_rule h (option_rule (codes "allow-origin")) → i ≡ serve_app
+serve_is a b c d e f g h i pa pb pc pd pe pf pg ph pi =
+    pi ∙ ap (λ x. with_rule x (option_rule (codes "allow-origin"))) (ph ∙ ap with_limit_rules (pg ∙ ap (λ x. with_rule x (option_rule (codes "connections"))) (pf ∙ ap (λ x. with_rule x (option_rule (codes "matchers")))
+    (pe ∙ ap (λ x. with_rule x (option_rule (codes "workers"))) (pd ∙ ap (λ x. with_rule x (option_rule (codes "places")))
+    (pc ∙ ap with_setting_rules (pb ∙ ap (λ x. with_rule x (word_rule (codes "ADDR"))) pa)))))))
 
 pub read_is : (a b c d : App) → a ≡ versioned (codes "read") → b ≡ with_rule a (word_rule (codes "ADDR")) → c ≡ with_rule b (word_rule (codes "LEVEL")) → d ≡ with_rule c (word_rule (codes "KEY")) → d ≡ read_app
 read_is a b c d pa pb pc pd =
@@ -204,6 +204,15 @@ read_asked words (Ok (Pipe p)) named taken found = absurd found
 read_asked words (Ok (Serve s)) named taken found = absurd found
 read_asked words (Ok (Help t)) named taken found = absurd found
 read_asked words (Err e) named taken found = tt
+
+-- what clap found for the words of `serve` says what they ask for
+pub serve_asked : {E : Type 0} (words : List Text) (ask : ServeAsk) (r : Result Invocation E) → NamesServe words → fault_of serve_app words ≡ [] → AreServeOptions (matches_of serve_app words) ask → IfOk r (IsServeOf ask) → IfOk r (Asks words)
+serve_asked words ask (Ok (Serve s)) named taken options is = record { named = named; taken = taken; options = subst (AreServeOptions (matches_of serve_app words)) (sym is) options }
+serve_asked words ask (Ok (Pipe p)) named taken options is = absurd is
+serve_asked words ask (Ok (Read r)) named taken options is = absurd is
+serve_asked words ask (Ok (Help t)) named taken options is = absurd is
+serve_asked words ask (Ok (Invalid f)) named taken options is = absurd is
+serve_asked words ask (Err e) named taken options is = tt
 
 pub program_refused : (words : List Text) → NamesNone words → fault_of program_app words ≡ [] → AreTaken words → ⊥
 program_refused words none taken (inl runs) = none_runs words none runs

@@ -12,7 +12,7 @@ use Rattle.hub_core.specs.declared.config.ConfigRefusal.{ConfigRefusal}
 use Rattle.hub_model.specs.Setting.{Setting, IsWithinLimits}
 use Rattle.q_outside.specs.declared.limits.Limits.{Limits}
 use Rattle.quaestor_prog.specs.declared.ranges.TheConstants.{MOST_PLACES, DEFAULT_PLACES, MOST_WORKERS, DEFAULT_WORKERS, MOST_MATCHERS, DEFAULT_MATCHERS, MOST_CONNECTIONS, MOST_SECONDS, DEFAULT_IDLE, DEFAULT_HEAD_TIME, DEFAULT_REPLY_TIME, MOST_RATE, DEFAULT_RATE, DEFAULT_GRACE}
-use Rattle.quaestor_prog.specs.Words.{IsCount, IsNumber, IsNumberIn, IsClock, IsConfiguration, IsPipe, IsServe, IsRead, AreLimits, AreServeOptions, AreReadOptions, ReadAsk, ServeAsk, level_word}
+use Rattle.quaestor_prog.specs.Words.{IsCount, IsNumber, IsNumberIn, IsClock, IsConfiguration, IsPipe, IsServe, IsRead, AreLimits, AreOrigins, AreServeOptions, AreReadOptions, ReadAsk, ServeAsk, are_origins, level_word}
 
 -- the first word, as a text
 pub first_is : {A : Type 0} (f : A → Text) (xs : List A) (x : A) (t : Text) → slice_get xs 0 ≡ Some x → f x ≡ t → slice_get (map f xs) 0 ≡ Some t
@@ -66,11 +66,11 @@ crossed found g l h low high lsmall hsmall above p =
     let b : g.ttl_high ≡ h = one_number _ 3600 _ _ p.high high (omega (arith, most)) (omega (arith, hsmall)) in
     absurd (omega (arith, a, b, order, above))
 
-same_setting : (g h : Setting) → g.log2_bits ≡ h.log2_bits → g.hashes ≡ h.hashes → g.ttl_low ≡ h.ttl_low → g.ttl_high ≡ h.ttl_high → g.active ≡ h.active → g.capacity ≡ h.capacity → g ≡ h
-same_setting g h a b c d e f = λ i. record { log2_bits = a i; hashes = b i; ttl_low = c i; ttl_high = d i; active = e i; capacity = f i }
+same_setting : (g h : Setting) → g.log2_bits ≡ h.log2_bits → g.hashes ≡ h.hashes → g.ttl_low ≡ h.ttl_low → g.ttl_high ≡ h.ttl_high → g.active ≡ h.active → g.capacity ≡ h.capacity → g.origins ≡ h.origins → g ≡ h
+same_setting g h a b c d e f o = λ i. record { log2_bits = a i; hashes = b i; ttl_low = c i; ttl_high = d i; active = e i; capacity = f i; origins = o i }
 
-pub one_setting : (found : List Row) (g h : Setting) → IsConfiguration found g → IsConfiguration found h → g ≡ h
-one_setting found g h p q =
+pub one_setting : (found : List Row) (g h : Setting) → IsConfiguration found g → IsConfiguration found h → g.origins ≡ h.origins → g ≡ h
+one_setting found g h p q origins =
     let v = p.within in
     let w = q.within in
     let order : g.ttl_low ≤ g.ttl_high = v.ttl_order in
@@ -84,10 +84,11 @@ one_setting found g h p q =
     (one_number _ _ _ _ p.high q.high (omega (arith, most)) (omega (arith, least)))
     (one_number _ _ _ _ p.active q.active (omega (arith, v.active_most)) (omega (arith, w.active_most)))
     (one_number _ _ _ _ p.bytes q.bytes (omega (arith, v.capacity_high)) (omega (arith, w.capacity_high)))
+    origins
 
 -- words ask for one configuration and one clock
 pub one_pipe : (words : List Text) (g h : Setting) (a b : Option ℕ) → IsPipe words g a → IsPipe words h b → (g ≡ h) × (a ≡ b)
-one_pipe words g h a b p q = (one_setting _ g h p.options.0 q.options.0, one_clock _ a b p.options.1 q.options.1)
+one_pipe words g h a b p q = (one_setting _ g h p.options.0 q.options.0 (p.options.1 ∙ sym q.options.1), one_clock _ a b p.options.2 q.options.2)
 
 small : (n most : ℕ) → most < 2 ^ 64 → n ≤ most → n < 2 ^ 64
 small n most fits within = omega (arith, fits, within)
@@ -127,10 +128,52 @@ one_limits found a b p q = same_limits a b
 one_text : (given : Option Text) (s t : Text) → given ≡ Some s → given ≡ Some t → s ≡ t
 one_text given s t p q = ap (λ o. unwrap_or o s) (sym p ∙ q)
 
+-- the origins of a text, and where none is given
+pub origins_some : (given : Option Text) (t : Text) → given ≡ Some t → are_origins t ≡ true → AreOrigins given t
+origins_some given t e p = subst (λ o. AreOrigins o t) (sym e) (refl, p)
+
+pub origins_none : (given : Option Text) → given ≡ None → AreOrigins given []
+origins_none given e = subst (λ o. AreOrigins o []) (sym e) refl
+
+pub not_origins : (given : Option Text) (t o : Text) → given ≡ Some t → are_origins t ≡ false → AreOrigins given o → ⊥
+not_origins given t o e bad p =
+    let good : are_origins t ≡ true = (subst (λ x. AreOrigins x o) e p).1 in
+    let no : false ≡ true = sym bad ∙ good in
+    absurd cc
+
+one_origins : (given : Option Text) (a b : Text) → AreOrigins given a → AreOrigins given b → a ≡ b
+one_origins None a b p q = p ∙ sym q
+one_origins (Some text) a b p q = p.0 ∙ sym q.0
+
+-- the numbers of a configuration do not depend on its origins
+pub any_origins : (found : List Row) (g : Setting) (o : Text) → IsConfiguration found g → IsConfiguration found (record g { origins = o })
+any_origins found g o p =
+    let w = p.within in
+    record {
+      bits = p.bits;
+      hashes = p.hashes;
+      low = p.low;
+      high = p.high;
+      active = p.active;
+      bytes = p.bytes;
+      within = record {
+        bits_low = w.bits_low;
+        bits_high = w.bits_high;
+        hashes_low = w.hashes_low;
+        hashes_high = w.hashes_high;
+        ttl_some = w.ttl_some;
+        ttl_order = w.ttl_order;
+        ttl_most = w.ttl_most;
+        active_most = w.active_most;
+        capacity_low = w.capacity_low;
+        capacity_high = w.capacity_high;
+      };
+    }
+
 one_options : (found : List Row) (a b : ServeAsk) → AreServeOptions found a → AreServeOptions found b → a ≡ b
 one_options found a b p q = same_ask a b
     (one_text _ a.address b.address p.address q.address)
-    (one_setting found a.setting b.setting p.setting q.setting)
+    (one_setting found a.setting b.setting p.setting q.setting (one_origins _ _ _ p.origins q.origins))
     (one_number_in found (codes "places") 1 MOST_PLACES DEFAULT_PLACES a.places b.places (omega arith) p.places q.places)
     (one_number_in found (codes "workers") 1 MOST_WORKERS DEFAULT_WORKERS a.workers b.workers (omega arith) p.workers q.workers)
     (one_number_in found (codes "matchers") 1 MOST_MATCHERS DEFAULT_MATCHERS a.matchers b.matchers (omega arith) p.matchers q.matchers)

@@ -4,9 +4,9 @@ use Rattle.clap.specs.Words.{App, Rule, Text, new_app, new_rule, with_rule, faul
 use Rattle.clap.specs.declared.builder.action.ArgAction.TheVariants.{Set}
 use Rattle.clap.specs.declared.error.kind.ErrorKind.TheVariants as kind
 
--- an option `--NAME N`, which may be given once
-abbrev pub number_rule : Text → Rule
-number_rule name = record (new_rule name) { long = Some name; action = Some Set; value_names = 1 }
+-- an option `--NAME VALUE`, which may be given once
+abbrev pub option_rule : Text → Rule
+option_rule name = record (new_rule name) { long = Some name; action = Some Set; value_names = 1 }
 
 -- a command of this name, with the flag `--version`
 abbrev pub versioned : Text → App
@@ -19,23 +19,24 @@ word_rule name = record (new_rule name) { action = Some Set; value_names = 1; re
 -- the command with the six options of a configuration behind its others
 abbrev pub with_setting_rules : App → App
 with_setting_rules app = with_rule (with_rule (with_rule (with_rule (with_rule (with_rule app
-    (number_rule (codes "bits"))) (number_rule (codes "hashes"))) (number_rule (codes "ttl-low"))) (number_rule (codes "ttl-high")))
-    (number_rule (codes "active"))) (number_rule (codes "bytes"))
+    (option_rule (codes "bits"))) (option_rule (codes "hashes"))) (option_rule (codes "ttl-low"))) (option_rule (codes "ttl-high")))
+    (option_rule (codes "active"))) (option_rule (codes "bytes"))
 
 -- the command `pipe`
 abbrev pub pipe_app : App
-pipe_app = with_rule (with_setting_rules (versioned (codes "pipe"))) (number_rule (codes "clock"))
+pipe_app = with_rule (with_setting_rules (versioned (codes "pipe"))) (option_rule (codes "clock"))
 
 -- the command with the five options of the limits of time behind its others
 abbrev pub with_limit_rules : App → App
 with_limit_rules app = with_rule (with_rule (with_rule (with_rule (with_rule app
-    (number_rule (codes "idle"))) (number_rule (codes "head-time"))) (number_rule (codes "reply-time"))) (number_rule (codes "least-rate")))
-    (number_rule (codes "grace"))
+    (option_rule (codes "idle"))) (option_rule (codes "head-time"))) (option_rule (codes "reply-time"))) (option_rule (codes "least-rate")))
+    (option_rule (codes "grace"))
 
 -- the command `serve`
 abbrev pub serve_app : App
-serve_app = with_limit_rules (with_rule (with_rule (with_rule (with_rule (with_setting_rules (with_rule (versioned (codes "serve")) (word_rule (codes "ADDR"))))
-    (number_rule (codes "places"))) (number_rule (codes "workers"))) (number_rule (codes "matchers"))) (number_rule (codes "connections")))
+serve_app = with_rule (with_limit_rules (with_rule (with_rule (with_rule (with_rule (with_setting_rules (with_rule (versioned (codes "serve")) (word_rule (codes "ADDR"))))
+    (option_rule (codes "places"))) (option_rule (codes "workers"))) (option_rule (codes "matchers"))) (option_rule (codes "connections"))))
+    (option_rule (codes "allow-origin"))
 
 -- the command `read`
 abbrev pub read_app : App

@@ -1,5 +1,6 @@
 -- Believed. Which words the program takes.
-use Rattle.std.specs.Prelude.{◌≡◌, ◌≢◌, ◌⊎◌, ℕ, ◌+◌, ◌<◌, ◌≤◌, ◌^◌, List, [], Option, Some, None, Result, Ok, Err, MatchOption, codes, decimal}
+use Rattle.std.specs.Prelude.{◌≡◌, ◌≢◌, ◌⊎◌, ℕ, ◌+◌, ◌<◌, ◌≤◌, ◌^◌, Bool, true, false, not, ◌&&◌, ◌||◌, ◌==◌, nat_eq, nat_le, nat_lt, bytes_eq, length, drop, List, [], Option, Some, None, Result, Ok, Err, MatchOption, codes, decimal}
+use Rattle.std.specs.List.{list_all, slice_split, starts_with}
 use Rattle.clap.specs.Words.{Row, Text, IsAmong, first_of, kind_of, matches_of, fault_of}
 use Rattle.clap.specs.declared.error.kind.ErrorKind.{ErrorKind}
 use Rattle.clap.specs.declared.error.kind.ErrorKind.TheVariants as kind
@@ -14,7 +15,7 @@ use Rattle.q_outside.specs.declared.limits.Limits.{Limits}
 use Rattle.quaestor_prog.specs.Commands.{pipe_app, serve_app, read_app, program_app, NamesPipe, NamesServe, NamesRead, NamesNone, AskHelp, FaultsAre}
 use Rattle.quaestor_prog.specs.declared.ranges.TheConstants.{MOST_PLACES, DEFAULT_PLACES, MOST_WORKERS, DEFAULT_WORKERS, MOST_MATCHERS, DEFAULT_MATCHERS, MOST_CONNECTIONS, MOST_SECONDS, DEFAULT_IDLE, DEFAULT_HEAD_TIME, DEFAULT_REPLY_TIME, MOST_RATE, DEFAULT_RATE, DEFAULT_GRACE}
 use Rattle.quaestor_prog.specs.declared.refusal.BadValue.{BadValue}
-use Rattle.quaestor_prog.specs.declared.refusal.BadValue.TheVariants.{Number, Lifetimes, NoLevel, NoKey}
+use Rattle.quaestor_prog.specs.declared.refusal.BadValue.TheVariants.{Number, Lifetimes, NoLevel, NoKey, NoOrigins}
 use Rattle.quaestor_prog.specs.declared.refusal.Refusal.{Refusal}
 use Rattle.quaestor_prog.specs.declared.refusal.Refusal.TheVariants as why
 use Rattle.quaestor_prog.specs.declared.words.Invocation.{Invocation}
@@ -30,7 +31,7 @@ IsNumber given default n = MatchOption given (n ≡ default) (λ text. text ≡ 
 abbrev pub IsClock : Option Text → Option ℕ → Type 0
 IsClock given at = MatchOption given (at ≡ None) (λ text. (n : ℕ) × (at ≡ Some n) × (n < 2 ^ 64) × (text ≡ decimal n))
 
--- The configuration that options ask for, by what clap found for each: within the limits of the hub, with its defaults.
+-- The numbers of the configuration that options ask for, by what clap found for each: within the limits of the hub, with its defaults.
 pub record IsConfiguration (found : List Row) (g : Setting) : Type 0 where
   pub bits : IsNumber (first_of (codes "bits") found) default_setting.log2_bits g.log2_bits
   pub hashes : IsNumber (first_of (codes "hashes") found) default_setting.hashes g.hashes
@@ -40,9 +41,33 @@ pub record IsConfiguration (found : List Row) (g : Setting) : Type 0 where
   pub bytes : IsNumber (first_of (codes "bytes") found) default_setting.capacity g.capacity
   pub within : IsWithinLimits g
 
--- the options of `pipe`: a configuration, and the moment of a fixed clock
+-- a byte of the host and the port of an origin: visible ASCII without quotes, stars, commas and slashes
+abbrev pub is_host_byte : ℕ → Bool
+is_host_byte b = nat_lt 32 b && (nat_lt b 127 && (not (b == 34) && (not (b == 42) && (not (b == 44) && not (b == 47)))))
+
+-- the text is the scheme and at least one byte of a host
+abbrev pub is_of_scheme : Text → Text → Bool
+is_of_scheme scheme text = starts_with nat_eq text scheme && (nat_lt (length scheme) (length text) && list_all is_host_byte (drop (length scheme) text))
+
+-- an origin of web pages, of at most 255 bytes
+unfoldable pub is_web_origin : Text → Bool
+is_web_origin text = nat_le (length text) 255 && (is_of_scheme (codes "http://") text || is_of_scheme (codes "https://") text)
+
+-- each part between two spaces is an origin of web pages
+unfoldable pub are_web_origins : Text → Bool
+are_web_origins text = list_all is_web_origin (slice_split (λ byte. byte == 32) text)
+
+-- a text of the origins whose pages may read replies: a star for all, or origins with a space between two
+abbrev pub are_origins : Text → Bool
+are_origins text = bytes_eq text (codes "*") || are_web_origins text
+
+-- the origins that the option shows, or none where it is not given
+abbrev pub AreOrigins : Option Text → Text → Type 0
+AreOrigins given origins = MatchOption given (origins ≡ []) (λ text. (origins ≡ text) × (are_origins text ≡ true))
+
+-- the options of `pipe`: a configuration, which names no origins of pages, and the moment of a fixed clock
 abbrev pub AreOptions : List Row → Setting → Option ℕ → Type 0
-AreOptions found g at = IsConfiguration found g × IsClock (first_of (codes "clock") found) at
+AreOptions found g at = IsConfiguration found g × (g.origins ≡ []) × IsClock (first_of (codes "clock") found) at
 
 -- The words are `pipe` and options that clap takes, which ask for this configuration and this clock.
 pub record IsPipe (words : List Text) (g : Setting) (at : Option ℕ) : Type 0 where
@@ -83,6 +108,7 @@ pub record AreLimits (found : List Row) (l : Limits) : Type 0 where
 pub record AreServeOptions (found : List Row) (ask : ServeAsk) : Type 0 where
   pub address : first_of (codes "ADDR") found ≡ Some ask.address
   pub setting : IsConfiguration found ask.setting
+  pub origins : AreOrigins (first_of (codes "allow-origin") found) ask.setting.origins
   pub places : IsNumberIn found (codes "places") 1 MOST_PLACES DEFAULT_PLACES ask.places
   pub workers : IsNumberIn found (codes "workers") 1 MOST_WORKERS DEFAULT_WORKERS ask.workers
   pub matchers : IsNumberIn found (codes "matchers") 1 MOST_MATCHERS DEFAULT_MATCHERS ask.matchers
@@ -151,7 +177,7 @@ IsRange option least most =
     ⊎ ((option ≡ codes "least-rate") × (least ≡ 1) × (most ≡ MOST_RATE))
     ⊎ ((option ≡ codes "grace") × (least ≡ 0) × (most ≡ MOST_SECONDS))
 
--- what is refused of the values: an option shows no number of its range, the least lifetime is above the greatest, or a word is that of no level or of no key
+-- what is refused of the values: an option shows no number of its range, the least lifetime is above the greatest, a word is that of no level or of no key, or a text is not that of origins
 abbrev pub IsBadValue : List Row → BadValue → Type 0
 IsBadValue found (Number option text least most) =
     IsRange option.now least most × (first_of option.now found ≡ Some text.now) × ((n : ℕ) → text.now ≡ decimal n → least ≤ n → n ≤ most → ⊥)
@@ -159,6 +185,7 @@ IsBadValue found (Lifetimes low high) =
     IsNumber (first_of (codes "ttl-low") found) default_setting.ttl_low low × IsNumber (first_of (codes "ttl-high") found) default_setting.ttl_high high × (high < low)
 IsBadValue found (NoLevel text) = (first_of (codes "LEVEL") found ≡ Some text.now) × ((l : Level) → text.now ≡ level_word l → ⊥)
 IsBadValue found (NoKey text place) = (first_of (codes "KEY") found ≡ Some text.now) × (read_key text.now ≡ Err (BadKey place))
+IsBadValue found (NoOrigins text) = (first_of (codes "allow-origin") found ≡ Some text.now) × (are_origins text.now ≡ false)
 
 -- clap finds no fault with the words of a command that is named, and what it finds for them is such
 abbrev pub FoundAre : (List Row → Type 0) → List Text → Type 0
@@ -185,9 +212,18 @@ ask_of s = record {
   limits = s.limits;
 }
 
+-- the same, with these origins in its configuration
+abbrev pub asked_with : ServeOptions → Text → ServeAsk
+asked_with s origins = record (ask_of s) { setting = record s.config { origins = origins } }
+
 -- the same of `read`
 abbrev pub read_ask_of : ReadOptions → ReadAsk
 read_ask_of r = record { address = r.address.now; level = r.level; key = r.key }
+
+-- to serve what is asked for
+abbrev pub IsServeOf : ServeAsk → Invocation → Type 0
+IsServeOf ask (Serve s) = ask_of s ≡ ask
+IsServeOf ask other = ⊥
 
 -- what the words ask for
 abbrev pub Asks : List Text → Invocation → Type 0

@@ -1,7 +1,7 @@
 //! The commands as clap reads them.
 ghost use Rattle.std.specs.Prelude.{◌≡◌, codes, false, IfOk};
 ghost use Rattle.clap.specs.Words.{app_of, rule_of, with_rule};
-ghost use Rattle.quaestor_prog.specs.Commands.{number_rule, pipe_app, program_app, read_app, serve_app, versioned, with_limit_rules, with_setting_rules, word_rule};
+ghost use Rattle.quaestor_prog.specs.Commands.{option_rule, pipe_app, program_app, read_app, serve_app, versioned, with_limit_rules, with_setting_rules, word_rule};
 
 use clap::{Arg, ArgAction, Command};
 use std::alloc::{AllocError, Global};
@@ -77,7 +77,14 @@ pub(crate) fn serve_command<'a>(alloc: Global) -> Result<Command<'a>, AllocError
         "Ends after N connections, 1 to 1099511627776 [default: it does not end by their number]",
     )?;
     let limits = with_limits(alloc, connections)?;
-    Ok(limits)
+    let origins = with_option(
+        alloc,
+        limits,
+        "allow-origin",
+        "ORIGINS",
+        "Web pages of these origins may read replies: * for all, or https://HOST and the like, with a space between two [default: none]",
+    )?;
+    Ok(origins)
 }
 
 /// The command `read`.
@@ -193,9 +200,22 @@ fn with_number<'a>(
     name: &'a str,
     help: &'a str,
 ) -> Result<Command<'a>, AllocError>
-    ensures { IfOk result (λ c. app_of c ≡ with_rule (app_of command.entry) (number_rule name.entry.now)) }
+    ensures { IfOk result (λ c. app_of c ≡ with_rule (app_of command.entry) (option_rule name.entry.now)) }
 {
-    command.arg(number_option(alloc, name, help))
+    with_option(alloc, command, name, "N", help)
+}
+
+/// The command with one more option, which has a value that is shown so.
+fn with_option<'a>(
+    alloc: Global,
+    command: Command<'a>,
+    name: &'a str,
+    value: &'a str,
+    help: &'a str,
+) -> Result<Command<'a>, AllocError>
+    ensures { IfOk result (λ c. app_of c ≡ with_rule (app_of command.entry) (option_rule name.entry.now)) }
+{
+    command.arg(option_argument(alloc, name, value, help))
 }
 
 /// The command with one more word, which it needs.
@@ -257,14 +277,14 @@ fn word_argument<'a>(alloc: Global, name: &'a str, help: &'a str) -> Arg<'a>
         .help(help)
 }
 
-/// An option with a number.
-fn number_option<'a>(alloc: Global, name: &'a str, help: &'a str) -> Arg<'a>
-    ensures rule { rule_of result ≡ number_rule name.entry.now }
+/// An option with a value that is shown so.
+fn option_argument<'a>(alloc: Global, name: &'a str, value: &'a str, help: &'a str) -> Arg<'a>
+    ensures rule { rule_of result ≡ option_rule name.entry.now }
     ensures local { result.global ≡ false }
 {
     Arg::new(alloc, name)
         .long(name)
         .action(ArgAction::Set)
-        .value_name("N")
+        .value_name(value)
         .help(help)
 }

@@ -41,6 +41,10 @@ pub enum BadValue<'a> {
         /// that key's text; else 0.
         place: usize,
     },
+    /// It is not `*`, and not origins of web pages with one space between two.
+    NoOrigins {
+        found: &'a str,
+    },
 }
 
 impl fmt::Display for BadValue<'_> {
@@ -64,6 +68,10 @@ impl fmt::Display for BadValue<'_> {
             BadValue::NoKey { found, place } => write!(
                 f,
                 "KEY is r/COLLECTION/ID, or q/COLLECTION/KIND/f=FILTER;o=ORDER;s=SKIP;n=TAKE of a query in its normal form, and '{found}' is not from its byte {place} on"
+            ),
+            BadValue::NoOrigins { found } => write!(
+                f,
+                "--allow-origin is *, or origins such as https://example.com with a space between two, without a path or a slash at the end, not '{found}'"
             ),
         }
     }

@@ -1,11 +1,12 @@
 //! The words of a command line.
-ghost use Rattle.std.specs.Prelude.{◌≡◌, ℕ, ◌<◌, ◌≤◌, ◌^◌, true, Option, Some, is_some, option_map, decimal, map, string_bytes, slice_get, IfSome, IfNone, IfOk, IfErr, IsTrue, ◌↔◌, codes};
-ghost use Rattle.clap.specs.Words.{first_of, found_of, kind_of, rows_of};
+ghost use Rattle.std.specs.Prelude.{◌≡◌, ℕ, ◌<◌, ◌≤◌, ◌^◌, true, [], Option, Some, is_some, option_map, decimal, map, string_bytes, slice_get, IfSome, IfNone, IfOk, IfErr, IsTrue, ◌↔◌, codes};
+ghost use Rattle.std.specs.List.{list_all};
+ghost use Rattle.clap.specs.Words.{Text, first_of, found_of, kind_of, rows_of};
 ghost use Rattle.client_core.specs.declared.level.Level.{Level as ALevel};
 ghost use Rattle.hub_model.specs.Setting.{Setting};
 ghost use Rattle.quaestor_prog.specs.Commands.{NamesNone, NamesPipe, NamesRead, NamesServe};
 ghost use Rattle.q_outside.specs.declared.limits.Limits.{Limits as LimitsOf};
-ghost use Rattle.quaestor_prog.specs.Words.{AreLimits, AreOptions, AreServeOptions, FoundRead, IsCount, Asks, IsNumberIn, ServeAsk, ask_of, IsAnswerOf, IsBadValue, IsClock, IsConfiguration, IsNumber, IsRange, level_word};
+ghost use Rattle.quaestor_prog.specs.Words.{AreLimits, AreOptions, AreOrigins, AreServeOptions, FoundRead, IsCount, Asks, IsNumberIn, ServeAsk, ask_of, asked_with, are_origins, are_web_origins, is_host_byte, is_of_scheme, is_web_origin, IsAnswerOf, IsBadValue, IsClock, IsConfiguration, IsNumber, IsRange, IsServeOf, level_word};
 
 use crate::commands::{pipe_command, program_command, read_command, serve_command};
 use crate::ranges::{
@@ -18,7 +19,7 @@ use clap::error::ErrorKind;
 use clap::{ArgMatches, Error};
 use client_core::Level;
 use itoa::Buffer;
-use q_base::Memory;
+use q_base::{Memory, SharedText};
 use q_outside::Limits;
 use quaestor_server::Config;
 use query_lang::{KeyRefusal, read_key};
@@ -112,11 +113,30 @@ fn read_serve<'a>(alloc: Global, words: &'a [String]) -> Result<Invocation<'a>, 
 {
     match serve_command(alloc)?.try_get_matches_from(words) {
         Ok(matches) => match serve_options(&matches) {
-            Ok(options) => Ok(Invocation::Serve(options)),
+            Ok((options, origins)) => serve_with(alloc, options, origins),
             Err(value) => Ok(Invocation::Invalid(Refusal::Value(value))),
         },
         Err(error) => answer_of(error),
     }
+}
+
+/// To serve by these options, with these origins in their configuration.
+fn serve_with<'a>(
+    alloc: Global,
+    options: ServeOptions<'a>,
+    origins: &str,
+) -> Result<Invocation<'a>, Memory>
+    requires { options.config.origins ≡ [] }
+    ensures { IfOk result (IsServeOf (asked_with options.entry origins.entry.now)) }
+{
+    if origins.is_empty() {
+        return Ok(Invocation::Serve(options));
+    }
+    let text = SharedText::of(alloc, origins.as_bytes().to_vec(alloc)?)?;
+    Ok(Invocation::Serve(ServeOptions {
+        config: options.config.with_origins(text),
+        ..options
+    }))
 }
 
 /// What the words of the command `read` ask for.
@@ -163,23 +183,25 @@ fn pipe_options<'a>(matches: &ArgMatches<'a>) -> Result<PipeOptions, BadValue<'a
     Ok(PipeOptions { config, clock })
 }
 
-/// The address and the options of `serve`, by what clap found.
-fn serve_options<'a>(matches: &ArgMatches<'a>) -> Result<ServeOptions<'a>, BadValue<'a>>
+/// The address and the options of `serve` and its origins, by what clap found.
+fn serve_options<'a>(matches: &ArgMatches<'a>) -> Result<(ServeOptions<'a>, &'a str), BadValue<'a>>
     requires { is_some (first_of (codes "ADDR") (rows_of (found_of matches.now))) ≡ true }
-    ensures ok { IfOk result (λ s. AreServeOptions (rows_of (found_of matches.now)) (ask_of s)) }
+    ensures ok { IfOk result (λ s. AreServeOptions (rows_of (found_of matches.now)) (asked_with s.0 s.1.now)) }
+    ensures none { IfOk result (λ s. s.0.config.origins ≡ []) }
     ensures err { IfErr result (λ _. (ask : ServeAsk) → AreServeOptions (rows_of (found_of matches.now)) ask → ⊥) }
     ensures value { IfErr result (IsBadValue (rows_of (found_of matches.now))) }
 {
     options_at(matches, word_of(matches, "ADDR"))
 }
 
-/// The options of `serve` at this address.
+/// The options of `serve` at this address, and its origins.
 fn options_at<'a>(
     matches: &ArgMatches<'a>,
     address: &'a str,
-) -> Result<ServeOptions<'a>, BadValue<'a>>
+) -> Result<(ServeOptions<'a>, &'a str), BadValue<'a>>
     requires { first_of (codes "ADDR") (rows_of (found_of matches.now)) ≡ Some address.now }
-    ensures ok { IfOk result (λ s. AreServeOptions (rows_of (found_of matches.now)) (ask_of s)) }
+    ensures ok { IfOk result (λ s. AreServeOptions (rows_of (found_of matches.now)) (asked_with s.0 s.1.now)) }
+    ensures none { IfOk result (λ s. s.0.config.origins ≡ []) }
     ensures err { IfErr result (λ _. (ask : ServeAsk) → AreServeOptions (rows_of (found_of matches.now)) ask → ⊥) }
     ensures value { IfErr result (IsBadValue (rows_of (found_of matches.now))) }
 {
@@ -189,7 +211,8 @@ fn options_at<'a>(
     let matchers = number_of(matches, "matchers", 1, MOST_MATCHERS, DEFAULT_MATCHERS)?;
     let connections = connections_of(matches)?;
     let limits = limits_of(matches)?;
-    Ok(ServeOptions {
+    let origins = origins_of(matches)?;
+    let options = ServeOptions {
         address,
         config,
         places: places as u32,
@@ -197,7 +220,8 @@ fn options_at<'a>(
         matchers: matchers as u32,
         connections,
         limits,
-    })
+    };
+    Ok((options, origins))
 }
 
 /// What the words of `read` ask for, by what clap found.
@@ -283,9 +307,73 @@ fn connections_of<'a>(matches: &ArgMatches<'a>) -> Result<u64, BadValue<'a>>
     }
 }
 
+/// The text of the origins whose pages may read replies; empty where none is given.
+fn origins_of<'a>(matches: &ArgMatches<'a>) -> Result<&'a str, BadValue<'a>>
+    ensures ok { IfOk result (λ o. AreOrigins (first_of (codes "allow-origin") (rows_of (found_of matches.now))) o.now) }
+    ensures err { IfErr result (λ _. (o : Text) → AreOrigins (first_of (codes "allow-origin") (rows_of (found_of matches.now))) o → ⊥) }
+    ensures value { IfErr result (IsBadValue (rows_of (found_of matches.now))) }
+{
+    match value_of(matches, "allow-origin") {
+        Some(found) => {
+            if are_origins(found) {
+                Ok(found)
+            } else {
+                Err(BadValue::NoOrigins { found })
+            }
+        }
+        None => Ok(""),
+    }
+}
+
+/// Whether a text is a star, or origins with one space between two.
+fn are_origins(text: &str) -> bool
+    ensures { result ≡ are_origins text.now }
+{
+    text == "*" || are_web_origins(text)
+}
+
+/// Whether each part between two spaces is an origin of web pages.
+#[tactic(auto, unfolding(crate::specs::Words::are_web_origins))]
+fn are_web_origins(text: &str) -> bool
+    ensures { result ≡ are_web_origins text.now }
+{
+    text.split(' ')
+        .all(|origin| is_web_origin(origin.as_bytes()))
+}
+
+/// Whether a text is an origin of web pages, without a path and a slash at the end.
+#[tactic(auto, unfolding(crate::specs::Words::is_web_origin))]
+fn is_web_origin(text: &[u8]) -> bool
+    ensures { result ≡ is_web_origin text.now }
+{
+    text.len() <= 255 && (is_of_scheme(b"http://", text) || is_of_scheme(b"https://", text))
+}
+
+/// Whether a text is this scheme and at least one byte of a host.
+fn is_of_scheme(scheme: &[u8], text: &[u8]) -> bool
+    ensures { result ≡ is_of_scheme scheme.now text.now }
+{
+    text.starts_with(scheme) && text.len() > scheme.len() && are_host_bytes(&text[scheme.len()..])
+}
+
+/// Whether each byte may stand in a host and a port.
+fn are_host_bytes(text: &[u8]) -> bool
+    ensures { result ≡ list_all is_host_byte text.now }
+{
+    text.iter().all(|byte| is_host_byte(*byte))
+}
+
+/// Whether a byte may stand in a host and a port.
+fn is_host_byte(byte: u8) -> bool
+    ensures { result ≡ is_host_byte byte }
+{
+    byte > b' ' && byte < 127 && byte != b'"' && byte != b'*' && byte != b',' && byte != b'/'
+}
+
 /// The configuration that the options ask for.
 fn config_of<'a>(matches: &ArgMatches<'a>) -> Result<Config, BadValue<'a>>
     ensures ok { IfOk result (IsConfiguration (rows_of (found_of matches.now))) }
+    ensures none { IfOk result (λ g. g.origins ≡ []) }
     ensures err { IfErr result (λ _. (g : Setting) → IsConfiguration (rows_of (found_of matches.now)) g → ⊥) }
     ensures value { IfErr result (IsBadValue (rows_of (found_of matches.now))) }
 {

@@ -3,7 +3,7 @@
 //! What comes out of a lock is known by its type alone, so each room is asked whether it is for the
 //! pool's configuration. All are.
 ghost use Rattle.std.specs.Prelude.{◌≡◌, IfOk};
-ghost use Rattle.hub_core.specs.PageRoom.{IsRoomFor};
+ghost use Rattle.quaestor_server.specs.Rooms.{IsFor};
 
 use hub_desk::Config;
 use q_base::Memory;
@@ -86,7 +86,11 @@ impl Pool {
             if number < self.called.load(Ordering::SeqCst) {
                 return;
             }
-            bell.park_timeout(rt, (heard & 0xffff_ffff) as u32, Duration::from_millis(REST));
+            bell.park_timeout(
+                rt,
+                (heard & 0xffff_ffff) as u32,
+                Duration::from_millis(REST),
+            );
         }
     }
 
@@ -113,7 +117,7 @@ impl Pool {
 
     /// Takes a room. While none is there, one is waited for.
     pub fn take<R: Wait>(&self, rt: &R) -> Room
-        ensures { IsRoomFor self.now.config result.pages }
+        ensures { IsFor self.now.config result.pages result.config.origins }
     {
         let number = self.drawn.fetch_add(1, Ordering::SeqCst);
         for _ in rt.forever() {

@@ -1,5 +1,5 @@
 -- A desk is made ready, and then answers.
-use Rattle.std.proofs.Common.{◌≡◌, ℕ, Bool, List, ◌++◌, length, nat_lt, Result, Ok, IfOk, refl, sym, subst, inl, inr}
+use Rattle.std.proofs.Common.{◌≡◌, ℕ, Bool, List, ◌++◌, length, nat_lt, Result, Ok, IfOk, refl, sym, ap, ◌∙◌, subst, inl, inr}
 use Rattle.std.proofs.lemmas.Bool.{cases_Bool}
 use Rattle.http_front.specs.Asks.{ask_of}
 use Rattle.http_front.specs.Routes.{all_routes}
@@ -54,6 +54,10 @@ pub can_still : (g g' : Setting) (old new : List Entry) (mine mine_new : List (�
 can_still g g' old new mine mine_new moment asked told page room same legal answer fits =
     let left : IsLegal g new = elim answer [ serves s ↦ s.made.legal | fails f ↦ f.learns.legal legal ] in
     subst (λ (x : Setting). IsLegal x new × IsRoomFor x room) (sym same) (left, fits)
+
+-- the origins that are known are still those of the configuration
+pub origins_still : (g g' : Setting) (origins : List ℕ) → g' ≡ g → origins ≡ g.origins → origins ≡ g'.origins
+origins_still g g' origins same is = is ∙ ap (λ (x : Setting). x.origins) (sym same)
 
 -- what was read by all routes
 pub read_all : (routes : Served) (m : Message) (read : Result (Result Ask Refused) NoMemory) → routes ≡ all_routes → IfOk read (λ asked. asked ≡ ask_of routes m) → IfOk read (λ asked. asked ≡ ask_of all_routes m)

@@ -73,7 +73,7 @@ module _ {A D C : Type 0} (desk : A → D) (clock : A → C) (setting : D → Se
       }
 
 -- the reply that was given is that of what the desk answered
-pub replies : {D C T E : Type 0} (setting : D → Setting) (seen : D → List Entry) (mine : D → List (ℕ × Entry)) (tick : C → ℕ → C → Type 0) (a b : D) (c d : C) (item : Item) (close : Bool) (moment : ℕ) (shape : Shape) (told : Told) (page bytes : List ℕ) (before after : End) (given : Result T E) → setting b ≡ setting a → tick c moment d → shape ≡ shape_by item → bytes ≡ page → IsAnswer (setting a) (seen a) (seen b) (mine a) (mine b) moment (asked_by item) told page → (text : List ℕ) × IsReplyText shape told bytes close text × Gave before after text given → (text : List ℕ) × AnswersAt setting seen mine tick a b c d item close text × Gave before after text given
+pub replies : {D C T E : Type 0} (setting : D → Setting) (seen : D → List Entry) (mine : D → List (ℕ × Entry)) (tick : C → ℕ → C → Type 0) (a b : D) (c d : C) (item : Item) (close : Bool) (moment : ℕ) (shape : Shape) (told : Told) (page bytes : List ℕ) (before after : End) (given : Result T E) → setting b ≡ setting a → tick c moment d → shape ≡ shape_by (setting a).origins item → bytes ≡ page → IsAnswer (setting a) (seen a) (seen b) (mine a) (mine b) moment (asked_by item) told page → (text : List ℕ) × IsReplyText shape told bytes close text × Gave before after text given → (text : List ℕ) × AnswersAt setting seen mine tick a b c d item close text × Gave before after text given
 replies setting seen mine tick a b c d item close moment shape told page bytes before after given same ticks shape_is bytes_are answer reply = (
   reply.0,
   record {
@@ -84,7 +84,7 @@ replies setting seen mine tick a b c d item close moment shape told page bytes b
       told = told;
       page = page;
       answer = answer;
-      text_is = subst (λ (l : List ℕ). IsReplyText (shape_by item) told l close reply.0) bytes_are (subst (λ (s : Shape). IsReplyText s told bytes close reply.0) shape_is reply.1);
+      text_is = subst (λ (l : List ℕ). IsReplyText (shape_by (setting a).origins item) told l close reply.0) bytes_are (subst (λ (s : Shape). IsReplyText s told bytes close reply.0) shape_is reply.1);
     };
   },
   reply.2,

@@ -252,7 +252,7 @@ same_at texts g a b c item close text more m n e alone lone x y h =
     record {
       seen_is = one.seen_is;
       mine_is = one.mine_is;
-      text_is = same_text texts (shape_by item) x.told z.told x.page z.page close text more one.told_alike x.text_is z.text_is;
+      text_is = same_text texts (shape_by g.origins item) x.told z.told x.page z.page close text more one.told_alike x.text_is z.text_is;
     } in
     (subst P e here) y h
 

@@ -5,11 +5,12 @@ use Rattle.dialogue.specs.Visit.{Visited}
 use Rattle.dialogue.specs.declared.visits.Pause.{Pause}
 use Rattle.dialogue.specs.declared.visits.VisitEnd.{VisitEnd}
 use Rattle.http_message.specs.Item.{Item}
-use Rattle.hub_core.specs.PageRoom.{PageRoomView, IsRoomFor}
+use Rattle.hub_core.specs.PageRoom.{PageRoomView}
 use Rattle.hub_model.specs.Legal.{IsLegal}
 use Rattle.hub_model.specs.declared.entry.Entry.{Entry}
 use Rattle.hub_model.specs.Setting.{Setting}
 use Rattle.quaestor_server.specs.Conversation.{AnswersAt}
+use Rattle.quaestor_server.specs.Rooms.{IsFor}
 use Rattle.quaestor_server.specs.Visit.{Timed, answers_of}
 
 -- answers that a part of the state gives
@@ -41,8 +42,8 @@ module _ {A D C : Type 0} (desk : A → D) (clock : A → C) (setting : D → Se
       }
 
 -- a room for the hubs of a configuration
-pub room_at : (g h : Setting) (room : PageRoomView) → g ≡ h → IsRoomFor g room → IsRoomFor h room
-room_at g h room same r = subst (λ (l : Setting). IsRoomFor l room) same r
+pub room_at : (g h : Setting) (pages : PageRoomView) (origins : List ℕ) → g ≡ h → IsFor g pages origins → IsFor h pages origins
+room_at g h pages origins same r = subst (λ (l : Setting). IsFor l pages origins) same r
 
 -- a history that is legal in it
 pub legal_at : (g h : Setting) (history : List Entry) → g ≡ h → IsLegal g history → IsLegal h history

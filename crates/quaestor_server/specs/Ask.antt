@@ -1,7 +1,7 @@
 -- Believed. What the items of a connection ask of the store, and the replies to them.
 use Rattle.std.specs.Prelude.{◌≡◌, ℕ, ◌≤◌, true, false, List, length, Result, Ok, Err}
 use Rattle.flat_snapshot.specs.PageText.{page_text}
-use Rattle.http_front.specs.Asks.{ask_of, shape_of}
+use Rattle.http_front.specs.Asks.{ask_of, shape_of, unframed_shape}
 use Rattle.http_front.specs.Routes.{all_routes}
 use Rattle.http_front.specs.declared.ask.Ask.{Ask}
 use Rattle.http_front.specs.declared.ask.Ask.TheVariants.{Write, Read, Purges, MatchAll, Fetch, Stats}
@@ -26,10 +26,10 @@ abbrev pub asked_by : Item → Result Ask Refused
 asked_by (request m) = ask_of all_routes m
 asked_by (unframed refused called head) = Err (Framing refused)
 
--- what the reply to an item looks like
-abbrev pub shape_by : Item → Shape
-shape_by (request m) = shape_of m
-shape_by (unframed refused called head) = record { put = false; head = head }
+-- what the reply to an item looks like, where a text names the origins of pages that may read it
+abbrev pub shape_by : List ℕ → Item → Shape
+shape_by origins (request m) = shape_of origins m
+shape_by origins (unframed refused called head) = unframed_shape origins head
 
 -- the entry is the one that is asked for, at this moment, after a state; a refusal asks for a tick
 abbrev pub IsEntryOf : Result Ask Refused → ℕ → State → Entry → Type 0

@@ -16,7 +16,7 @@ pub record RepliesAt (g : Setting) (old new : List Entry) (mine_old mine_new : L
   -- the bytes of the page, if the reply is one
   pub page : List ℕ
   pub answer : IsAnswer g old new mine_old mine_new moment (asked_by item) told page
-  pub text_is : IsReplyText (shape_by item) told page close text
+  pub text_is : IsReplyText (shape_by g.origins item) told page close text
 
 -- The state of a connection between two items.
 pub record ConnectionState : Type 0 where

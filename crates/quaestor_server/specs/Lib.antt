@@ -2,6 +2,7 @@ pub mod Answer
 pub mod Ask
 pub mod Conversation
 pub mod TextsAreDetermined
+pub mod Rooms
 pub mod Visit
 pub mod WellServed
 pub use Rattle.dialogue.specs.Dialogue

@@ -1,10 +1,10 @@
 //! One connection to a desk: each item is answered by one entry of the desk's history.
 ghost use Rattle.std.specs.Prelude.{◌≡◌, ℕ, true, List, IfOk};
 ghost use Rattle.http_front.specs.Routes.{all_routes};
-ghost use Rattle.hub_core.specs.PageRoom.{IsRoomFor};
 ghost use Rattle.hub_model.specs.Legal.{IsLegal};
 ghost use Rattle.q_outside.specs.Ends.{Ticks};
 ghost use Rattle.quaestor_server.specs.Conversation.{Conversation};
+ghost use Rattle.quaestor_server.specs.Rooms.{IsFor};
 
 use crate::responder::Responder;
 use dialogue::{REQUEST_LIMIT, hold_dialogue};
@@ -17,8 +17,8 @@ use q_doc::ReadBuffer;
 use q_outside::{Clock, Served, Sink, Source};
 use std::alloc::Global;
 
-/// The buffers of one connection, made once, and the routes, which are all that there are. The sizes
-/// of its pages are kept, so that a room can be asked for which hubs it was made.
+/// The buffers of one connection, made once, and the routes, which are all that there are. The
+/// configuration is kept, so that a room can be asked for which hubs it was made.
 #[derive(Drop)]
 pub struct Room {
     pub(crate) requests: RequestRoom,
@@ -30,17 +30,17 @@ pub struct Room {
     pub pages: PageRoom,
     /// How many requests a visit answers before it puts the room back, where the connection could pause.
     pub share: u64,
-    log2_bits: u8,
-    hashes: u8,
+    /// The configuration of the hubs for which it was made.
+    pub config: Config,
     ghost all: { routes ≡ all_routes },
-    ghost bits_size: { pages.log2_bits ≡ log2_bits },
-    ghost hashes_size: { pages.hashes ≡ hashes },
+    ghost bits_size: { pages.log2_bits ≡ config.log2_bits },
+    ghost hashes_size: { pages.hashes ≡ config.hashes },
 }
 
 impl Room {
     /// The buffers of a connection to a hub of this configuration.
     pub fn new(alloc: Global, config: &Config) -> Result<Room, Memory>
-        ensures { IfOk result (λ room. IsRoomFor config.now room.pages) }
+        ensures { IfOk result (λ room. IsFor config.now room.pages room.config.origins) }
     {
         Ok(Room {
             requests: RequestRoom::new(alloc)?,
@@ -49,16 +49,17 @@ impl Room {
             reply: ReplyRoom::new(alloc)?,
             pages: PageRoom::new(alloc, config)?,
             share: REQUEST_LIMIT,
-            log2_bits: config.log2_bits(),
-            hashes: config.hashes(),
+            config: config.clone()?,
         })
     }
 
     /// Whether it serves a hub of this configuration.
     pub fn is_for(&self, config: &Config) -> bool
-        ensures { result ≡ true → IsRoomFor config.now self.now.pages }
+        ensures { result ≡ true → IsFor config.now self.now.pages self.now.config.origins }
     {
-        self.log2_bits == config.log2_bits() && self.hashes == config.hashes()
+        self.config.log2_bits() == config.log2_bits()
+            && self.config.hashes() == config.hashes()
+            && self.config.origins() == config.origins()
     }
 }
 
@@ -74,11 +75,11 @@ pub fn serve_connection<D: Desk, S: Source, K: Sink, C: Clock>(
     room: &mut Room,
 ) -> Served
     requires legal { IsLegal (D.setting desk.old) (D.seen desk.old) }
-    requires room { IsRoomFor (D.setting desk.old) room.old.pages }
+    requires room { IsFor (D.setting desk.old) room.old.pages room.old.config.origins }
     ensures legal { IsLegal (D.setting desk.old) (D.seen desk.new) }
     ensures conversation { Conversation (D.setting desk.old) (λ moments. Ticks C.tick clock.old moments clock.new) (D.seen desk.old) (D.seen desk.new) (D.mine desk.old) (D.mine desk.new)
         (record { source = S.at source.old; sink = K.at sink.old }) (record { source = S.at source.new; sink = K.at sink.new }) result }
-    ensures room { IsRoomFor (D.setting desk.old) room.new.pages }
+    ensures room { IsFor (D.setting desk.old) room.new.pages room.new.config.origins }
     ensures anchor { D.anchor desk.new ≡ D.anchor desk.old }
     ensures setting { D.setting desk.new ≡ D.setting desk.old }
 {
@@ -87,6 +88,7 @@ pub fn serve_connection<D: Desk, S: Source, K: Sink, C: Clock>(
         desk,
         clock,
         routes: &room.routes,
+        origins: room.config.origins(),
         documents: &mut *room.documents,
         reply: &mut room.reply,
         pages: &mut room.pages,

@@ -24,13 +24,15 @@ pub(crate) struct Responder<'a, D: Desk, C: Clock> {
     pub desk: &'a mut D,
     pub clock: &'a mut C,
     pub routes: &'a Routes,
+    /// The origins of pages that may read the replies.
+    pub origins: &'a [u8],
     pub documents: &'a mut ReadBuffer,
     pub reply: &'a mut ReplyRoom,
     pub pages: &'a mut PageRoom,
 }
 
 impl<'a, D: Desk, C: Clock> Answers for Responder<'a, D, C> {
-    ghost can = { λ t. IsLegal (D.setting t.desk.now) (D.seen t.desk.now) × IsRoomFor (D.setting t.desk.now) t.pages.now × (t.routes.now ≡ all_routes) };
+    ghost can = { λ t. IsLegal (D.setting t.desk.now) (D.seen t.desk.now) × IsRoomFor (D.setting t.desk.now) t.pages.now × (t.routes.now ≡ all_routes) × (t.origins.now ≡ (D.setting t.desk.now).origins) };
 
     ghost answers = { λ a item close text b. AnswersAt D.setting D.seen D.mine C.tick a.desk.now b.desk.now a.clock.now b.clock.now item close text };
 
@@ -45,8 +47,8 @@ impl<'a, D: Desk, C: Clock> Answers for Responder<'a, D, C> {
         let moment = self.clock.now();
         let read = ask_of(self.alloc, request, self.routes, self.documents);
         let told = answer(self.desk, self.pages, moment, read);
-        let shape = shape_of(request);
-        give_reply(sink, self.reply, shape, &told, self.pages.bytes(), close)
+        let shape = shape_of(self.origins, request);
+        give_reply(sink, self.reply, &shape, &told, self.pages.bytes(), close)
     }
 
     fn refuse<K: Sink>(
@@ -58,8 +60,8 @@ impl<'a, D: Desk, C: Clock> Answers for Responder<'a, D, C> {
         let moment = self.clock.now();
         let read = Ok(Err(Refused::Framing(refused)));
         let told = answer(self.desk, self.pages, moment, read);
-        let shape = Shape { put: false, head };
-        give_reply(sink, self.reply, shape, &told, self.pages.bytes(), true)
+        let shape = Shape::unframed(self.origins, head);
+        give_reply(sink, self.reply, &shape, &told, self.pages.bytes(), true)
     }
 
     ghost kept = { λ a. (refl, refl, refl, refl, refl, refl, refl) };

@@ -4,11 +4,11 @@
 //! connections that are mostly idle share few buffers, and each visit may have others.
 ghost use Rattle.std.specs.Prelude.{◌≡◌, ℕ, List};
 ghost use Rattle.dialogue.specs.Visit.{MayGoOn, Rests, Visited};
-ghost use Rattle.hub_core.specs.PageRoom.{IsRoomFor};
 ghost use Rattle.hub_model.specs.Legal.{IsLegal};
 ghost use Rattle.hub_model.specs.Setting.{Setting};
 ghost use Rattle.q_outside.specs.Ends.{Ticks};
 ghost use Rattle.quaestor_server.specs.Conversation.{Conversation};
+ghost use Rattle.quaestor_server.specs.Rooms.{IsFor};
 ghost use Rattle.quaestor_server.specs.Visit.{answers_of};
 
 use crate::connection::Room;
@@ -25,12 +25,12 @@ pub trait Rooms {
 
     /// Buffers for one visit. It may wait for them.
     fn take(&mut self) -> Room
-        ensures room { IsRoomFor (setting self.old) result.pages }
+        ensures room { IsFor (setting self.old) result.pages result.config.origins }
         ensures setting { setting self.new ≡ setting self.old };
 
     /// Takes them back.
     fn put(&mut self, room: Room)
-        requires room { IsRoomFor (setting self.old) room.pages }
+        requires room { IsFor (setting self.old) room.pages room.config.origins }
         ensures setting { setting self.new ≡ setting self.old };
 }
 
@@ -78,13 +78,13 @@ fn serve_visit<D: Desk, S: Source, K: Sink, C: Clock>(
     from: Pause,
 ) -> VisitEnd
     requires legal { IsLegal (D.setting desk.old) (D.seen desk.old) }
-    requires room { IsRoomFor (D.setting desk.old) room.old.pages }
+    requires room { IsFor (D.setting desk.old) room.old.pages room.old.config.origins }
     requires more { MayGoOn from }
     ensures legal { IsLegal (D.setting desk.old) (D.seen desk.new) }
     ensures visit { Visited (answers_of D.setting D.seen D.mine C.tick) (record { desk = desk.old; clock = clock.old }) (record { desk = desk.new; clock = clock.new })
         (record { source = S.at source.old; sink = K.at sink.old }) (record { source = S.at source.new; sink = K.at sink.new }) from result }
     ensures rests { Rests from result }
-    ensures room { IsRoomFor (D.setting desk.old) room.new.pages }
+    ensures room { IsFor (D.setting desk.old) room.new.pages room.new.config.origins }
     ensures anchor { D.anchor desk.new ≡ D.anchor desk.old }
     ensures setting { D.setting desk.new ≡ D.setting desk.old }
 {
@@ -93,6 +93,7 @@ fn serve_visit<D: Desk, S: Source, K: Sink, C: Clock>(
         desk,
         clock,
         routes: &room.routes,
+        origins: room.config.origins(),
         documents: &mut *room.documents,
         reply: &mut room.reply,
         pages: &mut room.pages,

@@ -7,11 +7,11 @@ use Rattle.std.proofs.lemmas.List.Folds.{list_any-append}
 use Rattle.std.specs.Prelude.{Option, Some, None, codes, decimal, option_map, option_and_then, ◌==◌}
 use Rattle.std.specs.Str.{str_eq_ignore_ascii_case}
 use Rattle.http_message.specs.Fields.{Pair, is_named, values}
-use Rattle.http_front.specs.Reply.{allow_field, close_field, date_field, lifetime_field, media_field, number_field, tag_field}
+use Rattle.http_front.specs.Origins.{LeaveTold}
+use Rattle.http_front.specs.Reply.{methods_text, allow_field, origin_fields, vary_field, calls_fields, pages_fields, close_field, date_field, lifetime_field, media_field, number_field, tag_field}
 use Rattle.http_front.specs.declared.head.MediaType.{MediaType}
 use Rattle.http_front.specs.declared.head.MediaType.TheVariants.{Json, OctetStream}
 use Rattle.http_front.specs.declared.refused.Allow.{Allow}
-use Rattle.http_front.specs.declared.refused.Allow.TheVariants.{Record, Match, Other}
 use Rattle.client_wire.specs.Numbers.{number_in, length_in, date_in, tag_in, body_limit}
 use Rattle.client_wire.specs.ReplyFields.{first_refused, first_value, is_refused, stands}
 use Rattle.wire_law.specs.Printed.{printed_date}
@@ -56,9 +56,36 @@ module _ {name : List ℕ} where
 
   pub allow_lacks : (o : Option Allow) → str_eq_ignore_ascii_case (codes "Allow") name ≡ false → Lacks name (allow_field o)
   allow_lacks None other = none_lack
-  allow_lacks (Some Record) other = one_lacks (codes "Allow") (codes "GET, HEAD, PUT, DELETE") other
-  allow_lacks (Some Match) other = one_lacks (codes "Allow") (codes "POST") other
-  allow_lacks (Some Other) other = one_lacks (codes "Allow") (codes "GET, HEAD") other
+  allow_lacks (Some allow) other = one_lacks (codes "Allow") (methods_text allow) other
+
+  origin_lacks : (o : Option (List ℕ)) → str_eq_ignore_ascii_case (codes "Access-Control-Allow-Origin") name ≡ false
+      → str_eq_ignore_ascii_case (codes "Access-Control-Expose-Headers") name ≡ false → Lacks name (origin_fields o)
+  origin_lacks None first second = none_lack
+  origin_lacks (Some origin) first second =
+      both_lack (one_lacks (codes "Access-Control-Allow-Origin") origin first)
+      (one_lacks (codes "Access-Control-Expose-Headers") (codes "Date, ETag, Quaestor-Commit, Quaestor-Until, Quaestor-Version") second)
+
+  vary_lacks : (varies : Bool) → str_eq_ignore_ascii_case (codes "Vary") name ≡ false → Lacks name (vary_field varies)
+  vary_lacks true other = one_lacks (codes "Vary") (codes "Origin") other
+  vary_lacks false other = none_lack
+
+  calls_lacks : (o : Option Allow) → str_eq_ignore_ascii_case (codes "Access-Control-Allow-Methods") name ≡ false
+      → str_eq_ignore_ascii_case (codes "Access-Control-Allow-Headers") name ≡ false
+      → str_eq_ignore_ascii_case (codes "Access-Control-Max-Age") name ≡ false → Lacks name (calls_fields o)
+  calls_lacks None first second third = none_lack
+  calls_lacks (Some allow) first second third =
+      both_lack (one_lacks (codes "Access-Control-Allow-Methods") (methods_text allow) first)
+      (both_lack (one_lacks (codes "Access-Control-Allow-Headers") (codes "Cache-Control, Content-Type, If-Match, If-None-Match") second)
+      (one_lacks (codes "Access-Control-Max-Age") (codes "600") third))
+
+  pub pages_lacks : (leave : LeaveTold) (calls : Option Allow) → str_eq_ignore_ascii_case (codes "Access-Control-Allow-Origin") name ≡ false
+      → str_eq_ignore_ascii_case (codes "Access-Control-Expose-Headers") name ≡ false
+      → str_eq_ignore_ascii_case (codes "Vary") name ≡ false
+      → str_eq_ignore_ascii_case (codes "Access-Control-Allow-Methods") name ≡ false
+      → str_eq_ignore_ascii_case (codes "Access-Control-Allow-Headers") name ≡ false
+      → str_eq_ignore_ascii_case (codes "Access-Control-Max-Age") name ≡ false → Lacks name (pages_fields leave calls)
+  pages_lacks leave calls origin exposed vary methods headers age =
+      both_lack (origin_lacks leave.allow origin exposed) (both_lack (vary_lacks leave.varies vary) (calls_lacks calls methods headers age))
 
   pub close_lacks : (close : Bool) → str_eq_ignore_ascii_case (codes "Connection") name ≡ false → Lacks name (close_field close)
   close_lacks true other = one_lacks (codes "Connection") (codes "close") other
@@ -141,7 +168,7 @@ refused_on status before (p ∷ xs) ys first rest =
     ]
 
 pub taken_on : {status : ℕ} {before xs ys : List Pair} → AreTaken status before xs → AreTaken status (before ++ xs) ys → AreTaken status before (xs ++ ys)
-taken_on {status} {before} {xs} {ys} first rest = record { none = refused_on status before xs ys first.none rest.none }
+taken_on {status = status} {before = before} {xs} {ys} first rest = record { none = refused_on status before xs ys first.none rest.none }
 
 module _ {status : ℕ} {before : List Pair} where
   none_taken : AreTaken status before []
@@ -170,14 +197,8 @@ module _ {status : ℕ} {before : List Pair} where
 
   pub allow_taken : (o : Option Allow) → AreTaken status before (allow_field o)
   allow_taken None = none_taken
-  allow_taken (Some Record) =
-      one_taken (codes "Allow") (codes "GET, HEAD, PUT, DELETE")
-      (elim (cases_Bool (status == 304)) [ inl e ↦ rw e refl | inr e ↦ rw e refl ])
-  allow_taken (Some Match) =
-      one_taken (codes "Allow") (codes "POST")
-      (elim (cases_Bool (status == 304)) [ inl e ↦ rw e refl | inr e ↦ rw e refl ])
-  allow_taken (Some Other) =
-      one_taken (codes "Allow") (codes "GET, HEAD")
+  allow_taken (Some allow) =
+      one_taken (codes "Allow") (methods_text allow)
       (elim (cases_Bool (status == 304)) [ inl e ↦ rw e refl | inr e ↦ rw e refl ])
 
   pub close_taken : (close : Bool) → AreTaken status before (close_field close)
@@ -238,3 +259,35 @@ module _ {status : ℕ} {before : List Pair} where
       let is : number_in (decimal n) ≡ Some n = decimal_within 18446744073709551615 n (small n refl) (omega (arith, small n refl)) in
       one_taken (codes "Quaestor-Until") (decimal n)
       (elim (cases_Bool (status == 304)) [ inl e ↦ rw (e, first, is) refl | inr e ↦ rw (e, first, is) refl ])
+
+-- what is said to pages is not looked at
+origin_taken : {status : ℕ} {before : List Pair} (o : Option (List ℕ)) → AreTaken status before (origin_fields o)
+origin_taken {status} {before} None = none_taken
+origin_taken {status} {before} (Some origin) =
+    taken_on {status = status} {before = before}
+    (one_taken (codes "Access-Control-Allow-Origin") origin
+    (elim (cases_Bool (status == 304)) [ inl e ↦ rw e refl | inr e ↦ rw e refl ]))
+    (one_taken (codes "Access-Control-Expose-Headers") (codes "Date, ETag, Quaestor-Commit, Quaestor-Until, Quaestor-Version")
+    (elim (cases_Bool (status == 304)) [ inl e ↦ rw e refl | inr e ↦ rw e refl ]))
+
+vary_taken : {status : ℕ} {before : List Pair} (varies : Bool) → AreTaken status before (vary_field varies)
+vary_taken {status} {before} false = none_taken
+vary_taken {status} {before} true =
+    one_taken (codes "Vary") (codes "Origin")
+    (elim (cases_Bool (status == 304)) [ inl e ↦ rw e refl | inr e ↦ rw e refl ])
+
+calls_taken : {status : ℕ} {before : List Pair} (o : Option Allow) → AreTaken status before (calls_fields o)
+calls_taken {status} {before} None = none_taken
+calls_taken {status} {before} (Some allow) =
+    taken_on {status = status} {before = before}
+    (one_taken (codes "Access-Control-Allow-Methods") (methods_text allow)
+    (elim (cases_Bool (status == 304)) [ inl e ↦ rw e refl | inr e ↦ rw e refl ]))
+    (taken_on
+    (one_taken (codes "Access-Control-Allow-Headers") (codes "Cache-Control, Content-Type, If-Match, If-None-Match")
+    (elim (cases_Bool (status == 304)) [ inl e ↦ rw e refl | inr e ↦ rw e refl ]))
+    (one_taken (codes "Access-Control-Max-Age") (codes "600")
+    (elim (cases_Bool (status == 304)) [ inl e ↦ rw e refl | inr e ↦ rw e refl ])))
+
+pub pages_taken : {status : ℕ} {before : List Pair} (leave : LeaveTold) (calls : Option Allow) → AreTaken status before (pages_fields leave calls)
+pages_taken {status} {before} leave calls =
+    taken_on {status = status} {before = before} (origin_taken leave.allow) (taken_on (vary_taken leave.varies) (calls_taken calls))

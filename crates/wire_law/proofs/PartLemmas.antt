@@ -6,15 +6,16 @@ use Rattle.std.specs.List.{flat_map}
 use Rattle.std.specs.Str.{str_eq_ignore_ascii_case}
 use Rattle.httparse.specs.Grammar.{trim_ows}
 use Rattle.http_message.specs.Fields.{Pair, pieces_between, values}
-use Rattle.http_front.specs.Reply.{allow_field, close_field, date_field, lifetime_field, media_field, number_field, tag_field, head_fields}
+use Rattle.http_front.specs.Origins.{IsTellable}
+use Rattle.http_front.specs.Reply.{allow_field, pages_fields, close_field, date_field, lifetime_field, media_field, number_field, tag_field, head_fields}
 use Rattle.http_front.specs.declared.head.Head.{Head}
 use Rattle.client_wire.specs.Numbers.{number_in, length_in, date_in, tag_in, body_limit}
 use Rattle.client_wire.specs.ReplyFields.{directives, first_value, lifetime_by, parts_of, size_of, verdict_of}
 use Rattle.wire_law.specs.Printed.{FieldsAreRead, printed_date, printed_parts, printed_size}
-use Rattle.wire_law.proofs.FieldLemmas.{Lacks, both_lack, none_lack, number_lacks, date_lacks, media_lacks, tag_lacks, lifetime_lacks, allow_lacks, close_lacks, behind, first_number, first_date, first_tag, values_between, AreTaken, taken_on, media_taken, lifetime_taken, allow_taken, close_taken, date_taken, length_taken, tag_taken, commit_taken, version_taken, until_taken}
+use Rattle.wire_law.proofs.FieldLemmas.{Lacks, both_lack, none_lack, number_lacks, date_lacks, media_lacks, tag_lacks, lifetime_lacks, allow_lacks, pages_lacks, close_lacks, behind, first_number, first_date, first_tag, values_between, AreTaken, taken_on, media_taken, lifetime_taken, allow_taken, pages_taken, close_taken, date_taken, length_taken, tag_taken, commit_taken, version_taken, until_taken}
 use Rattle.wire_law.proofs.ValueLemmas.{date_read, length_read, number_read, no_store_read, max_age_read}
 
--- The numbers of a head are of their width, as those of each head that the program has.
+-- The numbers of a head are of their width, and its origin may be told, as those of each head that the program has.
 pub record IsInWidth (h : Head) : Type 0 where
   pub commit : (n : ℕ) → h.commit ≡ Some n → n < 2 ^ 64
   pub version : (n : ℕ) → h.version ≡ Some n → n < 2 ^ 64
@@ -22,14 +23,18 @@ pub record IsInWidth (h : Head) : Type 0 where
   pub tag : (n : ℕ) → h.tag ≡ Some n → n < 2 ^ 64
   pub length : (n : ℕ) → h.length ≡ Some n → n < 2 ^ 64
   pub ttl : h.ttl < 2 ^ 32
+  pub leave : IsTellable h.leave
 
 module _ (h : Head) (date : List ℕ) where
   -- the fields from each on
   abbrev from_close : List Pair
   from_close = close_field h.close
 
+  abbrev from_pages : List Pair
+  from_pages = pages_fields h.leave h.calls ++ from_close
+
   abbrev from_until : List Pair
-  from_until = number_field (codes "Quaestor-Until") h.until ++ from_close
+  from_until = number_field (codes "Quaestor-Until") h.until ++ from_pages
 
   abbrev from_version : List Pair
   from_version = number_field (codes "Quaestor-Version") h.version ++ from_until
@@ -52,6 +57,17 @@ module _ (h : Head) (date : List ℕ) where
   abbrev from_media : List Pair
   from_media = media_field h.media ++ from_length
 
+  -- the last fields are of other names
+  end_lacks : {name : List ℕ} → str_eq_ignore_ascii_case (codes "Access-Control-Allow-Origin") name ≡ false
+      → str_eq_ignore_ascii_case (codes "Access-Control-Expose-Headers") name ≡ false
+      → str_eq_ignore_ascii_case (codes "Vary") name ≡ false
+      → str_eq_ignore_ascii_case (codes "Access-Control-Allow-Methods") name ≡ false
+      → str_eq_ignore_ascii_case (codes "Access-Control-Allow-Headers") name ≡ false
+      → str_eq_ignore_ascii_case (codes "Access-Control-Max-Age") name ≡ false
+      → str_eq_ignore_ascii_case (codes "Connection") name ≡ false → Lacks name from_pages
+  end_lacks origin exposed vary methods headers age close =
+      both_lack (pages_lacks h.leave h.calls origin exposed vary methods headers age) (close_lacks h.close close)
+
   -- ---- what the fields say
 
   commit_printed : first_value (codes "quaestor-commit") (head_fields h date) ≡ option_map decimal h.commit
@@ -66,7 +82,7 @@ module _ (h : Head) (date : List ℕ) where
       ∙ behind name (allow_field h.allow) from_commit (allow_lacks h.allow refl)
       ∙ first_number name (codes "Quaestor-Commit") h.commit from_version refl
       (both_lack (number_lacks (codes "Quaestor-Version") h.version refl)
-      (both_lack (number_lacks (codes "Quaestor-Until") h.until refl) (close_lacks h.close refl)))
+      (both_lack (number_lacks (codes "Quaestor-Until") h.until refl) (end_lacks refl refl refl refl refl refl refl)))
 
   version_printed : first_value (codes "quaestor-version") (head_fields h date) ≡ option_map decimal h.version
   unfolding head_fields
@@ -80,7 +96,7 @@ module _ (h : Head) (date : List ℕ) where
       ∙ behind name (allow_field h.allow) from_commit (allow_lacks h.allow refl)
       ∙ behind name (number_field (codes "Quaestor-Commit") h.commit) from_version (number_lacks (codes "Quaestor-Commit") h.commit refl)
       ∙ first_number name (codes "Quaestor-Version") h.version from_until refl
-      (both_lack (number_lacks (codes "Quaestor-Until") h.until refl) (close_lacks h.close refl))
+      (both_lack (number_lacks (codes "Quaestor-Until") h.until refl) (end_lacks refl refl refl refl refl refl refl))
 
   until_printed : first_value (codes "quaestor-until") (head_fields h date) ≡ option_map decimal h.until
   unfolding head_fields
@@ -94,7 +110,7 @@ module _ (h : Head) (date : List ℕ) where
       ∙ behind name (allow_field h.allow) from_commit (allow_lacks h.allow refl)
       ∙ behind name (number_field (codes "Quaestor-Commit") h.commit) from_version (number_lacks (codes "Quaestor-Commit") h.commit refl)
       ∙ behind name (number_field (codes "Quaestor-Version") h.version) from_until (number_lacks (codes "Quaestor-Version") h.version refl)
-      ∙ first_number name (codes "Quaestor-Until") h.until from_close refl (close_lacks h.close refl)
+      ∙ first_number name (codes "Quaestor-Until") h.until from_pages refl (end_lacks refl refl refl refl refl refl refl)
 
   date_printed : (seconds : ℕ) → date_in date ≡ Some seconds
       → option_and_then date_in (first_value (codes "date") (head_fields h date)) ≡ printed_date h.dated seconds
@@ -108,7 +124,7 @@ module _ (h : Head) (date : List ℕ) where
       (both_lack (allow_lacks h.allow refl)
       (both_lack (number_lacks (codes "Quaestor-Commit") h.commit refl)
       (both_lack (number_lacks (codes "Quaestor-Version") h.version refl)
-      (both_lack (number_lacks (codes "Quaestor-Until") h.until refl) (close_lacks h.close refl)))))))))
+      (both_lack (number_lacks (codes "Quaestor-Until") h.until refl) (end_lacks refl refl refl refl refl refl refl)))))))))
 
   tag_printed : ((n : ℕ) → h.tag ≡ Some n → n < 2 ^ 64)
       → option_and_then tag_in (first_value (codes "etag") (head_fields h date)) ≡ h.tag
@@ -124,7 +140,7 @@ module _ (h : Head) (date : List ℕ) where
       (both_lack (allow_lacks h.allow refl)
       (both_lack (number_lacks (codes "Quaestor-Commit") h.commit refl)
       (both_lack (number_lacks (codes "Quaestor-Version") h.version refl)
-      (both_lack (number_lacks (codes "Quaestor-Until") h.until refl) (close_lacks h.close refl))))))
+      (both_lack (number_lacks (codes "Quaestor-Until") h.until refl) (end_lacks refl refl refl refl refl refl refl))))))
 
   length_printed : first_value (codes "content-length") (head_fields h date) ≡ option_map decimal h.length
   unfolding head_fields
@@ -138,7 +154,7 @@ module _ (h : Head) (date : List ℕ) where
       (both_lack (allow_lacks h.allow refl)
       (both_lack (number_lacks (codes "Quaestor-Commit") h.commit refl)
       (both_lack (number_lacks (codes "Quaestor-Version") h.version refl)
-      (both_lack (number_lacks (codes "Quaestor-Until") h.until refl) (close_lacks h.close refl)))))))
+      (both_lack (number_lacks (codes "Quaestor-Until") h.until refl) (end_lacks refl refl refl refl refl refl refl)))))))
 
   -- the fields before the lifetime, and that one is behind them
   abbrev before_lifetime : List Pair
@@ -164,7 +180,7 @@ module _ (h : Head) (date : List ℕ) where
       (both_lack (allow_lacks h.allow refl)
       (both_lack (number_lacks (codes "Quaestor-Commit") h.commit refl)
       (both_lack (number_lacks (codes "Quaestor-Version") h.version refl)
-      (both_lack (number_lacks (codes "Quaestor-Until") h.until refl) (close_lacks h.close refl)))))
+      (both_lack (number_lacks (codes "Quaestor-Until") h.until refl) (end_lacks refl refl refl refl refl refl refl)))))
 
   -- ---- no field is refused
 
@@ -181,7 +197,7 @@ module _ (h : Head) (date : List ℕ) where
       (taken_on (commit_taken h.commit width.commit (front refl refl refl refl refl refl))
       (taken_on (version_taken h.version width.version (both_lack (front refl refl refl refl refl refl) (number_lacks (codes "Quaestor-Commit") h.commit refl)))
       (taken_on (until_taken h.until width.until (both_lack (both_lack (front refl refl refl refl refl refl) (number_lacks (codes "Quaestor-Commit") h.commit refl)) (number_lacks (codes "Quaestor-Version") h.version refl)))
-      (close_taken h.close)))))))))
+      (taken_on (pages_taken h.leave h.calls) (close_taken h.close))))))))))
     where
       front : {name : List ℕ} → str_eq_ignore_ascii_case (codes "Date") name ≡ false → str_eq_ignore_ascii_case (codes "Content-Type") name ≡ false
           → str_eq_ignore_ascii_case (codes "Content-Length") name ≡ false → str_eq_ignore_ascii_case (codes "ETag") name ≡ false

@@ -1,15 +1,17 @@
 -- The head of a reply has few fields, and its text is short.
 use Rattle.std.proofs.Common.{◌≡◌, ℕ, zero, suc, ◌+◌, ◌<◌, ◌≤◌, ◌^◌, Bool, true, false, ◌&&◌, List, [], ◌∷◌, ◌++◌, length, refl, ◌∙◌, ap, arith, nat_le}
-use Rattle.std.proofs.lemmas.Bool.{leb-true}
+use Rattle.std.proofs.lemmas.Bool.{and_parts, leb-true}
 use Rattle.std.proofs.lemmas.Bool.Decides.{Decides-below_and}
 use Rattle.std.proofs.lemmas.Fmt.{length-decimal-le}
 use Rattle.std.proofs.lemmas.Grind.{flat_map-append}
 use Rattle.std.proofs.lemmas.List.{length-append}
-use Rattle.std.specs.Prelude.{Option, Some, None, codes, decimal, unwrap_or}
+use Rattle.std.specs.List.{list_all}
+use Rattle.std.specs.Prelude.{Option, Some, None, IfSome, codes, decimal, nat_lt, unwrap_or}
 use Rattle.http.specs.StatusCode.{reason_phrase}
 use Rattle.http1.specs.Fields.{Header}
 use Rattle.http1.specs.Head.{print_header, print_headers}
-use Rattle.http_front.specs.Reply.{allow_field, close_field, date_field, lifetime_field, media_field, number_field, tag_field, head_fields, head_text, status_line}
+use Rattle.http_front.specs.Origins.{IsTellable, LeaveTold, is_origin, is_visible}
+use Rattle.http_front.specs.Reply.{methods_text, allow_field, origin_fields, vary_field, calls_fields, pages_fields, close_field, date_field, lifetime_field, media_field, number_field, tag_field, head_fields, head_text, status_line}
 use Rattle.http_front.specs.declared.head.Head.{Head}
 use Rattle.http_front.specs.declared.head.MediaType.{MediaType}
 use Rattle.http_front.specs.declared.head.MediaType.TheVariants.{Json, OctetStream}
@@ -32,7 +34,7 @@ both_short {m} {n} {k} {l} {xs} {ys} p q =
       short = omega (arith, lines, p.short, q.short);
     }
 
-none_short : {size : ℕ} → IsShort 1 size []
+none_short : {count size : ℕ} → IsShort count size []
 none_short = record { few = omega arith; short = omega arith }
 
 -- a line has a colon, a space and a line end besides its name and its value
@@ -72,24 +74,54 @@ lifetime_short (suc n) small =
     one_short 100 (codes "Cache-Control") (codes "max-age=" ++ decimal (suc n))
     (omega (arith, decimal_short (suc n) (omega (arith, small)), length-append (codes "max-age=") (decimal (suc n))))
 
+methods_short : (allow : Allow) → length (methods_text allow) ≤ 22
+methods_short Record = omega arith
+methods_short Match = omega arith
+methods_short Other = omega arith
+
 allow_short : (o : Option Allow) → IsShort 1 100 (allow_field o)
 allow_short None = none_short
-allow_short (Some Record) = one_short 100 (codes "Allow") (codes "GET, HEAD, PUT, DELETE") (omega arith)
-allow_short (Some Match) = one_short 100 (codes "Allow") (codes "POST") (omega arith)
-allow_short (Some Other) = one_short 100 (codes "Allow") (codes "GET, HEAD") (omega arith)
+allow_short (Some allow) = one_short 100 (codes "Allow") (methods_text allow) (omega (arith, methods_short allow))
+
+origin_length : (origin : List ℕ) → is_origin origin ≡ true → length origin ≤ 255
+unfolding is_origin
+origin_length origin is =
+    let some = and_parts (nat_lt 0 (length origin)) (nat_le (length origin) 255 && list_all is_visible origin) is in
+    leb-true (length origin) 255 (and_parts (nat_le (length origin) 255) (list_all is_visible origin) some.1).0
+
+origin_short : (o : Option (List ℕ)) → IfSome o (λ origin. is_origin origin ≡ true) → IsShort 2 500 (origin_fields o)
+origin_short None is = none_short
+origin_short (Some origin) is =
+    both_short
+    (one_short 300 (codes "Access-Control-Allow-Origin") origin (omega (arith, origin_length origin is)))
+    (one_short 200 (codes "Access-Control-Expose-Headers") (codes "Date, ETag, Quaestor-Commit, Quaestor-Until, Quaestor-Version") (omega arith))
+
+vary_short : (varies : Bool) → IsShort 1 100 (vary_field varies)
+vary_short true = one_short 100 (codes "Vary") (codes "Origin") (omega arith)
+vary_short false = none_short
+
+calls_short : (o : Option Allow) → IsShort 3 300 (calls_fields o)
+calls_short None = none_short
+calls_short (Some allow) =
+    both_short (one_short 100 (codes "Access-Control-Allow-Methods") (methods_text allow) (omega (arith, methods_short allow)))
+    (both_short (one_short 100 (codes "Access-Control-Allow-Headers") (codes "Cache-Control, Content-Type, If-Match, If-None-Match") (omega arith))
+    (one_short 100 (codes "Access-Control-Max-Age") (codes "600") (omega arith)))
+
+pages_short : (leave : LeaveTold) (calls : Option Allow) → IsTellable leave → IsShort 6 900 (pages_fields leave calls)
+pages_short leave calls is = both_short (origin_short leave.allow is) (both_short (vary_short leave.varies) (calls_short calls))
 
 close_short : (close : Bool) → IsShort 1 100 (close_field close)
 close_short false = none_short
 close_short true = one_short 100 (codes "Connection") (codes "close") (omega arith)
 
-fields_short : (h : Head) (date : List ℕ) → IsInWidth h → length date ≡ 29 → IsShort 10 1000 (head_fields h date)
+fields_short : (h : Head) (date : List ℕ) → IsInWidth h → length date ≡ 29 → IsShort 16 1900 (head_fields h date)
 unfolding head_fields
 fields_short h date width size =
     both_short (date_short h.dated date size) (both_short (media_short h.media) (both_short (number_short (codes "Content-Length") h.length (omega arith) width.length)
     (both_short (tag_short h.tag width.tag) (both_short (lifetime_short h.ttl width.ttl) (both_short (allow_short h.allow)
     (both_short (number_short (codes "Quaestor-Commit") h.commit (omega arith) width.commit)
     (both_short (number_short (codes "Quaestor-Version") h.version (omega arith) width.version)
-    (both_short (number_short (codes "Quaestor-Until") h.until (omega arith) width.until) (close_short h.close)))))))))
+    (both_short (number_short (codes "Quaestor-Until") h.until (omega arith) width.until) (both_short (pages_short h.leave h.calls width.leave) (close_short h.close))))))))))
 
 -- the phrase of each status is short
 abbrev phrase : ℕ → List ℕ

@@ -12,12 +12,12 @@ use Rattle.client_wire.specs.declared.refusal.WireRefusal.{WireRefusal}
 use Rattle.client_wire.specs.declared.refusal.WireRefusal.TheVariants as wire
 use Rattle.wire_law.specs.Printed.{IsReplyRead}
 
--- from a source that begins with the text of what is answered and does not fail, that reply is read, and what follows is left;
+-- where the request is no HEAD, and no page asks by OPTIONS what it may send: from a source that begins with the text of what is answered and does not fail, that reply is read, and what follows is left;
 -- unless memory runs out
 abbrev pub ToldIsRead : Shape → Told → (size : ℕ) → (close : Bool) → Type 0
 ToldIsRead shape told size close =
     (page text rest : List ℕ) (source source' : End) (result : Result (Reply × Lacks) WireRefusal)
-    → shape.head ≡ false → length (body_of told page) ≡ size → size ≤ body_limit
+    → shape.head ≡ false → shape.asks ≡ false → length (body_of told page) ≡ size → size ≤ body_limit
     → IsReplyText shape told page close text → source.bytes ≡ Some (text ++ rest)
     → source'.faults ≡ source.faults → TakesReply source source' result
     → (result ≡ Err wire.Memory)

@@ -1,6 +1,21 @@
--- the option shows no number of its range
-use Rattle.quaestor_prog.proofs.WordLemmas.{of_error}
+-- the option shows no number of its range or no origins; and what all of them ask for
+use Rattle.quaestor_prog.proofs.WordLemmas.{any_origins, of_error}
 use Rattle.quaestor_prog.proofs.words.options_at.Goals as goal
 
 pub returns-in_err-connections-clause-err : goal.returns-in_err-connections-clause-err
 returns-in_err-connections-clause-err c = of_error _ c.from_residual-in_err-connections.result (λ ask s. c.in_err-connections.ensures.err ask.connections s.connections)
+
+pub returns-in_err-origins-clause-err : goal.returns-in_err-origins-clause-err
+returns-in_err-origins-clause-err c = of_error _ c.from_residual-in_err-origins.result (λ ask s. c.in_err-origins.ensures.err ask.setting.origins s.origins)
+
+pub returns-clause-ok : goal.returns-clause-ok
+returns-clause-ok c = record {
+  address = c.requires;
+  setting = any_origins _ _ _ c.in_ok-config.ensures.ok;
+  origins = c.in_ok-origins.ensures.ok;
+  places = c.in_ok-places.ensures.ok;
+  workers = c.in_ok-workers.ensures.ok;
+  matchers = c.in_ok-matchers.ensures.ok;
+  connections = c.in_ok-connections.ensures.ok;
+  limits = c.in_ok-limits.ensures.ok;
+}

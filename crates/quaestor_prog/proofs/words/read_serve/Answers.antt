@@ -1,8 +1,8 @@
 -- clap's answer, of the command that it read
 use Rattle.std.proofs.Common.{refl, sym, subst, inl, inr}
 use Rattle.quaestor_prog.specs.Commands.{serve_app}
-use Rattle.quaestor_prog.specs.Words.{AreServeOptions, IsBadValue, ask_of}
-use Rattle.quaestor_prog.proofs.CommandLemmas.{rows_are, taken_are, kinds_are, serve_refused, asks_serve}
+use Rattle.quaestor_prog.specs.Words.{AreServeOptions, IsBadValue, asked_with}
+use Rattle.quaestor_prog.proofs.CommandLemmas.{rows_are, taken_are, kinds_are, serve_asked, serve_refused, asks_serve}
 use Rattle.quaestor_prog.proofs.GivenLemmas.{serve_address}
 use Rattle.quaestor_prog.proofs.words.read_serve.Goals as goal
 
@@ -10,11 +10,8 @@ pub serve_options-requires : goal.serve_options-requires
 serve_options-requires c = serve_address _ _ c.in_ok-serve_command.ensures c.in-Ok.ensures.parsed
 
 pub returns-in-Ok-serve_options : goal.returns-in-Ok-serve_options
-returns-in-Ok-serve_options c = record {
-  named = c.requires;
-  taken = taken_are _ serve_app _ c.in_ok-serve_command.ensures refl c.in-Ok.ensures.kinds;
-  options = subst (λ rows. AreServeOptions rows (ask_of c.in-Ok-serve_options.options)) (rows_are _ serve_app _ _ c.in_ok-serve_command.ensures refl c.in-Ok.ensures.matches) c.in-Ok-serve_options.ensures.ok;
-}
+returns-in-Ok-serve_options c = serve_asked _ _ _ c.requires (taken_are _ serve_app _ c.in_ok-serve_command.ensures refl c.in-Ok.ensures.kinds)
+    (subst (λ rows. AreServeOptions rows (asked_with c.in-Ok-serve_options.options c.in-Ok-serve_options.origins.now)) (rows_are _ serve_app _ _ c.in_ok-serve_command.ensures refl c.in-Ok.ensures.matches) c.in-Ok-serve_options.ensures.ok) c.serve_with.ensures
 
 pub returns-in-Ok : goal.returns-in-Ok
 returns-in-Ok c =

@@ -5,5 +5,5 @@ use Rattle.wire_law.proofs.laws.told_is_read.Goals as goal
 
 pub returns : goal.returns
 returns c =
-    told_read c.args.shape c.args.told.now c.args.length c.args.close
+    told_read c.args.shape.now c.args.told.now c.args.length c.args.close
     (subst ReplyIsRead c.of.ensures c.reply_is_read.ensures)

@@ -1,8 +1,8 @@
 -- the desk answered at the clock's moment, and the sink was given the text of its reply
-use Rattle.std.proofs.Common.{refl, true}
+use Rattle.std.proofs.Common.{ℕ, List, refl, true, ap, ◌∙◌}
 use Rattle.http_message.specs.Item.{unframed}
-use Rattle.quaestor_server.specs.Ask.{asked_by}
-use Rattle.quaestor_server.proofs.AnswerLemmas.{can_still}
+use Rattle.quaestor_server.specs.Ask.{asked_by, shape_by}
+use Rattle.quaestor_server.proofs.AnswerLemmas.{can_still, origins_still}
 use Rattle.quaestor_server.proofs.ConversationLemmas.{replies}
 use Rattle.quaestor_server.proofs.responder.ResponderAnswers.refuse.Goals as goal
 
@@ -10,9 +10,9 @@ pub returns-clause-can : goal.returns-clause-can
 returns-clause-can g c =
     let answered = c.answer-told.ensures.answer (asked_by (unframed c.args.refused true c.args.head)) refl in
     let still = can_still _ _ _ _ _ _ _ _ _ _ _ c.answer-told.ensures.setting c.requires.0 answered c.answer-told.ensures.room in
-    (still.0, still.1, c.requires.2)
+    (still.0, still.1, c.requires.2, origins_still _ _ _ c.answer-told.ensures.setting c.requires.3)
 
 pub returns-clause-reply : goal.returns-clause-reply
 returns-clause-reply g c = λ called.
     let answered = c.answer-told.ensures.answer (asked_by (unframed c.args.refused called c.args.head)) refl in
-    replies g.D.Desk.setting g.D.Desk.seen g.D.Desk.mine g.C.Clock.tick _ _ _ _ (unframed c.args.refused called c.args.head) true _ _ _ _ _ _ _ _ c.answer-told.ensures.setting c.now-moment.ensures refl c.bytes.ensures answered c.give_reply.ensures.reply
+    replies g.D.Desk.setting g.D.Desk.seen g.D.Desk.mine g.C.Clock.tick _ _ _ _ (unframed c.args.refused called c.args.head) true _ _ _ _ _ _ _ _ c.answer-told.ensures.setting c.now-moment.ensures (c.unframed-shape.ensures ∙ ap (λ (o : List ℕ). shape_by o (unframed c.args.refused called c.args.head)) c.requires.3) c.bytes.ensures answered c.give_reply.ensures.reply
