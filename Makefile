@@ -6,8 +6,8 @@ help: ## [at once] lists the commands
 	@awk -F ':.*## \\[|\\] ' '/^[a-z-]+:.*## \[/ { printf "  %-12s %-18s %s\n", $$1, $$2, $$3 }' $(firstword $(MAKEFILE_LIST))
 try: named ## [1 min] runs the tests of CRATE=name without a proof
 	@python3 tools/test.py $(CRATE)
-test: ## [5 min] runs every test and example without a proof
-	@python3 tools/test.py
+test: ## [6 min] runs every test and example without a proof, and then those of `make lasts`
+	@python3 tools/test.py && python3 tools/lasts.py
 check: ## [1 to 60 min] proves what changed, every crate, lowest first
 	rt all check
 fmt: ## [10 s] lays out every crate

@@ -241,6 +241,46 @@ def clients_between_two_requests_hold_nobody_back():
 
 
 @test
+def two_hundred_connections_are_taken_up_again_and_again():
+    with Server("--workers", "4", "--idle", "20") as it:
+        kept = [it.client() for _ in range(200)]
+        for _ in range(3):
+            for client in kept:
+                client.sendall(GET)
+            for client in kept:
+                wants(is_whole(reply(client)), "a client that waited was not answered")
+        for client in kept:
+            client.close()
+
+
+@test
+def each_of_two_connections_reads_what_the_other_put():
+    with Server() as it, it.client() as first, it.client() as second:
+        ask = b"GET /v1/d/shop/p1 HTTP/1.1\r\nHost: a\r\n\r\n"
+        for n in range(20):
+            for writer, reader in (first, second), (second, first):
+                writer.sendall(put(b"/v1/d/shop/p1", 10 + n))
+                wants(reply(writer)[:12] in (b"HTTP/1.1 201", b"HTTP/1.1 200"), "a record was not put")
+                reader.sendall(ask)
+                body = reply(reader).partition(b"\r\n\r\n")[2]
+                wants(len(body) == 10 + n, f"{body!r} was read, and {10 + n} bytes were put")
+
+
+@test
+def the_front_reaches_each_commit_by_the_matchers_alone():
+    with Server() as it, it.client() as client:
+        for n in range(20):
+            client.sendall(put(b"/v1/d/shop/p%d" % n, 100))
+            wants(reply(client).startswith(b"HTTP/1.1 201 "), "a record was not put")
+        until = time.monotonic() + 2
+        said = b""
+        while b'"commits":20,"front":20' not in said:
+            wants(time.monotonic() < until, f"after 2 seconds it said {said!r}")
+            client.sendall(GET)
+            said = reply(client)
+
+
+@test
 def a_silent_client_is_told_the_end():
     with Server("--idle", "2", "--head-time", "30") as it:
         with it.client() as client:
