@@ -6,4 +6,6 @@ mod caches;
 #[cfg(test)]
 mod choices;
 #[cfg(test)]
+mod runs;
+#[cfg(test)]
 mod sessions;

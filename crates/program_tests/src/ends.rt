@@ -83,7 +83,7 @@ fn run_ended<R: Threads + Wait + Copy + Send + AllocGlobal + 'static>(
 
 #[test]
 fn the_sink_is_ended_once_behind_all_that_is_given(rt: HostRuntime) -> Result<(), Fail> {
-    let rows: [(&[&str], Status); 6] = [
+    let rows: [(&[&str], Status); 7] = [
         (&["pipe"], Status::Done),
         (&["serve"], Status::Words),
         (&["serve", "here"], Status::Done),
@@ -93,6 +93,7 @@ fn the_sink_is_ended_once_behind_all_that_is_given(rt: HostRuntime) -> Result<()
             &["read", "there", "strong", "r/shop/p1"],
             Status::PlaceFault,
         ),
+        (&["world", "7", "1"], Status::Done),
     ];
     for (at, (line, status)) in rows.into_iter().enumerate() {
         let mut sink = Ended {

@@ -27,3 +27,5 @@ mod texts;
 mod words;
 #[cfg(test)]
 mod worked;
+#[cfg(test)]
+mod worlds;

@@ -81,6 +81,14 @@ fn options_are_numbers_within_their_limits(rt: HostRuntime) -> Result<(), Fail> 
         ("pipe --bytes 134217729", Status::Words),
         ("pipe x", Status::Words),
         ("pipe --frobnicate 1", Status::Words),
+        ("world 7 0", Status::Words),
+        ("world 7 1000001", Status::Words),
+        ("world 07 10", Status::Words),
+        ("world 18446744073709551616 1", Status::Words),
+        ("world 7", Status::Words),
+        ("world 7 1 1", Status::Words),
+        ("world --seed 7 1", Status::Words),
+        ("world 18446744073709551615 1", Status::Done),
         ("read here session", Status::Words),
         ("read here Session r/shop/p1", Status::Words),
         ("read here weak r/shop/p1", Status::Words),
@@ -207,12 +215,20 @@ fn help_and_version_are_written(rt: HostRuntime) -> Result<(), Fail> {
         "pipe -h",
         "serve --help",
         "read --help",
+        "world -h",
     ] {
         let outcome = run_line(&rt, line)?;
         assert_eq!(rt; outcome.status, Status::Done, "of {line}");
         assert!(rt; outcome.written.len() > USAGE.len(), "of {line}");
     }
-    for line in ["--version", "-V", "pipe --version", "serve -V", "read -V"] {
+    for line in [
+        "--version",
+        "-V",
+        "pipe --version",
+        "serve -V",
+        "read -V",
+        "world -V",
+    ] {
         let outcome = run_line(&rt, line)?;
         assert_run(&rt, &outcome, Status::Done, b"quaestor 0.1.0\n", 0);
     }
@@ -221,7 +237,15 @@ fn help_and_version_are_written(rt: HostRuntime) -> Result<(), Fail> {
 
 #[test]
 fn refused_words_have_a_message(rt: HostRuntime) -> Result<(), Fail> {
-    let rows: [(&[&str], &str); 9] = [
+    let rows: [(&[&str], &str); 11] = [
+        (
+            &["world", "7", "0"],
+            "error: STEPS is a decimal number from 1 to 1000000, not '0'\n",
+        ),
+        (
+            &["world", "07", "10"],
+            "error: SEED is a decimal number from 0 to 18446744073709551615, not '07'\n",
+        ),
         (
             &["read", "here", "weak", "r/shop/p1"],
             "error: LEVEL is session, causal or strong, not 'weak'\n",

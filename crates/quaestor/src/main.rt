@@ -10,7 +10,7 @@ use places::TcpPlaces;
 use q_outside::{ReadSource, WriteSink};
 use quaestor_prog::{Status, refusal_of, run};
 use std::env;
-use std::io::ErrorKind;
+use std::io::{ErrorKind, IsTerminal};
 use std::process::ExitCode;
 use std::rt::Env;
 
@@ -44,7 +44,7 @@ fn main(rt: HostRuntime) -> ExitCode {
             let mut source = ReadSource::new(rt.stdin());
             let mut sink = WriteSink::new(rt.stdout());
             let mut clock = HostClock::new(rt);
-            let mut places = TcpPlaces::new(rt);
+            let mut places = TcpPlaces::new(rt, rt.stderr().is_terminal());
             let status = run(
                 &rt,
                 rt.alloc(),

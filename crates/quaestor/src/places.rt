@@ -10,6 +10,7 @@ use std::fs::{File, Files};
 use std::io;
 use std::net::{Net, TcpListener, TcpStream};
 use std::rt::Clock;
+use std::sync::atomic::{AtomicU64, Ordering};
 use std::sync::{OnceLock, Wait};
 use tcp_doors::TcpDoors;
 
@@ -23,17 +24,23 @@ pub struct TcpPlaces<R: Drop> {
     address: OnceLock<String>,
     kept: Option<TcpDoors<R>>,
     link: Option<TcpLink>,
+    /// Whether someone looks at standard error.
+    is_watched: bool,
+    /// The second since 1970 in which it was last said how far a world has come.
+    noted_at: AtomicU64,
 }
 
 impl<R: AllocGlobal + Drop> TcpPlaces<R> {
-    /// Places without a fault yet.
-    pub fn new(rt: R) -> TcpPlaces<R> {
+    /// Places without a fault yet. How far a world has come is said where somebody watches.
+    pub fn new(rt: R, is_watched: bool) -> TcpPlaces<R> {
         TcpPlaces {
             address: OnceLock::new(),
             rt,
             faults: 0,
             kept: None,
             link: None,
+            is_watched,
+            noted_at: AtomicU64::new(0),
         }
     }
 }
@@ -158,6 +165,16 @@ where
 
     fn hear(&mut self, refusal: SessionRefusal) {
         let _ = eprint!(self.rt; "quaestor: the read has no answer: {refusal}\n");
+    }
+
+    fn note(&self, done: u32, count: u32) {
+        let Ok(passed) = self.rt.since_1970() else {
+            return;
+        };
+        let second = passed.as_secs();
+        if self.is_watched && self.noted_at.swap(second, Ordering::Relaxed) != second {
+            let _ = eprint!(self.rt; "quaestor: {done} of {count} steps\n");
+        }
     }
 
     fn keep_link(&mut self, link: TcpLink) {

@@ -13,7 +13,7 @@ use Rattle.clap.proofs.CallerLemmas.{required_has_value}
 use Rattle.clap.proofs.SimpleLemmas.{ready_simple, simple_groups}
 use Rattle.clap.proofs.TakesLemmas.{each_rule, free_arg}
 use Rattle.clap.proofs.WalkLemmas.{first_value-rows}
-use Rattle.quaestor_prog.specs.Commands.{word_rule, serve_app, read_app}
+use Rattle.quaestor_prog.specs.Commands.{word_rule, serve_app, read_app, world_app}
 
 abbrev is_other : Text → Rule → Bool
 is_other name r = not (bytes_eq r.id name)
@@ -152,6 +152,35 @@ read_level command m is parsed = word_given read_app command m is parsed 1 (code
 
 pub read_key : (command : Command) (m : ArgMatches) → app_of command ≡ read_app → IsParsedFrom command m → is_some (first_of (codes "KEY") (rows_of (found_of m))) ≡ true
 read_key command m is parsed = word_given read_app command m is parsed 2 (codes "KEY") (record {
+  ready = refl;
+  leaves = refl;
+  simple = refl;
+  free = refl;
+  negates = refl;
+  inside = omega arith;
+  rule = refl;
+  only = refl;
+  named = some _ (omega arith);
+  other = not_own _ (omega arith);
+})
+
+-- the two words of `world`
+pub world_seed : (command : Command) (m : ArgMatches) → app_of command ≡ world_app → IsParsedFrom command m → is_some (first_of (codes "SEED") (rows_of (found_of m))) ≡ true
+world_seed command m is parsed = word_given world_app command m is parsed 0 (codes "SEED") (record {
+  ready = refl;
+  leaves = refl;
+  simple = refl;
+  free = refl;
+  negates = refl;
+  inside = omega arith;
+  rule = refl;
+  only = refl;
+  named = some _ (omega arith);
+  other = not_own _ (omega arith);
+})
+
+pub world_steps : (command : Command) (m : ArgMatches) → app_of command ≡ world_app → IsParsedFrom command m → is_some (first_of (codes "STEPS") (rows_of (found_of m))) ≡ true
+world_steps command m is parsed = word_given world_app command m is parsed 1 (codes "STEPS") (record {
   ready = refl;
   leaves = refl;
   simple = refl;

@@ -9,7 +9,7 @@ use Rattle.q_base.specs.declared.moment.TheConstants.{GREATEST_SECONDS}
 use Rattle.q_outside.specs.Ends.{End, Ticks}
 use Rattle.q_outside.specs.declared.clocks.FixedClock.{FixedClock}
 use Rattle.q_outside.specs.declared.served.Served.{Served}
-use Rattle.quaestor_prog.specs.Run.{AreAt, AreTimed, IsRun}
+use Rattle.quaestor_prog.specs.Run.{AreAt, AreTimed, GaveWorld, IsRun}
 use Rattle.quaestor_prog.specs.Status.{status_of}
 use Rattle.clap.specs.Words.{Text}
 use Rattle.q_outside.specs.Doors.{DoorsView}
@@ -19,9 +19,9 @@ use Rattle.quaestor_prog.specs.Places.{PlacesView}
 use Rattle.quaestor_prog.specs.Reading.{HasRead}
 use Rattle.quaestor_prog.specs.Serving.{HasServed}
 use Rattle.client_session.specs.Link.{Exchange, LinkView}
-use Rattle.quaestor_prog.specs.Words.{IsPipe, IsRead, IsServe, ReadAsk, ServeAsk}
-use Rattle.quaestor_prog.proofs.CommandLemmas.{nothing_answered, faults_pipe, faults_serve, faults_read}
-use Rattle.quaestor_prog.proofs.WordLemmas.{one_pipe, one_ask, one_read}
+use Rattle.quaestor_prog.specs.Words.{IsPipe, IsRead, IsServe, IsWorld, ReadAsk, ServeAsk}
+use Rattle.quaestor_prog.proofs.CommandLemmas.{nothing_answered, faults_pipe, faults_serve, faults_read, faults_world}
+use Rattle.quaestor_prog.proofs.WordLemmas.{one_pipe, one_ask, one_read, one_world}
 use Rattle.quaestor_prog.specs.declared.status.Status.{Status}
 use Rattle.quaestor_server.specs.Conversation.{Conversation}
 
@@ -83,9 +83,17 @@ served_of source_at sink_at tick may doors_at places_at gives tells words a b si
 pub no_help_reading : (words : List Text) (ask : ReadAsk) → IsRead words ask → AskHelp words → ⊥
 no_help_reading words ask r help = nothing_answered _ r.taken (faults_read IsAnswered words r.named help)
 
+pub no_help_world : (words : List Text) (seed steps : ℕ) → IsWorld words seed steps → AskHelp words → ⊥
+no_help_world words seed steps w help = nothing_answered _ w.taken (faults_world IsAnswered words w.named help)
+
 -- what `read` did is said of what the words ask it for
 pub read_of : {P D L : Type 0} (link_at : L → LinkView) (answers : L → Exchange → L → Type 0) (places_at : P → PlacesView D L) (links : P → List ℕ → L → P → Type 0)
     (words : List Text) (a b : ReadAsk) (sink sink' : End) (places places' : P) (status : Status) → IsRead words a → IsRead words b
     → HasRead link_at answers places_at links a sink sink' places places' status → HasRead link_at answers places_at links b sink sink' places places' status
 read_of link_at answers places_at links words a b sink sink' places places' status p q reads =
     subst (λ (ask : ReadAsk). HasRead link_at answers places_at links ask sink sink' places places' status) (one_read words a b p q) reads
+
+-- so is what `world` wrote
+pub world_of : (words : List Text) (m n s t : ℕ) (sink sink' : End) (status : Status) → IsWorld words m s → IsWorld words n t → GaveWorld m s sink sink' status → GaveWorld n t sink sink' status
+world_of words m n s t sink sink' status p q text = let one = one_world words m n s t p q in
+    subst (λ k. GaveWorld k t sink sink' status) one.0 (subst (λ k. GaveWorld m k sink sink' status) one.1 text)

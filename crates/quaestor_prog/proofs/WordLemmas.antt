@@ -11,8 +11,8 @@ use Rattle.hub_core.specs.Config.{configured}
 use Rattle.hub_core.specs.declared.config.ConfigRefusal.{ConfigRefusal}
 use Rattle.hub_model.specs.Setting.{Setting, IsWithinLimits}
 use Rattle.q_outside.specs.declared.limits.Limits.{Limits}
-use Rattle.quaestor_prog.specs.declared.ranges.TheConstants.{MOST_PLACES, DEFAULT_PLACES, MOST_WORKERS, DEFAULT_WORKERS, MOST_MATCHERS, DEFAULT_MATCHERS, MOST_CONNECTIONS, MOST_SECONDS, DEFAULT_IDLE, DEFAULT_HEAD_TIME, DEFAULT_REPLY_TIME, MOST_RATE, DEFAULT_RATE, DEFAULT_GRACE}
-use Rattle.quaestor_prog.specs.Words.{IsCount, IsNumber, IsNumberIn, IsClock, IsConfiguration, IsPipe, IsServe, IsRead, AreLimits, AreOrigins, AreServeOptions, AreReadOptions, ReadAsk, ServeAsk, are_origins, level_word}
+use Rattle.quaestor_prog.specs.declared.ranges.TheConstants.{MOST_PLACES, DEFAULT_PLACES, MOST_WORKERS, DEFAULT_WORKERS, MOST_MATCHERS, DEFAULT_MATCHERS, MOST_CONNECTIONS, MOST_SECONDS, DEFAULT_IDLE, DEFAULT_HEAD_TIME, DEFAULT_REPLY_TIME, MOST_RATE, DEFAULT_RATE, DEFAULT_GRACE, MOST_SEED, MOST_STEPS}
+use Rattle.quaestor_prog.specs.Words.{IsCount, IsNumber, IsNumberIn, IsClock, IsConfiguration, IsPipe, IsServe, IsRead, IsWorld, AreLimits, AreOrigins, AreServeOptions, AreReadOptions, ReadAsk, ServeAsk, are_origins, level_word}
 
 -- the first word, as a text
 pub first_is : {A : Type 0} (f : A → Text) (xs : List A) (x : A) (t : Text) → slice_get xs 0 ≡ Some x → f x ≡ t → slice_get (map f xs) 0 ≡ Some t
@@ -210,6 +210,13 @@ one_read words a b p q = same_read a b
     (one_text _ a.address b.address p.options.address q.options.address)
     (one_level a.level b.level (one_text _ _ _ p.options.level q.options.level))
     (texts_tell a.key b.key p.options.is_key q.options.is_key (one_text _ _ _ p.options.key q.options.key))
+
+-- words ask `world` for one seed and one number of steps
+pub one_world : (words : List Text) (m n s t : ℕ) → IsWorld words m s → IsWorld words n t → (m ≡ n) × (s ≡ t)
+one_world words m n s t p q = (
+  decimal_injective m n (small m MOST_SEED (omega arith) p.options.0.2) (small n MOST_SEED (omega arith) q.options.0.2) (one_text _ _ _ p.options.0.0 q.options.0.0),
+  decimal_injective s t (small s MOST_STEPS (omega arith) p.options.1.2) (small t MOST_STEPS (omega arith) q.options.1.2) (one_text _ _ _ p.options.1.0 q.options.1.0),
+)
 
 skip : (b : Bool) (e r : Result Setting ConfigRefusal) → b ≡ false → (if b then e else r) ≡ r
 skip true e r is = absurd cc

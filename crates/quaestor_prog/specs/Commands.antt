@@ -42,6 +42,10 @@ serve_app = with_rule (with_limit_rules (with_rule (with_rule (with_rule (with_r
 abbrev pub read_app : App
 read_app = with_rule (with_rule (with_rule (versioned (codes "read")) (word_rule (codes "ADDR"))) (word_rule (codes "LEVEL"))) (word_rule (codes "KEY"))
 
+-- the command `world`
+abbrev pub world_app : App
+world_app = with_rule (with_rule (versioned (codes "world")) (word_rule (codes "SEED"))) (word_rule (codes "STEPS"))
+
 -- the program where no command is named: it has the flags `--help` and `--version` alone
 abbrev pub program_app : App
 program_app = record (versioned (codes "quaestor")) { top = record (versioned (codes "quaestor")).top { no_binary_name = true } }
@@ -58,9 +62,13 @@ NamesServe words = slice_get words 0 ≡ Some (codes "serve")
 abbrev pub NamesRead : List Text → Type 0
 NamesRead words = slice_get words 0 ≡ Some (codes "read")
 
+-- the first word names the command `world`
+abbrev pub NamesWorld : List Text → Type 0
+NamesWorld words = slice_get words 0 ≡ Some (codes "world")
+
 -- it names none of them
 abbrev pub NamesNone : List Text → Type 0
-NamesNone words = (NamesPipe words → ⊥) × (NamesServe words → ⊥) × (NamesRead words → ⊥)
+NamesNone words = (NamesPipe words → ⊥) × (NamesServe words → ⊥) × (NamesRead words → ⊥) × (NamesWorld words → ⊥)
 
 -- the kinds of error that clap has for the words, by the command that they name, are such
 abbrev pub FaultsAre : (Kinds → Type 0) → List Text → Type 0
@@ -68,6 +76,7 @@ FaultsAre such words =
     (NamesPipe words × such (fault_of pipe_app words))
     ⊎ (NamesServe words × such (fault_of serve_app words))
     ⊎ (NamesRead words × such (fault_of read_app words))
+    ⊎ (NamesWorld words × such (fault_of world_app words))
     ⊎ (NamesNone words × such (fault_of program_app words))
 
 -- clap answers with a text of help, or with the version

@@ -12,6 +12,7 @@ use Rattle.quaestor_prog.specs.Status.{status_of}
 use Rattle.quaestor_prog.specs.declared.status.Status.{Status}
 use Rattle.quaestor_prog.specs.declared.status.Status.TheVariants.{Done, Words, WriteFault, Memory}
 use Rattle.quaestor_server.specs.Conversation.{Conversation}
+use Rattle.world_core.specs.Text.{IsWorldText}
 
 -- each of the moments is that of the fixed clock
 abbrev pub AreAt : ℕ → List ℕ → Type 0
@@ -70,3 +71,16 @@ pub record IsHelped (a b : Sides) (tells : List ℕ → Type 0) (status : Status
 -- the connection was served, or nothing was begun, out of memory
 abbrev pub IsRun : Setting → Sides → Sides → (List ℕ → Type 0) → Status → Type 0
 IsRun g a b tells status = Pipes g a b tells status ⊎ IsUnbegun a b tells status
+
+-- the text of the world that a seed gives was given, or a beginning of it; or there was no memory for it
+abbrev pub GaveWorld : (seed steps : ℕ) → End → End → Status → Type 0
+GaveWorld seed steps before after Done = (text : List ℕ) × IsWorldText seed steps text × GaveBytes before after text
+GaveWorld seed steps before after WriteFault = (text : List ℕ) × IsWorldText seed steps text × GavePart before after text
+GaveWorld seed steps before after Memory = after ≡ before
+GaveWorld seed steps before after _ = ⊥
+
+-- The words ask for a world: its text was given, and nothing else was done.
+pub record HasWorld (seed steps : ℕ) (a b : Sides) (tells : List ℕ → Type 0) (status : Status) : Type 0 where
+  pub text : GaveWorld seed steps a.sink b.sink status
+  pub source : b.source ≡ a.source
+  pub ticks : tells []

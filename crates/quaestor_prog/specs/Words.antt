@@ -12,16 +12,16 @@ use Rattle.query_lang.specs.declared.key_reader.KeyRefusal.TheVariants.{BadKey}
 use Rattle.query_normal.specs.Keys.{key_text, IsKey}
 use Rattle.query_normal.specs.declared.key.KeyShape.{KeyShape}
 use Rattle.q_outside.specs.declared.limits.Limits.{Limits}
-use Rattle.quaestor_prog.specs.Commands.{pipe_app, serve_app, read_app, program_app, NamesPipe, NamesServe, NamesRead, NamesNone, AskHelp, FaultsAre}
-use Rattle.quaestor_prog.specs.declared.ranges.TheConstants.{MOST_PLACES, DEFAULT_PLACES, MOST_WORKERS, DEFAULT_WORKERS, MOST_MATCHERS, DEFAULT_MATCHERS, MOST_CONNECTIONS, MOST_SECONDS, DEFAULT_IDLE, DEFAULT_HEAD_TIME, DEFAULT_REPLY_TIME, MOST_RATE, DEFAULT_RATE, DEFAULT_GRACE}
+use Rattle.quaestor_prog.specs.Commands.{pipe_app, serve_app, read_app, world_app, program_app, NamesPipe, NamesServe, NamesRead, NamesWorld, NamesNone, AskHelp, FaultsAre}
+use Rattle.quaestor_prog.specs.declared.ranges.TheConstants.{MOST_PLACES, DEFAULT_PLACES, MOST_WORKERS, DEFAULT_WORKERS, MOST_MATCHERS, DEFAULT_MATCHERS, MOST_CONNECTIONS, MOST_SECONDS, DEFAULT_IDLE, DEFAULT_HEAD_TIME, DEFAULT_REPLY_TIME, MOST_RATE, DEFAULT_RATE, DEFAULT_GRACE, MOST_SEED, MOST_STEPS}
 use Rattle.quaestor_prog.specs.declared.refusal.BadValue.{BadValue}
-use Rattle.quaestor_prog.specs.declared.refusal.BadValue.TheVariants.{Number, Lifetimes, NoLevel, NoKey, NoOrigins}
+use Rattle.quaestor_prog.specs.declared.refusal.BadValue.TheVariants.{Number, Lifetimes, Argument, NoLevel, NoKey, NoOrigins}
 use Rattle.quaestor_prog.specs.declared.refusal.Refusal.{Refusal}
 use Rattle.quaestor_prog.specs.declared.refusal.Refusal.TheVariants as why
 use Rattle.quaestor_prog.specs.declared.words.Invocation.{Invocation}
 use Rattle.quaestor_prog.specs.declared.words.ServeOptions.{ServeOptions}
 use Rattle.quaestor_prog.specs.declared.words.ReadOptions.{ReadOptions}
-use Rattle.quaestor_prog.specs.declared.words.Invocation.TheVariants.{Pipe, Serve, Read, Help, Invalid}
+use Rattle.quaestor_prog.specs.declared.words.Invocation.TheVariants.{Pipe, Serve, Read, World, Help, Invalid}
 
 -- the number that an option shows in decimal digits without a sign and without leading zeros; the default where it is not given
 abbrev pub IsNumber : Option Text → ℕ → ℕ → Type 0
@@ -146,12 +146,27 @@ pub record IsRead (words : List Text) (ask : ReadAsk) : Type 0 where
   pub taken : fault_of read_app words ≡ []
   pub options : AreReadOptions (matches_of read_app words) ask
 
+-- a positional word shows a number of its range
+abbrev pub IsArgument : List Row → Text → (least most n : ℕ) → Type 0
+IsArgument found word least most n = (first_of word found ≡ Some (decimal n)) × (least ≤ n) × (n ≤ most)
+
+-- the words of `world`, by what clap found for each: the seed, and the number of steps
+abbrev pub AreWorldOptions : List Row → (seed steps : ℕ) → Type 0
+AreWorldOptions found seed steps = IsArgument found (codes "SEED") 0 MOST_SEED seed × IsArgument found (codes "STEPS") 1 MOST_STEPS steps
+
+-- The words are `world` and two numbers, which are these.
+pub record IsWorld (words : List Text) (seed steps : ℕ) : Type 0 where
+  pub named : NamesWorld words
+  pub taken : fault_of world_app words ≡ []
+  pub options : AreWorldOptions (matches_of world_app words) seed steps
+
 -- the words run a command
 abbrev pub AreRun : List Text → Type 0
 AreRun words =
     ((g : Setting) × (at : Option ℕ) × IsPipe words g at)
     ⊎ ((ask : ServeAsk) × IsServe words ask)
     ⊎ ((ask : ReadAsk) × IsRead words ask)
+    ⊎ ((seed : ℕ) × (steps : ℕ) × IsWorld words seed steps)
 
 -- the words run a command, or ask for a help or for the version
 abbrev pub AreTaken : List Text → Type 0
@@ -177,12 +192,19 @@ IsRange option least most =
     ⊎ ((option ≡ codes "least-rate") × (least ≡ 1) × (most ≡ MOST_RATE))
     ⊎ ((option ≡ codes "grace") × (least ≡ 0) × (most ≡ MOST_SECONDS))
 
--- what is refused of the values: an option shows no number of its range, the least lifetime is above the greatest, a word is that of no level or of no key, or a text is not that of origins
+-- the least and the greatest number of a positional word
+abbrev pub IsArgumentRange : Text → ℕ → ℕ → Type 0
+IsArgumentRange word least most =
+    ((word ≡ codes "SEED") × (least ≡ 0) × (most ≡ MOST_SEED)) ⊎ ((word ≡ codes "STEPS") × (least ≡ 1) × (most ≡ MOST_STEPS))
+
+-- what is refused of the values: an option or a word shows no number of its range, the least lifetime is above the greatest, a word is that of no level or of no key, or a text is not that of origins
 abbrev pub IsBadValue : List Row → BadValue → Type 0
 IsBadValue found (Number option text least most) =
     IsRange option.now least most × (first_of option.now found ≡ Some text.now) × ((n : ℕ) → text.now ≡ decimal n → least ≤ n → n ≤ most → ⊥)
 IsBadValue found (Lifetimes low high) =
     IsNumber (first_of (codes "ttl-low") found) default_setting.ttl_low low × IsNumber (first_of (codes "ttl-high") found) default_setting.ttl_high high × (high < low)
+IsBadValue found (Argument word text least most) =
+    IsArgumentRange word.now least most × (first_of word.now found ≡ Some text.now) × ((n : ℕ) → text.now ≡ decimal n → least ≤ n → n ≤ most → ⊥)
 IsBadValue found (NoLevel text) = (first_of (codes "LEVEL") found ≡ Some text.now) × ((l : Level) → text.now ≡ level_word l → ⊥)
 IsBadValue found (NoKey text place) = (first_of (codes "KEY") found ≡ Some text.now) × (read_key text.now ≡ Err (BadKey place))
 IsBadValue found (NoOrigins text) = (first_of (codes "allow-origin") found ≡ Some text.now) × (are_origins text.now ≡ false)
@@ -193,6 +215,7 @@ FoundAre such words =
     (NamesPipe words × (fault_of pipe_app words ≡ []) × such (matches_of pipe_app words))
     ⊎ (NamesServe words × (fault_of serve_app words ≡ []) × such (matches_of serve_app words))
     ⊎ (NamesRead words × (fault_of read_app words ≡ []) × such (matches_of read_app words))
+    ⊎ (NamesWorld words × (fault_of world_app words ≡ []) × such (matches_of world_app words))
 
 -- why the words are refused: they name no command and clap finds no fault; clap's fault; or a value, where clap finds none
 abbrev pub IsReason : List Text → Refusal → Type 0
@@ -230,6 +253,7 @@ abbrev pub Asks : List Text → Invocation → Type 0
 Asks words (Pipe p) = IsPipe words p.config p.clock
 Asks words (Serve s) = IsServe words (ask_of s)
 Asks words (Read r) = IsRead words (read_ask_of r)
+Asks words (World w) = IsWorld words w.seed w.steps
 Asks words (Help text) = AskHelp words
 Asks words (Invalid refusal) = (AreTaken words → ⊥) × IsReason words refusal
 
@@ -238,6 +262,7 @@ abbrev pub IsAnswerOf : {E : Type 0} → ErrorKind → Result Invocation E → T
 IsAnswerOf of (Ok (Pipe p)) = ⊥
 IsAnswerOf of (Ok (Serve s)) = ⊥
 IsAnswerOf of (Ok (Read r)) = ⊥
+IsAnswerOf of (Ok (World w)) = ⊥
 IsAnswerOf of (Ok (Help text)) = (of ≡ kind.DisplayHelp) ⊎ (of ≡ kind.DisplayVersion)
 IsAnswerOf of (Ok (Invalid (why.Words error))) = (of ≢ kind.OutOfMemory) × (of ≢ kind.DisplayHelp) × (of ≢ kind.DisplayVersion) × (kind_of error ≡ of)
 IsAnswerOf of (Ok (Invalid refusal)) = ⊥

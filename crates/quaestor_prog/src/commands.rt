@@ -1,7 +1,7 @@
 //! The commands as clap reads them.
 ghost use Rattle.std.specs.Prelude.{◌≡◌, codes, false, IfOk};
 ghost use Rattle.clap.specs.Words.{app_of, rule_of, with_rule};
-ghost use Rattle.quaestor_prog.specs.Commands.{option_rule, pipe_app, program_app, read_app, serve_app, versioned, with_limit_rules, with_setting_rules, word_rule};
+ghost use Rattle.quaestor_prog.specs.Commands.{option_rule, pipe_app, program_app, read_app, serve_app, versioned, with_limit_rules, with_setting_rules, word_rule, world_app};
 
 use clap::{Arg, ArgAction, Command};
 use std::alloc::{AllocError, Global};
@@ -11,7 +11,7 @@ const VERSION: &str = "0.1.0";
 
 /// The commands, at the end of the help of the program.
 const COMMANDS: &str =
-    "Commands:\n  pipe   Serves standard input as one connection\n  serve  Serves the connections that come to an address\n  read   Reads a key at the server of an address\n\nquaestor COMMAND --help shows the options of a command.";
+    "Commands:\n  pipe   Serves standard input as one connection\n  serve  Serves the connections that come to an address\n  read   Reads a key at the server of an address\n  world  Runs a server, two caches and three clients by numbers that a seed gives\n\nquaestor COMMAND --help shows the options of a command.";
 
 /// The program where no command is named.
 pub(crate) fn program_command<'a>(alloc: Global) -> Result<Command<'a>, AllocError>
@@ -111,6 +111,21 @@ pub(crate) fn read_command<'a>(alloc: Global) -> Result<Command<'a>, AllocError>
         "r/COLLECTION/ID, or q/COLLECTION/KIND/f=FILTER;o=ORDER;s=SKIP;n=TAKE, where KIND is objects or ids",
     )?;
     Ok(key)
+}
+
+/// The command `world`.
+pub(crate) fn world_command<'a>(alloc: Global) -> Result<Command<'a>, AllocError>
+    ensures { IfOk result (λ c. app_of c ≡ world_app) }
+{
+    let bare = bare_world(alloc)?;
+    let seed = with_word(
+        alloc,
+        bare,
+        "SEED",
+        "The number that gives all steps, 0 to 18446744073709551615",
+    )?;
+    let steps = with_word(alloc, seed, "STEPS", "How many steps, 1 to 1000000")?;
+    Ok(steps)
 }
 
 /// The command with the options of the limits of time.
@@ -262,6 +277,19 @@ fn bare_read<'a>(alloc: Global) -> Result<Command<'a>, AllocError>
             "Fetches the page of a server, reads a key by a new session, and writes its commit, its way and what it has",
         )
         .bin_name("quaestor read")?
+        .display_name("quaestor")
+}
+
+/// The command `world` without its words.
+fn bare_world<'a>(alloc: Global) -> Result<Command<'a>, AllocError>
+    ensures { IfOk result (λ c. app_of c ≡ versioned (codes "world")) }
+{
+    Command::new(alloc, "world")
+        .version(VERSION)
+        .about(
+            "Runs a server, two caches and three clients in memory, and writes a line for each read and a summary",
+        )
+        .bin_name("quaestor world")?
         .display_name("quaestor")
 }
 

@@ -18,4 +18,4 @@ pub use program::{refusal_of, run};
 pub use reading::{ReadEnd, read_once};
 pub use refusal::{BadValue, Refusal};
 pub use status::Status;
-pub use words::{PipeOptions, ReadOptions, ServeOptions};
+pub use words::{PipeOptions, ReadOptions, ServeOptions, WorldOptions};

@@ -126,6 +126,8 @@ where
         self.heard = Some(refusal);
     }
 
+    fn note(&self, _done: u32, _count: u32) {}
+
     fn keep_link(&mut self, link: ListLink) {
         self.link = Some(link);
     }

@@ -54,6 +54,9 @@ pub trait Places {
     fn hear(&mut self, refusal: SessionRefusal)
         ensures { at self.new ≡ at self.old };
 
+    /// Hears now and then how many of the steps of a world are done, for a message. It takes no memory.
+    fn note(&self, done: u32, count: u32);
+
     /// Hands a link back. It takes no memory.
     fn keep_link(&mut self, link: Self::Link)
         ensures { at self.new ≡ record (at self.old) { link = Some link } };

@@ -5,15 +5,15 @@ ghost use Rattle.q_outside.specs.Ends.{Ticks};
 ghost use Rattle.quaestor_prog.specs.Commands.{AskHelp};
 ghost use Rattle.quaestor_prog.specs.Reading.{IsReading};
 ghost use Rattle.quaestor_prog.specs.Serving.{IsServing};
-ghost use Rattle.quaestor_prog.specs.Run.{AreTimed, IsHelped, IsRefused, IsRun, IsText, IsUnbegun, IsUsage};
-ghost use Rattle.quaestor_prog.specs.Words.{AreTaken, IsPipe, IsRead, IsReason, IsServe, ReadAsk, ServeAsk};
+ghost use Rattle.quaestor_prog.specs.Run.{AreTimed, GaveWorld, HasWorld, IsHelped, IsRefused, IsRun, IsText, IsUnbegun, IsUsage};
+ghost use Rattle.quaestor_prog.specs.Words.{AreTaken, IsPipe, IsRead, IsReason, IsServe, IsWorld, ReadAsk, ServeAsk};
 
 use crate::places::Places;
 use crate::reading::read_at;
 use crate::refusal::Refusal;
 use crate::serving::serve_at;
 use crate::status::Status;
-use crate::words::{Invocation, read_words};
+use crate::words::{Invocation, WorldOptions, read_words};
 use clap::Error;
 use q_base::{Memory, Moment};
 use q_outside::{Clock, Failed, FixedClock, Sink, Source, give_all};
@@ -22,6 +22,7 @@ use std::alloc::Global;
 use std::mem::ManuallyDrop;
 use std::sync::Wait;
 use std::thread::Threads;
+use world_core::{Watch, world_text};
 
 /// The line that is written for words that no command takes.
 const USAGE: &[u8] = b"usage: quaestor pipe, serve, read or world\n";
@@ -33,7 +34,8 @@ const USAGE: &[u8] = b"usage: quaestor pipe, serve, read or world\n";
 /// a clock that stays at N seconds after 1970. `serve` serves the connections that come to an address,
 /// each in a thread of its own, over one store that begins empty; the sink gets a line before the first
 /// and one behind the last. `read` fetches a page and reads a key over a link to the server of an address,
-/// and writes the answer; where there is none, the places hear why. `--help` and
+/// and writes the answer; where there is none, the places hear why. `world` runs the steps that a seed gives
+/// over a server, two caches and three clients in memory, and writes what they read. `--help` and
 /// `--version` write a text to the sink.
 pub fn run<S: Source, K: Sink, C, P: Places, R>(
     rt: &R,
@@ -62,6 +64,11 @@ where
         (record { source = S.at source.old; sink = K.at sink.old })
         (record { source = S.at source.new; sink = K.at sink.new })
         clock.old clock.new places.old places.new result }
+    ensures world { (seed steps : ℕ) → IsWorld (map string_bytes words.now) seed steps
+        → HasWorld seed steps (record { source = S.at source.old; sink = K.at sink.old })
+        (record { source = S.at source.new; sink = K.at sink.new })
+        (AreTimed C.tick clock.old clock.new None) result
+        × (places.new ≡ places.old) }
     ensures help { AskHelp (map string_bytes words.now)
         → (IsHelped (record { source = S.at source.old; sink = K.at sink.old })
         (record { source = S.at source.new; sink = K.at sink.new })
@@ -90,6 +97,7 @@ where
         ),
         Ok(Invocation::Serve(options)) => serve_at(rt, alloc, options, sink, &*clock, places),
         Ok(Invocation::Read(options)) => read_at(alloc, &options, sink, places),
+        Ok(Invocation::World(options)) => show_world(alloc, options, sink, &*places),
         Ok(Invocation::Help(text)) => show(alloc, &text, sink),
         Ok(Invocation::Invalid(_)) => refuse(sink),
         Err(_) => Status::Memory,
@@ -107,6 +115,7 @@ pub fn refusal_of<'a>(alloc: Global, words: &'a [String]) -> Result<Option<Refus
         Invocation::Pipe(_) => Ok(None),
         Invocation::Serve(_) => Ok(None),
         Invocation::Read(_) => Ok(None),
+        Invocation::World(_) => Ok(None),
         Invocation::Help(_) => Ok(None),
     }
 }
@@ -158,6 +167,43 @@ fn pipe<S: Source, K: Sink, C: Clock>(
     // The process ends next, which returns the store's memory at once.
     let _left = ManuallyDrop::new(desk);
     Status::of(served.why)
+}
+
+/// Lets places hear how far a world has come.
+#[derive(Drop)]
+struct Listener<'a, P: Places> {
+    places: &'a P,
+    count: u32,
+}
+
+impl<P: Places> Watch for Listener<'_, P> {
+    fn told(&mut self, done: u32) {
+        self.places.note(done, self.count);
+    }
+}
+
+/// Runs a world, writes what its clients read, and ends the sink.
+fn show_world<K: Sink, P: Places>(
+    alloc: Global,
+    options: WorldOptions,
+    sink: &mut K,
+    places: &P,
+) -> Status
+    ensures { GaveWorld options.seed options.steps (K.at sink.old) (K.at sink.new) result }
+{
+    let mut listener = Listener {
+        places,
+        count: options.steps,
+    };
+    let Ok(text) = world_text(alloc, options.seed, options.steps, &mut listener) else {
+        return Status::Memory;
+    };
+    let given = give_all(sink, text.as_slice());
+    sink.end();
+    match given {
+        Ok(()) => Status::Done,
+        Err(Failed) => Status::WriteFault,
+    }
 }
 
 /// Writes the usage line, and ends the sink.

@@ -1,4 +1,4 @@
-//! The numbers that the options of `serve` may have. Definitions and code read them
+//! The numbers that the options of `serve` and the words of `world` may have. Definitions and code read them
 //! here.
 
 /// How many connections may be there at the same time.
@@ -42,3 +42,9 @@ pub(crate) const DEFAULT_RATE: u64 = 1_000;
 
 /// How many seconds a server that was told to end goes on answering, where none is given.
 pub(crate) const DEFAULT_GRACE: u64 = 10;
+
+/// The greatest seed of a world, 2^64 - 1.
+pub(crate) const MOST_SEED: u64 = 18_446_744_073_709_551_615;
+
+/// How many steps a world may have.
+pub(crate) const MOST_STEPS: u64 = 1_000_000;

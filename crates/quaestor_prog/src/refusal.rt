@@ -30,6 +30,13 @@ pub enum BadValue<'a> {
         low: u64,
         high: u64,
     },
+    /// A word is no such number.
+    Argument {
+        word: &'static str,
+        found: &'a str,
+        least: u64,
+        most: u64,
+    },
     /// It is no level of a session.
     NoLevel {
         found: &'a str,
@@ -62,6 +69,15 @@ impl fmt::Display for BadValue<'_> {
             BadValue::Lifetimes { low, high } => {
                 write!(f, "--ttl-low, {low}, is above --ttl-high, {high}")
             }
+            BadValue::Argument {
+                word,
+                found,
+                least,
+                most,
+            } => write!(
+                f,
+                "{word} is a decimal number from {least} to {most}, not '{found}'"
+            ),
             BadValue::NoLevel { found } => {
                 write!(f, "LEVEL is session, causal or strong, not '{found}'")
             }

@@ -4,15 +4,15 @@ ghost use Rattle.std.specs.List.{list_all};
 ghost use Rattle.clap.specs.Words.{Text, first_of, found_of, kind_of, rows_of};
 ghost use Rattle.client_core.specs.declared.level.Level.{Level as ALevel};
 ghost use Rattle.hub_model.specs.Setting.{Setting};
-ghost use Rattle.quaestor_prog.specs.Commands.{NamesNone, NamesPipe, NamesRead, NamesServe};
+ghost use Rattle.quaestor_prog.specs.Commands.{NamesNone, NamesPipe, NamesRead, NamesServe, NamesWorld};
 ghost use Rattle.q_outside.specs.declared.limits.Limits.{Limits as LimitsOf};
-ghost use Rattle.quaestor_prog.specs.Words.{AreLimits, AreOptions, AreOrigins, AreServeOptions, FoundRead, IsCount, Asks, IsNumberIn, ServeAsk, ask_of, asked_with, are_origins, are_web_origins, is_host_byte, is_of_scheme, is_web_origin, IsAnswerOf, IsBadValue, IsClock, IsConfiguration, IsNumber, IsRange, IsServeOf, level_word};
+ghost use Rattle.quaestor_prog.specs.Words.{AreLimits, AreOptions, AreOrigins, AreServeOptions, AreWorldOptions, FoundRead, IsCount, Asks, IsArgument, IsArgumentRange, IsNumberIn, ServeAsk, ask_of, asked_with, are_origins, are_web_origins, is_host_byte, is_of_scheme, is_web_origin, IsAnswerOf, IsBadValue, IsClock, IsConfiguration, IsNumber, IsRange, IsServeOf, level_word};
 
-use crate::commands::{pipe_command, program_command, read_command, serve_command};
+use crate::commands::{pipe_command, program_command, read_command, serve_command, world_command};
 use crate::ranges::{
     DEFAULT_GRACE, DEFAULT_HEAD_TIME, DEFAULT_IDLE, DEFAULT_MATCHERS, DEFAULT_PLACES, DEFAULT_RATE,
     DEFAULT_REPLY_TIME, DEFAULT_WORKERS, MOST_CONNECTIONS, MOST_MATCHERS, MOST_PLACES, MOST_RATE,
-    MOST_SECONDS, MOST_WORKERS,
+    MOST_SECONDS, MOST_SEED, MOST_STEPS, MOST_WORKERS,
 };
 use crate::refusal::{BadValue, Refusal};
 use clap::error::ErrorKind;
@@ -65,6 +65,15 @@ pub struct ReadOptions<'a> {
     pub key: Key,
 }
 
+/// The words of the command `world`.
+#[derive(Clone, Copy, Debug, PartialEq, Eq)]
+pub struct WorldOptions {
+    /// The number that gives the steps.
+    pub seed: u64,
+    /// How many steps are made.
+    pub steps: u32,
+}
+
 /// What the words of a command line ask for.
 #[derive(Debug, Drop)]
 pub(crate) enum Invocation<'a> {
@@ -74,6 +83,8 @@ pub(crate) enum Invocation<'a> {
     Serve(ServeOptions<'a>),
     /// To read a key.
     Read(ReadOptions<'a>),
+    /// To run a world.
+    World(WorldOptions),
     /// To show this text, of the help or of the version.
     Help(Error),
     /// Nothing, since no command takes them.
@@ -88,6 +99,7 @@ pub(crate) fn read_words<'a>(alloc: Global, words: &'a [String]) -> Result<Invoc
         Some(first) if is_text(first, "pipe") => read_pipe(alloc, words),
         Some(first) if is_text(first, "serve") => read_serve(alloc, words),
         Some(first) if is_text(first, "read") => read_read(alloc, words),
+        Some(first) if is_text(first, "world") => read_world(alloc, words),
         _ => read_program(alloc, words),
     }
 }
@@ -146,6 +158,20 @@ fn read_read<'a>(alloc: Global, words: &'a [String]) -> Result<Invocation<'a>, M
 {
     match read_command(alloc)?.try_get_matches_from(words) {
         Ok(matches) => read_options(alloc, &matches),
+        Err(error) => answer_of(error),
+    }
+}
+
+/// What the words of the command `world` ask for.
+fn read_world<'a>(alloc: Global, words: &'a [String]) -> Result<Invocation<'a>, Memory>
+    requires { NamesWorld (map string_bytes words.now) }
+    ensures { IfOk result (Asks (map string_bytes words.entry.now)) }
+{
+    match world_command(alloc)?.try_get_matches_from(words) {
+        Ok(matches) => match world_options(&matches) {
+            Ok(options) => Ok(Invocation::World(options)),
+            Err(value) => Ok(Invocation::Invalid(Refusal::Value(value))),
+        },
         Err(error) => answer_of(error),
     }
 }
@@ -264,6 +290,47 @@ fn level_of(text: &str) -> Option<Level>
         "causal" => Some(Level::Causal),
         "strong" => Some(Level::Strong),
         _ => None,
+    }
+}
+
+/// The two words of `world`, by what clap found.
+fn world_options<'a>(matches: &ArgMatches<'a>) -> Result<WorldOptions, BadValue<'a>>
+    requires seed { is_some (first_of (codes "SEED") (rows_of (found_of matches.now))) ≡ true }
+    requires steps { is_some (first_of (codes "STEPS") (rows_of (found_of matches.now))) ≡ true }
+    ensures ok { IfOk result (λ w. AreWorldOptions (rows_of (found_of matches.now)) w.seed w.steps) }
+    ensures err { IfErr result (λ _. (seed steps : ℕ) → AreWorldOptions (rows_of (found_of matches.now)) seed steps → ⊥) }
+    ensures value { IfErr result (IsBadValue (rows_of (found_of matches.now))) }
+{
+    let seed = argument_of(matches, "SEED", 0, MOST_SEED)?;
+    let steps = argument_of(matches, "STEPS", 1, MOST_STEPS)?;
+    Ok(WorldOptions {
+        seed,
+        steps: steps as u32,
+    })
+}
+
+/// The number of a word.
+fn argument_of<'a>(
+    matches: &ArgMatches<'a>,
+    word: &'static str,
+    least: u64,
+    most: u64,
+) -> Result<u64, BadValue<'a>>
+    requires given { is_some (first_of word.now (rows_of (found_of matches.now))) ≡ true }
+    requires range { IsArgumentRange word.now least most }
+    ensures ok { IfOk result (IsArgument (rows_of (found_of matches.now)) word.now least most) }
+    ensures err { IfErr result (λ _. (n : ℕ) → IsArgument (rows_of (found_of matches.now)) word.now least most n → ⊥) }
+    ensures value { IfErr result (IsBadValue (rows_of (found_of matches.now))) }
+{
+    let found = word_of(matches, word);
+    match number_within(found, least, most) {
+        Some(number) => Ok(number),
+        None => Err(BadValue::Argument {
+            word,
+            found,
+            least,
+            most,
+        }),
     }
 }
 

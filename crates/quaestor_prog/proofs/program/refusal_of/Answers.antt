@@ -12,4 +12,7 @@ pub returns-in-Serve-clause-none : goal.returns-in-Serve-clause-none
 returns-in-Serve-clause-none c = inl (inr (inl (_, rw c.in-Serve.is at c.in_ok-refusal.ensures)))
 
 pub returns-in-Read-clause-none : goal.returns-in-Read-clause-none
-returns-in-Read-clause-none c = inl (inr (inr (_, rw c.in-Read.is at c.in_ok-refusal.ensures)))
+returns-in-Read-clause-none c = inl (inr (inr (inl (_, rw c.in-Read.is at c.in_ok-refusal.ensures))))
+
+pub returns-in-World-clause-none : goal.returns-in-World-clause-none
+returns-in-World-clause-none c = inl (inr (inr (inr (_, _, rw c.in-World.is at c.in_ok-refusal.ensures))))

@@ -1,7 +1,7 @@
 -- the words ask for one thing, or for none
 use Rattle.std.proofs.Common.{refl, inl, inr}
-use Rattle.quaestor_prog.proofs.CommandLemmas.{pipe_serve, pipe_read, serve_read}
-use Rattle.quaestor_prog.proofs.RunLemmas.{run_of, served_of, read_of, no_help, no_help_serving, no_help_reading}
+use Rattle.quaestor_prog.proofs.CommandLemmas.{pipe_serve, pipe_read, pipe_world, serve_read, serve_world, read_world}
+use Rattle.quaestor_prog.proofs.RunLemmas.{run_of, served_of, read_of, world_of, no_help, no_help_serving, no_help_reading, no_help_world}
 use Rattle.quaestor_prog.proofs.program.run.Goals as goal
 
 -- ---- pipe
@@ -14,6 +14,9 @@ returns-in-Ok-Pipe-clause-serve g c = λ ask is. let pipe = rw c.in-Ok-Pipe.fiel
 
 pub returns-in-Ok-Pipe-clause-read : goal.returns-in-Ok-Pipe-clause-read
 returns-in-Ok-Pipe-clause-read g c = λ ask is. let pipe = rw c.in-Ok-Pipe.field-0-is at c.in-Ok-Pipe.ensures in absurd (pipe_read _ pipe.named is.named)
+
+pub returns-in-Ok-Pipe-clause-world : goal.returns-in-Ok-Pipe-clause-world
+returns-in-Ok-Pipe-clause-world g c = λ seed steps is. let pipe = rw c.in-Ok-Pipe.field-0-is at c.in-Ok-Pipe.ensures in absurd (pipe_world _ pipe.named is.named)
 
 pub returns-in-Ok-Pipe-clause-help : goal.returns-in-Ok-Pipe-clause-help
 returns-in-Ok-Pipe-clause-help g c = λ help. absurd (no_help _ _ _ (rw c.in-Ok-Pipe.field-0-is at c.in-Ok-Pipe.ensures) help)
@@ -32,6 +35,9 @@ returns-in-Ok-Serve-clause-serve g c = λ ask is. (refl, refl, inr (served_of _ 
 pub returns-in-Ok-Serve-clause-read : goal.returns-in-Ok-Serve-clause-read
 returns-in-Ok-Serve-clause-read g c = λ ask is. let serve = rw c.in-Ok-Serve.field-0-is at c.in-Ok-Serve.ensures in absurd (serve_read _ serve.named is.named)
 
+pub returns-in-Ok-Serve-clause-world : goal.returns-in-Ok-Serve-clause-world
+returns-in-Ok-Serve-clause-world g c = λ seed steps is. let serve = rw c.in-Ok-Serve.field-0-is at c.in-Ok-Serve.ensures in absurd (serve_world _ serve.named is.named)
+
 pub returns-in-Ok-Serve-clause-help : goal.returns-in-Ok-Serve-clause-help
 returns-in-Ok-Serve-clause-help g c = λ help. absurd (no_help_serving _ _ (rw c.in-Ok-Serve.field-0-is at c.in-Ok-Serve.ensures) help)
 
@@ -49,11 +55,41 @@ returns-in-Ok-Read-clause-serve g c = λ ask is. let reads = rw c.in-Ok-Read.fie
 pub returns-in-Ok-Read-clause-read : goal.returns-in-Ok-Read-clause-read
 returns-in-Ok-Read-clause-read g c = λ ask is. (refl, refl, inr (read_of _ _ _ _ _ _ ask _ _ _ _ _ (rw c.in-Ok-Read.field-0-is at c.in-Ok-Read.ensures) is c.read_at.ensures))
 
+pub returns-in-Ok-Read-clause-world : goal.returns-in-Ok-Read-clause-world
+returns-in-Ok-Read-clause-world g c = λ seed steps is. let reads = rw c.in-Ok-Read.field-0-is at c.in-Ok-Read.ensures in absurd (read_world _ reads.named is.named)
+
 pub returns-in-Ok-Read-clause-help : goal.returns-in-Ok-Read-clause-help
 returns-in-Ok-Read-clause-help g c = λ help. absurd (no_help_reading _ _ (rw c.in-Ok-Read.field-0-is at c.in-Ok-Read.ensures) help)
 
 pub returns-in-Ok-Read-clause-usage : goal.returns-in-Ok-Read-clause-usage
-returns-in-Ok-Read-clause-usage g c = λ none. absurd (none (inl (inr (inr (_, rw c.in-Ok-Read.field-0-is at c.in-Ok-Read.ensures)))))
+returns-in-Ok-Read-clause-usage g c = λ none. absurd (none (inl (inr (inr (inl (_, rw c.in-Ok-Read.field-0-is at c.in-Ok-Read.ensures))))))
+
+-- ---- world
+
+pub returns-in-Ok-World-clause-pipe : goal.returns-in-Ok-World-clause-pipe
+returns-in-Ok-World-clause-pipe g c = λ h at is. let world = rw c.in-Ok-World.field-0-is at c.in-Ok-World.ensures in absurd (pipe_world _ is.named world.named)
+
+pub returns-in-Ok-World-clause-serve : goal.returns-in-Ok-World-clause-serve
+returns-in-Ok-World-clause-serve g c = λ ask is. let world = rw c.in-Ok-World.field-0-is at c.in-Ok-World.ensures in absurd (serve_world _ is.named world.named)
+
+pub returns-in-Ok-World-clause-read : goal.returns-in-Ok-World-clause-read
+returns-in-Ok-World-clause-read g c = λ ask is. let world = rw c.in-Ok-World.field-0-is at c.in-Ok-World.ensures in absurd (read_world _ is.named world.named)
+
+pub returns-in-Ok-World-clause-world : goal.returns-in-Ok-World-clause-world
+returns-in-Ok-World-clause-world g c = λ seed steps is. (
+  record {
+    text = world_of _ _ seed _ steps _ _ _ (rw c.in-Ok-World.field-0-is at c.in-Ok-World.ensures) is c.show_world.ensures;
+    source = refl;
+    ticks = refl;
+  },
+  refl,
+)
+
+pub returns-in-Ok-World-clause-help : goal.returns-in-Ok-World-clause-help
+returns-in-Ok-World-clause-help g c = λ help. absurd (no_help_world _ _ _ (rw c.in-Ok-World.field-0-is at c.in-Ok-World.ensures) help)
+
+pub returns-in-Ok-World-clause-usage : goal.returns-in-Ok-World-clause-usage
+returns-in-Ok-World-clause-usage g c = λ none. absurd (none (inl (inr (inr (inr (_, _, rw c.in-Ok-World.field-0-is at c.in-Ok-World.ensures))))))
 
 -- ---- help
 
@@ -65,6 +101,9 @@ returns-in-Ok-Help-clause-serve g c = λ ask is. absurd (no_help_serving _ ask i
 
 pub returns-in-Ok-Help-clause-read : goal.returns-in-Ok-Help-clause-read
 returns-in-Ok-Help-clause-read g c = λ ask is. absurd (no_help_reading _ ask is (rw c.in-Ok-Help.field-0-is at c.in-Ok-Help.ensures))
+
+pub returns-in-Ok-Help-clause-world : goal.returns-in-Ok-Help-clause-world
+returns-in-Ok-Help-clause-world g c = λ seed steps is. absurd (no_help_world _ seed steps is (rw c.in-Ok-Help.field-0-is at c.in-Ok-Help.ensures))
 
 pub returns-in-Ok-Help-clause-usage : goal.returns-in-Ok-Help-clause-usage
 returns-in-Ok-Help-clause-usage g c = λ none. absurd (none (inr (rw c.in-Ok-Help.field-0-is at c.in-Ok-Help.ensures)))
@@ -78,7 +117,10 @@ pub returns-in-Ok-Invalid-clause-serve : goal.returns-in-Ok-Invalid-clause-serve
 returns-in-Ok-Invalid-clause-serve g c = λ ask is. let asks = rw c.in-Ok-Invalid.field-0-is at c.in-Ok-Invalid.ensures in absurd (asks.0 (inl (inr (inl (ask, is)))))
 
 pub returns-in-Ok-Invalid-clause-read : goal.returns-in-Ok-Invalid-clause-read
-returns-in-Ok-Invalid-clause-read g c = λ ask is. let asks = rw c.in-Ok-Invalid.field-0-is at c.in-Ok-Invalid.ensures in absurd (asks.0 (inl (inr (inr (ask, is)))))
+returns-in-Ok-Invalid-clause-read g c = λ ask is. let asks = rw c.in-Ok-Invalid.field-0-is at c.in-Ok-Invalid.ensures in absurd (asks.0 (inl (inr (inr (inl (ask, is))))))
+
+pub returns-in-Ok-Invalid-clause-world : goal.returns-in-Ok-Invalid-clause-world
+returns-in-Ok-Invalid-clause-world g c = λ seed steps is. let asks = rw c.in-Ok-Invalid.field-0-is at c.in-Ok-Invalid.ensures in absurd (asks.0 (inl (inr (inr (inr (seed, steps, is))))))
 
 pub returns-in-Ok-Invalid-clause-help : goal.returns-in-Ok-Invalid-clause-help
 returns-in-Ok-Invalid-clause-help g c = λ help. let asks = rw c.in-Ok-Invalid.field-0-is at c.in-Ok-Invalid.ensures in absurd (asks.0 (inr help))

@@ -1,0 +1,11 @@
+mod StoreLemmas
+mod IssuedLemmas
+mod CacheLemmas
+mod RunLemmas
+mod LinkLemmas
+mod ThroughLemmas
+mod PullLemmas
+mod WorldLemmas
+mod StepLemmas
+mod TextLemmas
+mod QueryLemmas

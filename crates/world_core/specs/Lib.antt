@@ -1,0 +1,10 @@
+pub mod Draws
+pub mod Lines
+pub mod Link
+pub mod Products
+pub mod Queries
+pub mod Replies
+pub mod Steps
+pub mod Store
+pub mod Text
+pub mod World

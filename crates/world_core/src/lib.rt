@@ -1,0 +1,21 @@
+//! The world: a large run of clients, caches and a store in one process, which a number repeats.
+#![tactic(auto)]
+
+mod generator;
+mod line;
+mod link;
+mod product;
+mod queries;
+mod reply;
+mod step;
+mod store;
+mod text;
+mod watch;
+mod world;
+
+pub use line::ReadLine;
+pub use link::WorldLink;
+pub use step::{Step, steps_of};
+pub use text::world_text;
+pub use watch::{Silent, Watch};
+pub use world::World;
