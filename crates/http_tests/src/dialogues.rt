@@ -1,5 +1,5 @@
 //! Each end of a connection, and that the source waits for nothing before what is due was given.
-ghost use Rattle.std.specs.Prelude.{◌≡◌, ◌<◌, None, codes, if◌then◌else◌};
+ghost use Rattle.std.specs.Prelude.{◌≡◌, ◌<◌, Some, None, codes, if◌then◌else◌};
 ghost use Rattle.q_outside.specs.Ends.{Gave};
 
 use crate::asks::new_room;
@@ -301,6 +301,8 @@ struct Shown<'a> {
 
 impl Sink for Shown<'_> {
     ghost at = { λ _. record { bytes = None; faults = 0 } };
+
+    ghost ended = { λ _. Some None };
 
     fn give(&mut self, bytes: &[u8]) -> Result<usize, Failed> {
         self.count.set(self.count.get().saturating_add(bytes.len()));

@@ -1,5 +1,5 @@
 //! How connections end.
-ghost use Rattle.std.specs.Prelude.{None};
+ghost use Rattle.std.specs.Prelude.{Some, None};
 
 use crate::calls::{
     AMPLE, Comers, Place, WHOLE, assert_run, calls_of, pipe_over, run_with, script_of, words_of,
@@ -41,6 +41,8 @@ struct Ended {
 
 impl Sink for Ended {
     ghost at = { λ _. record { bytes = None; faults = 0 } };
+
+    ghost ended = { λ _. Some None };
 
     fn give(&mut self, bytes: &[u8]) -> Result<usize, Failed> {
         self.late = self.late || self.ends > 0;

@@ -63,6 +63,14 @@ abbrev pub Gave : {T E : Type 0} → (before after : End) → (text : List ℕ) 
 Gave before after text (Ok given) = GaveBytes before after text
 Gave before after text (Err failed) = GavePart before after text
 
+-- what a sink showed of its bytes when it was ended last; none where it never was ended
+abbrev pub LastEnd : Type 0
+LastEnd = Option (Option (List ℕ))
+
+-- a sink was ended, and nothing was given behind that: what it showed when it was ended last is what it shows now
+abbrev pub HasEnded : LastEnd → (bytes : Option (List ℕ)) → Type 0
+HasEnded ended bytes = ended ≡ Some bytes
+
 -- a clock gave these moments in order, from its first state to its last
 abbrev pub Ticks : {C : Type 0} → (C → ℕ → C → Type 0) → C → List ℕ → C → Type 0
 Ticks tick first [] last = first ≡ last

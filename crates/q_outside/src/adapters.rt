@@ -2,7 +2,7 @@
 //!
 //! A count of faults is a number of 64 bits. At its greatest a further fault is reported as the end of
 //! the source, or as bytes that the sink took, since neither shows its bytes.
-ghost use Rattle.std.specs.Prelude.{◌≡◌, ℕ, None};
+ghost use Rattle.std.specs.Prelude.{◌≡◌, ℕ, Some, None};
 
 use crate::environment::{Clock, Failed, Sink, Source};
 use q_base::Moment;
@@ -74,6 +74,8 @@ impl<W: Write + Drop> WriteSink<W> {
 
 impl<W: Write + Drop> Sink for WriteSink<W> {
     ghost at = { λ s. record { bytes = None; faults = s.faults } };
+
+    ghost ended = { λ _. Some None };
 
     fn give(&mut self, bytes: &[u8]) -> Result<usize, Failed> {
         match self.writer.write(bytes) {

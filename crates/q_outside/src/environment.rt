@@ -4,7 +4,7 @@
 //! nothing is claimed. Each has a count of faults that never falls, and fails only where that count rose.
 //! A source that has bytes in a buffer of its own lends them, and gives them first.
 ghost use Rattle.std.specs.Prelude.{◌≡◌, ℕ, ◌<◌, List, [], length, true, None};
-ghost use Rattle.q_outside.specs.Ends.{End, Took, GaveFromBuffer, GaveSome};
+ghost use Rattle.q_outside.specs.Ends.{End, HasEnded, LastEnd, Took, GaveFromBuffer, GaveSome};
 
 use q_base::Moment;
 
@@ -56,14 +56,20 @@ pub trait Sink {
     /// What contracts see of the sink: the bytes that it holds, where it shows them, and its faults.
     ghost at: { Self → End };
 
+    /// What it showed of its bytes when it was ended last, or none where it never was. So where this is
+    /// what it shows now, it was ended behind all that it holds.
+    ghost ended: { Self → LastEnd };
+
     /// Gives the first bytes of a piece and returns their number, at least one.
     fn give(&mut self, bytes: &[u8]) -> Result<usize, Failed>
         requires { 0 < length bytes.now }
-        ensures { GaveSome (at self.old) (at self.new) bytes.now result };
+        ensures gave { GaveSome (at self.old) (at self.new) bytes.now result }
+        ensures keeps_end { ended self.new ≡ ended self.old };
 
-    /// Says that nothing more will be given. What contracts see stays the same.
+    /// Says that nothing more will be given. The bytes that it holds stay the same.
     fn end(&mut self)
-        ensures { at self.new ≡ at self.old };
+        ensures keeps { at self.new ≡ at self.old }
+        ensures ends { HasEnded (ended self.new) (at self.new).bytes };
 }
 
 /// A source of moments. It never fails. It may stop or go back.

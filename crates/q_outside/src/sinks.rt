@@ -1,5 +1,5 @@
 //! Sinks over memory.
-ghost use Rattle.std.specs.Prelude.{◌≡◌, ℕ, ◌+◌, ◌<◌, ◌≤◌, List, [], Some, None, vec_capacity, IfOk, OnErr};
+ghost use Rattle.std.specs.Prelude.{◌≡◌, ℕ, ◌+◌, ◌<◌, ◌≤◌, List, [], length, take, Some, None, option_map, unwrap_or, vec_capacity, IfOk, OnErr};
 
 use crate::environment::{Failed, Sink};
 use crate::faults::Faults;
@@ -14,6 +14,8 @@ pub struct EndlessSink;
 
 impl Sink for EndlessSink {
     ghost at = { λ _. record { bytes = None; faults = 0 } };
+
+    ghost ended = { λ _. Some None };
 
     fn give(&mut self, bytes: &[u8]) -> Result<usize, Failed> {
         Ok(bytes.len())
@@ -32,6 +34,9 @@ pub struct ListSink<L: Ledger> {
     pub faults: Faults<L>,
     /// What its calls do.
     pub script: Script,
+    /// The number of bytes that it held when it was ended last, or none where it never was.
+    pub ended: Option<usize>,
+    ghost within: { unwrap_or ended 0 ≤ length bytes.items },
 }
 
 impl<L: Ledger> ListSink<L> {
@@ -48,6 +53,7 @@ impl<L: Ledger> ListSink<L> {
         ensures empty { IfOk result (λ s. s.bytes.items ≡ []) }
         ensures faults { IfOk result (λ s. s.faults ≡ 0) }
         ensures capacity { IfOk result (λ s. capacity ≤ vec_capacity s.bytes) }
+        ensures ended { IfOk result (λ s. s.ended ≡ None) }
     {
         let faults = Faults::new(blank);
         let bytes = Vec::with_capacity(alloc, capacity)?;
@@ -55,12 +61,15 @@ impl<L: Ledger> ListSink<L> {
             bytes,
             faults,
             script,
+            ended: None,
         })
     }
 }
 
 impl<L: Ledger> Sink for ListSink<L> {
     ghost at = { λ s. record { bytes = Some s.bytes.items; faults = s.faults } };
+
+    ghost ended = { λ s. option_map (λ n. Some (take n s.bytes.items)) s.ended };
 
     fn give(&mut self, bytes: &[u8]) -> Result<usize, Failed> {
         let space = self.bytes.capacity() - self.bytes.len();
@@ -76,5 +85,7 @@ impl<L: Ledger> Sink for ListSink<L> {
         Ok(count)
     }
 
-    fn end(&mut self) {}
+    fn end(&mut self) {
+        self.ended = Some(self.bytes.len());
+    }
 }

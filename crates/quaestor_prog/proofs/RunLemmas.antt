@@ -6,7 +6,7 @@ use Rattle.hub_model.specs.declared.entry.Entry.{Entry}
 use Rattle.hub_model.specs.Legal.{IsLegal}
 use Rattle.hub_model.specs.Setting.{Setting}
 use Rattle.q_base.specs.declared.moment.TheConstants.{GREATEST_SECONDS}
-use Rattle.q_outside.specs.Ends.{End, Ticks}
+use Rattle.q_outside.specs.Ends.{End, HasEnded, LastEnd, Ticks}
 use Rattle.q_outside.specs.declared.clocks.FixedClock.{FixedClock}
 use Rattle.q_outside.specs.declared.served.Served.{Served}
 use Rattle.quaestor_prog.specs.Run.{AreAt, AreTimed, GaveWorld, IsRun}
@@ -26,8 +26,8 @@ use Rattle.quaestor_prog.specs.declared.status.Status.{Status}
 use Rattle.quaestor_server.specs.Conversation.{Conversation}
 
 -- over a desk that was new, the run is the connection, and the sink was ended behind it
-pub piped : (g k : Setting) (es es' : List Entry) (a : Sides) (source sink ended : End) (tells : List ℕ → Type 0) (served : Served) (status : Status) → g ≡ k → es ≡ [] → ended ≡ sink → IsLegal g es' → Conversation g tells es es' (enumerate_from 0 es) (enumerate_from 0 es') a (record { source = source; sink = sink }) served → status ≡ status_of served.why → IsRun k a (record { source = source; sink = ended }) tells status
-piped g k es es' a source sink ended tells served status g_is none same legal dialogue status_is =
+pub piped : (g k : Setting) (es es' : List Entry) (a : Sides) (source sink ended : End) (last : LastEnd) (tells : List ℕ → Type 0) (served : Served) (status : Status) → g ≡ k → es ≡ [] → ended ≡ sink → HasEnded last ended.bytes → IsLegal g es' → Conversation g tells es es' (enumerate_from 0 es) (enumerate_from 0 es') a (record { source = source; sink = sink }) served → status ≡ status_of served.why → IsRun k a (record { source = source; sink = ended }) last tells status
+piped g k es es' a source sink ended last tells served status g_is none same is_ended legal dialogue status_is =
     inl (record {
       entries = es';
       legal = subst (λ (x : Setting). IsLegal x es') g_is legal;
@@ -36,18 +36,20 @@ piped g k es es' a source sink ended tells served status g_is none same legal di
           (subst (λ (l : List Entry). Conversation k tells l es' (enumerate_from 0 l) (enumerate_from 0 es') a (record { source = source; sink = sink }) served) none
           (subst (λ (x : Setting). Conversation x tells es es' (enumerate_from 0 es) (enumerate_from 0 es') a (record { source = source; sink = sink }) served) g_is dialogue));
       status_is = status_is;
+      is_ended = is_ended;
     })
 
 -- a run with a weaker statement of its moments
-pub run_weaker : (g : Setting) (a b : Sides) (t u : List ℕ → Type 0) (status : Status) → ((ms : List ℕ) → t ms → u ms) → IsRun g a b t status → IsRun g a b u status
-run_weaker g a b t u status f (inl p) = inl (record {
+pub run_weaker : (g : Setting) (a b : Sides) (ended : LastEnd) (t u : List ℕ → Type 0) (status : Status) → ((ms : List ℕ) → t ms → u ms) → IsRun g a b ended t status → IsRun g a b ended u status
+run_weaker g a b ended t u status f (inl p) = inl (record {
   entries = p.entries;
   legal = p.legal;
   served = p.served;
   conversation = record { moments = p.conversation.moments; entered = p.conversation.entered; ticks = f _ p.conversation.ticks; dialogue = p.conversation.dialogue };
   status_is = p.status_is;
+  is_ended = p.is_ended;
 })
-run_weaker g a b t u status f (inr n) = inr (record { status_is = n.status_is; source = n.source; sink = n.sink; ticks = f [] n.ticks })
+run_weaker g a b ended t u status f (inr n) = inr (record { status_is = n.status_is; source = n.source; sink = n.sink; ticks = f [] n.ticks })
 
 -- each moment of a fixed clock is its own
 all_at : (at : ℕ) (old new : FixedClock) (moments : List ℕ) → old.at ≡ min at GREATEST_SECONDS → Ticks (λ c m d. (m ≡ c.at) × (d ≡ c)) old moments new → AreAt at moments
@@ -56,15 +58,15 @@ all_at at old new (moment ∷ moments) stands ticks =
     (ticks.1.0 ∙ stands, all_at at ticks.0 new moments (ap (λ (c : FixedClock). c.at) ticks.1.1 ∙ stands) ticks.2)
 
 -- so the moments of a run are at that moment, and the given clock was not asked
-pub timed : {C : Type 0} (g : Setting) (tells : C → ℕ → C → Type 0) (clock : C) (at : ℕ) (asked : Option ℕ) (old new : FixedClock) (a b : Sides) (status : Status) → asked ≡ Some at → old.at ≡ min at GREATEST_SECONDS → IsRun g a b (λ ms. Ticks (λ c m d. (m ≡ c.at) × (d ≡ c)) old ms new) status → IsRun g a b (AreTimed tells clock clock asked) status
-timed g tells clock at asked old new a b status asked_is stands run =
-    subst (λ (o : Option ℕ). IsRun g a b (AreTimed tells clock clock o) status) (sym asked_is)
-    (run_weaker g a b (λ ms. Ticks (λ c m d. (m ≡ c.at) × (d ≡ c)) old ms new) (AreTimed tells clock clock (Some at)) status (λ ms t. (all_at at old new ms stands t, refl)) run)
+pub timed : {C : Type 0} (g : Setting) (tells : C → ℕ → C → Type 0) (clock : C) (at : ℕ) (asked : Option ℕ) (old new : FixedClock) (a b : Sides) (ended : LastEnd) (status : Status) → asked ≡ Some at → old.at ≡ min at GREATEST_SECONDS → IsRun g a b ended (λ ms. Ticks (λ c m d. (m ≡ c.at) × (d ≡ c)) old ms new) status → IsRun g a b ended (AreTimed tells clock clock asked) status
+timed g tells clock at asked old new a b ended status asked_is stands run =
+    subst (λ (o : Option ℕ). IsRun g a b ended (AreTimed tells clock clock o) status) (sym asked_is)
+    (run_weaker g a b ended (λ ms. Ticks (λ c m d. (m ≡ c.at) × (d ≡ c)) old ms new) (AreTimed tells clock clock (Some at)) status (λ ms t. (all_at at old new ms stands t, refl)) run)
 
 -- the run of a configuration and a clock that the words ask for
-pub run_of : {C : Type 0} (tells : C → ℕ → C → Type 0) (old new : C) (words : List Text) (g h : Setting) (a b : Option ℕ) (before after : Sides) (status : Status) → IsPipe words g a → IsPipe words h b → IsRun g before after (AreTimed tells old new a) status → IsRun h before after (AreTimed tells old new b) status
-run_of tells old new words g h a b before after status p q run = let one = one_pipe words g h a b p q in
-    subst (λ (x : Setting). IsRun x before after (AreTimed tells old new b) status) one.0 (subst (λ (at : Option ℕ). IsRun g before after (AreTimed tells old new at) status) one.1 run)
+pub run_of : {C : Type 0} (tells : C → ℕ → C → Type 0) (old new : C) (words : List Text) (g h : Setting) (a b : Option ℕ) (before after : Sides) (ended : LastEnd) (status : Status) → IsPipe words g a → IsPipe words h b → IsRun g before after ended (AreTimed tells old new a) status → IsRun h before after ended (AreTimed tells old new b) status
+run_of tells old new words g h a b before after ended status p q run = let one = one_pipe words g h a b p q in
+    subst (λ (x : Setting). IsRun x before after ended (AreTimed tells old new b) status) one.0 (subst (λ (at : Option ℕ). IsRun g before after ended (AreTimed tells old new at) status) one.1 run)
 
 -- no answer of clap is help where clap takes the words
 pub no_help : (words : List Text) (g : Setting) (at : Option ℕ) → IsPipe words g at → AskHelp words → ⊥
@@ -74,11 +76,11 @@ pub no_help_serving : (words : List Text) (ask : ServeAsk) → IsServe words ask
 no_help_serving words ask s help = nothing_answered _ s.taken (faults_serve IsAnswered words s.named help)
 
 -- what `serve` did is said of what the words ask it for
-pub served_of : {P D L S K C : Type 0} (source_at : S → End) (sink_at : K → End) (tick : C → ℕ → C → Type 0) (may : C → Type 0) (doors_at : D → DoorsView S K) (places_at : P → PlacesView D L) (gives : P → List ℕ → Limits → D → P → Type 0) (tells : P → List ℕ → Type 0)
-    (words : List Text) (a b : ServeAsk) (sink sink' : End) (places places' : P) (status : Status) → IsServe words a → IsServe words b
-    → HasServed source_at sink_at tick may doors_at places_at gives tells a sink sink' places places' status → HasServed source_at sink_at tick may doors_at places_at gives tells b sink sink' places places' status
-served_of source_at sink_at tick may doors_at places_at gives tells words a b sink sink' places places' status p q served =
-    subst (λ (ask : ServeAsk). HasServed source_at sink_at tick may doors_at places_at gives tells ask sink sink' places places' status) (one_ask words a b p q) served
+pub served_of : {P D L S K C : Type 0} (source_at : S → End) (sink_at : K → End) (ended_at : K → LastEnd) (tick : C → ℕ → C → Type 0) (may : C → Type 0) (doors_at : D → DoorsView S K) (places_at : P → PlacesView D L) (gives : P → List ℕ → Limits → D → P → Type 0) (tells : P → List ℕ → Type 0)
+    (words : List Text) (a b : ServeAsk) (sink sink' : End) (ended : LastEnd) (places places' : P) (status : Status) → IsServe words a → IsServe words b
+    → HasServed source_at sink_at ended_at tick may doors_at places_at gives tells a sink sink' ended places places' status → HasServed source_at sink_at ended_at tick may doors_at places_at gives tells b sink sink' ended places places' status
+served_of source_at sink_at ended_at tick may doors_at places_at gives tells words a b sink sink' ended places places' status p q served =
+    subst (λ (ask : ServeAsk). HasServed source_at sink_at ended_at tick may doors_at places_at gives tells ask sink sink' ended places places' status) (one_ask words a b p q) served
 
 pub no_help_reading : (words : List Text) (ask : ReadAsk) → IsRead words ask → AskHelp words → ⊥
 no_help_reading words ask r help = nothing_answered _ r.taken (faults_read IsAnswered words r.named help)
@@ -88,12 +90,12 @@ no_help_world words seed steps w help = nothing_answered _ w.taken (faults_world
 
 -- what `read` did is said of what the words ask it for
 pub read_of : {P D L : Type 0} (link_at : L → LinkView) (answers : L → Exchange → L → Type 0) (places_at : P → PlacesView D L) (links : P → List ℕ → L → P → Type 0)
-    (words : List Text) (a b : ReadAsk) (sink sink' : End) (places places' : P) (status : Status) → IsRead words a → IsRead words b
-    → HasRead link_at answers places_at links a sink sink' places places' status → HasRead link_at answers places_at links b sink sink' places places' status
-read_of link_at answers places_at links words a b sink sink' places places' status p q reads =
-    subst (λ (ask : ReadAsk). HasRead link_at answers places_at links ask sink sink' places places' status) (one_read words a b p q) reads
+    (words : List Text) (a b : ReadAsk) (sink sink' : End) (ended : LastEnd) (places places' : P) (status : Status) → IsRead words a → IsRead words b
+    → HasRead link_at answers places_at links a sink sink' ended places places' status → HasRead link_at answers places_at links b sink sink' ended places places' status
+read_of link_at answers places_at links words a b sink sink' ended places places' status p q reads =
+    subst (λ (ask : ReadAsk). HasRead link_at answers places_at links ask sink sink' ended places places' status) (one_read words a b p q) reads
 
 -- so is what `world` wrote
-pub world_of : (words : List Text) (m n s t : ℕ) (sink sink' : End) (status : Status) → IsWorld words m s → IsWorld words n t → GaveWorld m s sink sink' status → GaveWorld n t sink sink' status
-world_of words m n s t sink sink' status p q text = let one = one_world words m n s t p q in
-    subst (λ k. GaveWorld k t sink sink' status) one.0 (subst (λ k. GaveWorld m k sink sink' status) one.1 text)
+pub world_of : (words : List Text) (m n s t : ℕ) (sink sink' : End) (ended : LastEnd) (status : Status) → IsWorld words m s → IsWorld words n t → GaveWorld m s sink sink' ended status → GaveWorld n t sink sink' ended status
+world_of words m n s t sink sink' ended status p q text = let one = one_world words m n s t p q in
+    subst (λ k. GaveWorld k t sink sink' ended status) one.0 (subst (λ k. GaveWorld m k sink sink' ended status) one.1 text)

@@ -1,7 +1,7 @@
 -- What `serve` did, of the calls that it made.
 use Rattle.std.proofs.Common.{◌≡◌, ℕ, List, ◌++◌, Result, Ok, Err, sym, subst}
 use Rattle.q_outside.specs.Doors.{DoorsView}
-use Rattle.q_outside.specs.Ends.{End, GaveBytes, Gave}
+use Rattle.q_outside.specs.Ends.{End, GaveBytes, Gave, LastEnd}
 use Rattle.q_outside.proofs.Chain.{gave_both, part_behind}
 use Rattle.quaestor_prog.specs.Serving.{IsThrough}
 use Rattle.quaestor_prog.specs.Words.{ServeAsk}
@@ -13,7 +13,7 @@ gave_rest before mid after first rest (Ok x) g h = gave_both before mid after fi
 gave_rest before mid after first rest (Err e) g h = part_behind before mid after first rest g h
 
 -- the end of the sink changes nothing
-pub through_ended : {D S K C : Type 0} (source_at : S → End) (sink_at : K → End) (tick : C → ℕ → C → Type 0) (may : C → Type 0) (doors_at : D → DoorsView S K) (ask : ServeAsk) (address : List ℕ) (sink sink' ended : End) (doors doors' : D) (status : Status)
-    → ended ≡ sink' → IsThrough source_at sink_at tick may doors_at ask address sink sink' doors doors' status → IsThrough source_at sink_at tick may doors_at ask address sink ended doors doors' status
-through_ended source_at sink_at tick may doors_at ask address sink sink' ended doors doors' status same through =
-    subst (λ (s : End). IsThrough source_at sink_at tick may doors_at ask address sink s doors doors' status) (sym same) through
+pub through_ended : {D S K C : Type 0} (source_at : S → End) (sink_at : K → End) (ended_at : K → LastEnd) (tick : C → ℕ → C → Type 0) (may : C → Type 0) (doors_at : D → DoorsView S K) (ask : ServeAsk) (address : List ℕ) (sink sink' ended : End) (doors doors' : D) (status : Status)
+    → ended ≡ sink' → IsThrough source_at sink_at ended_at tick may doors_at ask address sink sink' doors doors' status → IsThrough source_at sink_at ended_at tick may doors_at ask address sink ended doors doors' status
+through_ended source_at sink_at ended_at tick may doors_at ask address sink sink' ended doors doors' status same through =
+    subst (λ (s : End). IsThrough source_at sink_at ended_at tick may doors_at ask address sink s doors doors' status) (sym same) through

@@ -17,7 +17,7 @@ use Rattle.client_session.specs.declared.read_out.Way.TheVariants as way
 use Rattle.client_session.specs.declared.reading.Position.{Position}
 use Rattle.client_session.specs.declared.refusal.SessionRefusal.{SessionRefusal}
 use Rattle.client_session.specs.declared.refusal.SessionRefusal.TheVariants as refusal
-use Rattle.q_outside.specs.Ends.{End, GaveBytes, GavePart}
+use Rattle.q_outside.specs.Ends.{End, GaveBytes, GavePart, HasEnded, LastEnd}
 use Rattle.quaestor_prog.specs.Places.{IsUnasked, PlacesView}
 use Rattle.quaestor_prog.specs.Serving.{IsUnplaced, IsWithoutMemory}
 use Rattle.quaestor_prog.specs.Status.{status_of_read}
@@ -98,8 +98,8 @@ module _ {L : Type 0} (link_at : L → LinkView) (answers : L → Exchange → L
       (end : ReadEnd) × EndsRead level key link link' sink sink' end × (status ≡ status_of_read end)
 
 module _ {P D L : Type 0} (link_at : L → LinkView) (answers : L → Exchange → L → Type 0) (places_at : P → PlacesView D L) (links : P → List ℕ → L → P → Type 0) where
-  -- The places gave a link to the address, a key was read over it, and the places have it back.
-  pub record HasReached (ask : ReadAsk) (sink sink' : End) (places places' : P) (status : Status) : Type 0 where
+  -- The places gave a link to the address, a key was read over it, and the places have it back. The sink was ended behind all that was given.
+  pub record HasReached (ask : ReadAsk) (sink sink' : End) (ended : LastEnd) (places places' : P) (status : Status) : Type 0 where
     pub link : L
     pub link_left : L
     -- the places behind the call
@@ -108,14 +108,15 @@ module _ {P D L : Type 0} (link_at : L → LinkView) (answers : L → Exchange �
     pub unasked : IsUnasked (link_at link)
     pub kept : places_at places' ≡ record (places_at places) { link = Some link_left }
     pub reads : IsReadOnce link_at answers ask.level ask.key link link_left sink sink' status
+    pub is_ended : HasEnded ended sink'.bytes
 
   -- the places failed; or gave a link, and what came of it
-  abbrev pub HasRead : ReadAsk → (sink sink' : End) → (places places' : P) → Status → Type 0
-  HasRead ask sink sink' places places' status =
-      IsUnplaced sink sink' (places_at places) (places_at places') status ⊎ HasReached ask sink sink' places places' status
+  abbrev pub HasRead : ReadAsk → (sink sink' : End) → LastEnd → (places places' : P) → Status → Type 0
+  HasRead ask sink sink' ended places places' status =
+      IsUnplaced sink sink' ended (places_at places) (places_at places') status ⊎ HasReached ask sink sink' ended places places' status
 
   -- what a run of `read` does: neither the source nor the clock is asked
-  abbrev pub IsReading : {C : Type 0} → ReadAsk → (a b : Sides) → (clock clock' : C) → (places places' : P) → Status → Type 0
-  IsReading ask a b clock clock' places places' status =
+  abbrev pub IsReading : {C : Type 0} → ReadAsk → (a b : Sides) → LastEnd → (clock clock' : C) → (places places' : P) → Status → Type 0
+  IsReading ask a b ended clock clock' places places' status =
       (b.source ≡ a.source) × (clock' ≡ clock)
-      × (IsWithoutMemory a.sink b.sink places places' status ⊎ HasRead ask a.sink b.sink places places' status)
+      × (IsWithoutMemory a.sink b.sink places places' status ⊎ HasRead ask a.sink b.sink ended places places' status)

@@ -6,7 +6,7 @@ use Rattle.hub_model.specs.declared.entry.Entry.{Entry}
 use Rattle.hub_model.specs.Legal.{IsLegal}
 use Rattle.hub_model.specs.Setting.{Setting}
 use Rattle.q_base.specs.declared.moment.TheConstants.{GREATEST_SECONDS}
-use Rattle.q_outside.specs.Ends.{End, GaveBytes, GavePart, Ticks}
+use Rattle.q_outside.specs.Ends.{End, GaveBytes, GavePart, HasEnded, LastEnd, Ticks}
 use Rattle.q_outside.specs.declared.served.Served.{Served}
 use Rattle.quaestor_prog.specs.Status.{status_of}
 use Rattle.quaestor_prog.specs.declared.status.Status.{Status}
@@ -24,13 +24,14 @@ abbrev pub AreTimed : {C : Type 0} → (C → ℕ → C → Type 0) → C → C 
 AreTimed tells old new None moments = Ticks tells old moments new
 AreTimed tells old new (Some at) moments = AreAt at moments × (new ≡ old)
 
--- The connection was served in this configuration, over a history that began empty and has no entry but its own, and the status is that of its end.
-pub record Pipes (g : Setting) (a b : Sides) (tells : List ℕ → Type 0) (status : Status) : Type 0 where
+-- The connection was served in this configuration, over a history that began empty and has no entry but its own, the status is that of its end, and the sink was ended behind all that was given.
+pub record Pipes (g : Setting) (a b : Sides) (ended : LastEnd) (tells : List ℕ → Type 0) (status : Status) : Type 0 where
   pub entries : List Entry
   pub legal : IsLegal g entries
   pub served : Served
   pub conversation : Conversation g tells [] entries [] (enumerate_from 0 entries) a b served
   pub status_is : status ≡ status_of served.why
+  pub is_ended : HasEnded ended b.sink.bytes
 
 -- Out of memory: nothing was begun.
 pub record IsUnbegun (a b : Sides) (tells : List ℕ → Type 0) (status : Status) : Type 0 where
@@ -49,38 +50,39 @@ IsUsage before after Words = GaveBytes before after usage
 IsUsage before after WriteFault = GavePart before after usage
 IsUsage before after _ = ⊥
 
--- No command takes the words: the usage line was given, and nothing else was done.
-pub record IsRefused (a b : Sides) (tells : List ℕ → Type 0) (status : Status) : Type 0 where
+-- No command takes the words: the usage line was given, the sink was ended behind it, and nothing else was done.
+pub record IsRefused (a b : Sides) (ended : LastEnd) (tells : List ℕ → Type 0) (status : Status) : Type 0 where
   pub usage : IsUsage a.sink b.sink status
+  pub is_ended : HasEnded ended b.sink.bytes
   pub source : b.source ≡ a.source
   pub ticks : tells []
 
--- the sink was given some text, or failed inside it; or there was no memory for the text
-abbrev pub IsText : End → End → Status → Type 0
-IsText before after Done = (text : List ℕ) × GaveBytes before after text
-IsText before after WriteFault = (text : List ℕ) × GavePart before after text
-IsText before after Memory = after ≡ before
-IsText before after _ = ⊥
+-- the sink was given some text, or failed inside it, and was ended behind that; or there was no memory for the text
+abbrev pub IsText : End → End → LastEnd → Status → Type 0
+IsText before after ended Done = (text : List ℕ) × GaveBytes before after text × HasEnded ended after.bytes
+IsText before after ended WriteFault = (text : List ℕ) × GavePart before after text × HasEnded ended after.bytes
+IsText before after ended Memory = after ≡ before
+IsText before after ended _ = ⊥
 
 -- The words ask for help: a text was given, and nothing else was done.
-pub record IsHelped (a b : Sides) (tells : List ℕ → Type 0) (status : Status) : Type 0 where
-  pub text : IsText a.sink b.sink status
+pub record IsHelped (a b : Sides) (ended : LastEnd) (tells : List ℕ → Type 0) (status : Status) : Type 0 where
+  pub text : IsText a.sink b.sink ended status
   pub source : b.source ≡ a.source
   pub ticks : tells []
 
 -- the connection was served, or nothing was begun, out of memory
-abbrev pub IsRun : Setting → Sides → Sides → (List ℕ → Type 0) → Status → Type 0
-IsRun g a b tells status = Pipes g a b tells status ⊎ IsUnbegun a b tells status
+abbrev pub IsRun : Setting → Sides → Sides → LastEnd → (List ℕ → Type 0) → Status → Type 0
+IsRun g a b ended tells status = Pipes g a b ended tells status ⊎ IsUnbegun a b tells status
 
--- the text of the world that a seed gives was given, or a beginning of it; or there was no memory for it
-abbrev pub GaveWorld : (seed steps : ℕ) → End → End → Status → Type 0
-GaveWorld seed steps before after Done = (text : List ℕ) × IsWorldText seed steps text × GaveBytes before after text
-GaveWorld seed steps before after WriteFault = (text : List ℕ) × IsWorldText seed steps text × GavePart before after text
-GaveWorld seed steps before after Memory = after ≡ before
-GaveWorld seed steps before after _ = ⊥
+-- the text of the world that a seed gives was given, or a beginning of it, and the sink was ended behind that; or there was no memory for it
+abbrev pub GaveWorld : (seed steps : ℕ) → End → End → LastEnd → Status → Type 0
+GaveWorld seed steps before after ended Done = (text : List ℕ) × IsWorldText seed steps text × GaveBytes before after text × HasEnded ended after.bytes
+GaveWorld seed steps before after ended WriteFault = (text : List ℕ) × IsWorldText seed steps text × GavePart before after text × HasEnded ended after.bytes
+GaveWorld seed steps before after ended Memory = after ≡ before
+GaveWorld seed steps before after ended _ = ⊥
 
 -- The words ask for a world: its text was given, and nothing else was done.
-pub record HasWorld (seed steps : ℕ) (a b : Sides) (tells : List ℕ → Type 0) (status : Status) : Type 0 where
-  pub text : GaveWorld seed steps a.sink b.sink status
+pub record HasWorld (seed steps : ℕ) (a b : Sides) (ended : LastEnd) (tells : List ℕ → Type 0) (status : Status) : Type 0 where
+  pub text : GaveWorld seed steps a.sink b.sink ended status
   pub source : b.source ≡ a.source
   pub ticks : tells []

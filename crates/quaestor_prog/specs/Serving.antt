@@ -2,7 +2,7 @@
 use Rattle.std.specs.Prelude.{◌≡◌, ◌⊎◌, ℕ, ◌<◌, List, ◌++◌, Some, codes, decimal}
 use Rattle.dialogue.specs.Dialogue.{Sides}
 use Rattle.q_outside.specs.Doors.{DoorsView}
-use Rattle.q_outside.specs.Ends.{End, GaveBytes, GavePart}
+use Rattle.q_outside.specs.Ends.{End, GaveBytes, GavePart, HasEnded, LastEnd}
 use Rattle.q_outside.specs.declared.limits.Limits.{Limits}
 use Rattle.quaestor_prog.specs.Places.{AreNew, PlacesView}
 use Rattle.quaestor_prog.specs.Status.{or_write_fault, status_of_server}
@@ -30,21 +30,21 @@ EndsWith before after line ended status =
 abbrev pub IsWithoutMemory : {P : Type 0} → (sink sink' : End) (places places' : P) → Status → Type 0
 IsWithoutMemory sink sink' places places' status = (status ≡ Memory) × (sink' ≡ sink) × (places' ≡ places)
 
--- the places failed, and nothing was given
-abbrev pub IsUnplaced : {D L : Type 0} → (sink sink' : End) (places places' : PlacesView D L) → Status → Type 0
-IsUnplaced sink sink' places places' status =
-    (status ≡ PlaceFault) × (sink' ≡ sink)
+-- the places failed, nothing was given, and the sink was ended
+abbrev pub IsUnplaced : {D L : Type 0} → (sink sink' : End) (ended : LastEnd) (places places' : PlacesView D L) → Status → Type 0
+IsUnplaced sink sink' ended places places' status =
+    (status ≡ PlaceFault) × (sink' ≡ sink) × HasEnded ended sink'.bytes
     × (places'.kept ≡ places.kept) × (places'.link ≡ places.link) × (places.faults < places'.faults)
 
 -- the first line was given in part, and the doors are as they were
 abbrev pub IsUnannounced : {D : Type 0} → (address : List ℕ) → (sink sink' : End) → (doors doors' : D) → Status → Type 0
 IsUnannounced address sink sink' doors doors' status = (status ≡ WriteFault) × GavePart sink sink' (listening_line address) × (doors' ≡ doors)
 
-module _ {D S K C : Type 0} (source_at : S → End) (sink_at : K → End) (tick : C → ℕ → C → Type 0) (may : C → Type 0) (doors_at : D → DoorsView S K) where
+module _ {D S K C : Type 0} (source_at : S → End) (sink_at : K → End) (ended_at : K → LastEnd) (tick : C → ℕ → C → Type 0) (may : C → Type 0) (doors_at : D → DoorsView S K) where
   -- The connections were served that came through the doors, and then the last line was given, or a part of it.
   pub record IsServed (ask : ServeAsk) (sink sink' : End) (doors doors' : D) (status : Status) : Type 0 where
     pub end : ServeEnd
-    pub serves : Serves source_at sink_at tick may ask.setting (doors_at doors) (doors_at doors') ask.connections end
+    pub serves : Serves source_at sink_at ended_at tick may ask.setting (doors_at doors) (doors_at doors') ask.connections end
     pub last_line : EndsWith sink sink' (served_line end.connections) (status_of_server end.why) status
 
   -- the first line, with the address as it is told, was given in part; or whole, and what came then
@@ -53,9 +53,9 @@ module _ {D S K C : Type 0} (source_at : S → End) (sink_at : K → End) (tick 
       IsUnannounced address sink sink' doors doors' status
       ⊎ ((announced : End) × GaveBytes sink announced (listening_line address) × IsServed ask announced sink' doors doors' status)
 
-module _ {P D L S K C : Type 0} (source_at : S → End) (sink_at : K → End) (tick : C → ℕ → C → Type 0) (may : C → Type 0) (doors_at : D → DoorsView S K) (places_at : P → PlacesView D L) (gives : P → List ℕ → Limits → D → P → Type 0) (tells : P → List ℕ → Type 0) where
-  -- The places gave doors at the address, and have them back as they are now.
-  pub record HasListened (ask : ServeAsk) (sink sink' : End) (places places' : P) (status : Status) : Type 0 where
+module _ {P D L S K C : Type 0} (source_at : S → End) (sink_at : K → End) (ended_at : K → LastEnd) (tick : C → ℕ → C → Type 0) (may : C → Type 0) (doors_at : D → DoorsView S K) (places_at : P → PlacesView D L) (gives : P → List ℕ → Limits → D → P → Type 0) (tells : P → List ℕ → Type 0) where
+  -- The places gave doors at the address, and have them back as they are now. The sink was ended behind all that was given.
+  pub record HasListened (ask : ServeAsk) (sink sink' : End) (ended : LastEnd) (places places' : P) (status : Status) : Type 0 where
     pub doors : D
     pub doors_left : D
     -- the places behind the call
@@ -66,15 +66,16 @@ module _ {P D L S K C : Type 0} (source_at : S → End) (sink_at : K → End) (t
     pub told : tells listening address
     pub are_new : AreNew (doors_at doors)
     pub kept : places_at places' ≡ record (places_at places) { kept = Some doors_left }
-    pub through : IsThrough source_at sink_at tick may doors_at ask address sink sink' doors doors_left status
+    pub through : IsThrough source_at sink_at ended_at tick may doors_at ask address sink sink' doors doors_left status
+    pub is_ended : HasEnded ended sink'.bytes
 
   -- the places failed; or doors were listened at, and what came of it
-  abbrev pub HasServed : ServeAsk → (sink sink' : End) → (places places' : P) → Status → Type 0
-  HasServed ask sink sink' places places' status =
-      IsUnplaced sink sink' (places_at places) (places_at places') status ⊎ HasListened ask sink sink' places places' status
+  abbrev pub HasServed : ServeAsk → (sink sink' : End) → LastEnd → (places places' : P) → Status → Type 0
+  HasServed ask sink sink' ended places places' status =
+      IsUnplaced sink sink' ended (places_at places) (places_at places') status ⊎ HasListened ask sink sink' ended places places' status
 
   -- what a run of `serve` does: neither the source nor the clock is asked
-  abbrev pub IsServing : ServeAsk → (a b : Sides) → (clock clock' : C) → (places places' : P) → Status → Type 0
-  IsServing ask a b clock clock' places places' status =
+  abbrev pub IsServing : ServeAsk → (a b : Sides) → LastEnd → (clock clock' : C) → (places places' : P) → Status → Type 0
+  IsServing ask a b ended clock clock' places places' status =
       (b.source ≡ a.source) × (clock' ≡ clock)
-      × (IsWithoutMemory a.sink b.sink places places' status ⊎ HasServed ask a.sink b.sink places places' status)
+      × (IsWithoutMemory a.sink b.sink places places' status ⊎ HasServed ask a.sink b.sink ended places places' status)

@@ -1,7 +1,7 @@
 //! The top call.
 ghost use Rattle.std.specs.Prelude.{◌≡◌, ◌⊎◌, ℕ, Option, None, IfOk, IfSome, IfNone, map, string_bytes};
 ghost use Rattle.hub_model.specs.Setting.{Setting};
-ghost use Rattle.q_outside.specs.Ends.{Ticks};
+ghost use Rattle.q_outside.specs.Ends.{HasEnded, Ticks};
 ghost use Rattle.quaestor_prog.specs.Commands.{AskHelp};
 ghost use Rattle.quaestor_prog.specs.Reading.{IsReading};
 ghost use Rattle.quaestor_prog.specs.Serving.{IsServing};
@@ -51,27 +51,27 @@ where
     R: Threads + Wait + Copy + Send + 'static,
     ensures pipe { (g : Setting) (at : Option ℕ) → IsPipe (map string_bytes words.now) g at
         → IsRun g (record { source = S.at source.old; sink = K.at sink.old })
-        (record { source = S.at source.new; sink = K.at sink.new })
+        (record { source = S.at source.new; sink = K.at sink.new }) (K.ended sink.new)
         (AreTimed C.tick clock.old clock.new at) result
         × (places.new ≡ places.old) }
     ensures serve { (ask : ServeAsk) → IsServe (map string_bytes words.now) ask
-        → IsServing P.Doors.From.at P.Doors.To.at C.tick (C.is_clone clock.old) P.Doors.at P.at P.gives P.tells ask
+        → IsServing P.Doors.From.at P.Doors.To.at P.Doors.To.ended C.tick (C.is_clone clock.old) P.Doors.at P.at P.gives P.tells ask
         (record { source = S.at source.old; sink = K.at sink.old })
-        (record { source = S.at source.new; sink = K.at sink.new })
+        (record { source = S.at source.new; sink = K.at sink.new }) (K.ended sink.new)
         clock.old clock.new places.old places.new result }
     ensures read { (ask : ReadAsk) → IsRead (map string_bytes words.now) ask
         → IsReading P.Link.at P.Link.answers P.at P.links ask
         (record { source = S.at source.old; sink = K.at sink.old })
-        (record { source = S.at source.new; sink = K.at sink.new })
+        (record { source = S.at source.new; sink = K.at sink.new }) (K.ended sink.new)
         clock.old clock.new places.old places.new result }
     ensures world { (seed steps : ℕ) → IsWorld (map string_bytes words.now) seed steps
         → HasWorld seed steps (record { source = S.at source.old; sink = K.at sink.old })
-        (record { source = S.at source.new; sink = K.at sink.new })
+        (record { source = S.at source.new; sink = K.at sink.new }) (K.ended sink.new)
         (AreTimed C.tick clock.old clock.new None) result
         × (places.new ≡ places.old) }
     ensures help { AskHelp (map string_bytes words.now)
         → (IsHelped (record { source = S.at source.old; sink = K.at sink.old })
-        (record { source = S.at source.new; sink = K.at sink.new })
+        (record { source = S.at source.new; sink = K.at sink.new }) (K.ended sink.new)
         (AreTimed C.tick clock.old clock.new None) result
         ⊎ IsUnbegun (record { source = S.at source.old; sink = K.at sink.old })
         (record { source = S.at source.new; sink = K.at sink.new })
@@ -79,7 +79,7 @@ where
         × (places.new ≡ places.old) }
     ensures usage { (AreTaken (map string_bytes words.now) → ⊥)
         → (IsRefused (record { source = S.at source.old; sink = K.at sink.old })
-        (record { source = S.at source.new; sink = K.at sink.new })
+        (record { source = S.at source.new; sink = K.at sink.new }) (K.ended sink.new)
         (AreTimed C.tick clock.old clock.new None) result
         ⊎ IsUnbegun (record { source = S.at source.old; sink = K.at sink.old })
         (record { source = S.at source.new; sink = K.at sink.new })
@@ -130,7 +130,7 @@ fn pipe_at<S: Source, K: Sink, C: Clock>(
     clock: &mut C,
 ) -> Status
     ensures { IsRun config (record { source = S.at source.old; sink = K.at sink.old })
-        (record { source = S.at source.new; sink = K.at sink.new })
+        (record { source = S.at source.new; sink = K.at sink.new }) (K.ended sink.new)
         (AreTimed C.tick clock.old clock.new at) result }
 {
     match at {
@@ -151,7 +151,7 @@ fn pipe<S: Source, K: Sink, C: Clock>(
     clock: &mut C,
 ) -> Status
     ensures { IsRun config (record { source = S.at source.old; sink = K.at sink.old })
-        (record { source = S.at source.new; sink = K.at sink.new })
+        (record { source = S.at source.new; sink = K.at sink.new }) (K.ended sink.new)
         (λ ms. Ticks C.tick clock.old ms clock.new) result }
 {
     let mut room = match Room::new(alloc, &config) {
@@ -189,7 +189,7 @@ fn show_world<K: Sink, P: Places>(
     sink: &mut K,
     places: &P,
 ) -> Status
-    ensures { GaveWorld options.seed options.steps (K.at sink.old) (K.at sink.new) result }
+    ensures { GaveWorld options.seed options.steps (K.at sink.old) (K.at sink.new) (K.ended sink.new) result }
 {
     let mut listener = Listener {
         places,
@@ -208,7 +208,8 @@ fn show_world<K: Sink, P: Places>(
 
 /// Writes the usage line, and ends the sink.
 fn refuse<K: Sink>(sink: &mut K) -> Status
-    ensures { IsUsage (K.at sink.old) (K.at sink.new) result }
+    ensures usage { IsUsage (K.at sink.old) (K.at sink.new) result }
+    ensures ended { HasEnded (K.ended sink.new) (K.at sink.new).bytes }
 {
     let given = give_all(sink, USAGE);
     sink.end();
@@ -220,7 +221,7 @@ fn refuse<K: Sink>(sink: &mut K) -> Status
 
 /// Writes the text of the help or of the version, and ends the sink.
 fn show<K: Sink>(alloc: Global, text: &Error, sink: &mut K) -> Status
-    ensures { IsText (K.at sink.old) (K.at sink.new) result }
+    ensures { IsText (K.at sink.old) (K.at sink.new) (K.ended sink.new) result }
 {
     let Ok(line) = format!(in alloc; "{text}") else {
         return Status::Memory;

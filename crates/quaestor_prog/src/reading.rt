@@ -33,7 +33,7 @@ pub(crate) fn read_at<K: Sink, P: Places>(
     sink: &mut K,
     places: &mut P,
 ) -> Status
-    ensures { HasRead P.Link.at P.Link.answers P.at P.links (read_ask_of options.now) (K.at sink.old) (K.at sink.new) places.old places.new result }
+    ensures { HasRead P.Link.at P.Link.answers P.at P.links (read_ask_of options.now) (K.at sink.old) (K.at sink.new) (K.ended sink.new) places.old places.new result }
 {
     match places.reach(options.address) {
         Ok(mut link) => {

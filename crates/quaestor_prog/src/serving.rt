@@ -30,7 +30,7 @@ where
     R: Threads + Wait + Copy + Send + 'static,
     requires places { 0 < options.places }
     requires workers { 0 < options.workers }
-    ensures { HasServed P.Doors.From.at P.Doors.To.at C.tick (C.is_clone clock.now) P.Doors.at P.at P.gives P.tells (ask_of options.entry) (K.at sink.old) (K.at sink.new) places.old places.new result }
+    ensures { HasServed P.Doors.From.at P.Doors.To.at P.Doors.To.ended C.tick (C.is_clone clock.now) P.Doors.at P.at P.gives P.tells (ask_of options.entry) (K.at sink.old) (K.at sink.new) (K.ended sink.new) places.old places.new result }
 {
     match places.listen(options.address, options.limits) {
         Ok(mut doors) => {
@@ -71,7 +71,7 @@ where
     R: Threads + Wait + Copy + Send + 'static,
     requires places { 0 < options.places }
     requires workers { 0 < options.workers }
-    ensures { IsThrough D.From.at D.To.at C.tick (C.is_clone clock.now) D.at (ask_of options.entry) address.now (K.at sink.old) (K.at sink.new) doors.old doors.new result }
+    ensures { IsThrough D.From.at D.To.at D.To.ended C.tick (C.is_clone clock.now) D.at (ask_of options.entry) address.now (K.at sink.old) (K.at sink.new) doors.old doors.new result }
 {
     match give_line(sink, b"listening on ", address.as_bytes()) {
         Ok(()) => serve_announced(rt, alloc, options, sink, clock, doors),
@@ -95,7 +95,7 @@ where
     R: Threads + Wait + Copy + Send + 'static,
     requires places { 0 < options.places }
     requires workers { 0 < options.workers }
-    ensures { IsServed D.From.at D.To.at C.tick (C.is_clone clock.now) D.at (ask_of options.entry) (K.at sink.old) (K.at sink.new) doors.old doors.new result }
+    ensures { IsServed D.From.at D.To.at D.To.ended C.tick (C.is_clone clock.now) D.at (ask_of options.entry) (K.at sink.old) (K.at sink.new) doors.old doors.new result }
 {
     let crew = Crew {
         places: options.places,

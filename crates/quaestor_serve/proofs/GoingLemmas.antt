@@ -9,7 +9,7 @@ use Rattle.std.proofs.lemmas.Grind.{flat_map-append}
 use Rattle.hub_model.specs.declared.entry.Entry.{Entry}
 use Rattle.hub_model.specs.Setting.{Setting}
 use Rattle.q_outside.specs.Doors.{DoorsView, Passes, Counts, TookBack}
-use Rattle.q_outside.specs.Ends.{End}
+use Rattle.q_outside.specs.Ends.{End, LastEnd}
 use Rattle.q_outside.specs.declared.connections.Back.{Back}
 use Rattle.q_outside.specs.declared.served.Served.{Served}
 use Rattle.q_outside.proofs.DoorLemmas.{passed_nothing, passed_both}
@@ -59,9 +59,9 @@ module _ {S K C : Type 0} where
       let longer : length new ≡ length old + 1 = ap length more ∙ length-append old (r ∷ []) in
       some_least away (length old + 1) (length new + 0) (omega (arith, longer)) room
 
-module _ {S K C : Type 0} (source_at : S → End) (sink_at : K → End) (tick : C → ℕ → C → Type 0) (may : C → Type 0) where
+module _ {S K C : Type 0} (source_at : S → End) (sink_at : K → End) (ended_at : K → LastEnd) (tick : C → ℕ → C → Type 0) (may : C → Type 0) where
   -- a connection was handed back
-  pub goes_back : (first old new : DoorsView S K) (h l : Hall S K C) (waiting : List (Begun S K C)) (count closed : ℕ) (source : S) (sink : K) (served : Served) → Stays h l → Releases source_at sink_at tick h l source sink served → TookBack old new source sink (Some served) → Going source_at sink_at tick may first old h waiting count closed → Going source_at sink_at tick may first new l waiting count closed
+  pub goes_back : (first old new : DoorsView S K) (h l : Hall S K C) (waiting : List (Begun S K C)) (count closed : ℕ) (source : S) (sink : K) (served : Served) → Stays h l → Releases source_at sink_at ended_at tick h l source sink served → TookBack old new source sink (Some served) → Going source_at sink_at ended_at tick may first old h waiting count closed → Going source_at sink_at ended_at tick may first new l waiting count closed
   goes_back first old new h l waiting count closed source sink served same r took going =
       let start = given_at first in
       let visit : Visit S K = record { number = r.begun.number.value; source = r.begun.source.value; sink = r.begun.sink.value; source_left = source; sink_left = sink; served = served; own = r.own; after = start + count; began = seen r.begun.seat.value; ended = r.ended } in
@@ -88,9 +88,9 @@ module _ {S K C : Type 0} (source_at : S → End) (sink_at : K → End) (tick : 
         passed = subst (λ (n : ℕ). Passes first new going.came (map back_of (going.visits ++ visit ∷ [])) n) none
             (subst (λ (xs : List (Back S K)). Passes first new going.came xs (closed + 0)) (sym handed)
             (subst (λ (xs : List (S × K)). Passes first new xs (map back_of going.visits ++ back_of visit ∷ []) (closed + 0)) (append-nil going.came) both));
-        each = all_append (IsWell source_at sink_at tick may (setting_in l) (seen_in l)) going.visits (visit ∷ [])
-            (all_stay source_at sink_at tick may (setting_in l) (seen_in h) (seen_in l) going.visits r.grew (subst (λ (g : Setting). AllOf (IsWell source_at sink_at tick may g (seen_in h)) going.visits) (sym setting) going.each))
-            ((r.begun.clock.value, allowed.0, r.is_served), tt);
+        each = all_append (IsWell source_at sink_at ended_at tick may (setting_in l) (seen_in l)) going.visits (visit ∷ [])
+            (all_stay source_at sink_at ended_at tick may (setting_in l) (seen_in h) (seen_in l) going.visits r.grew (subst (λ (g : Setting). AllOf (IsWell source_at sink_at ended_at tick may g (seen_in h)) going.visits) (sym setting) going.each))
+            ((r.begun.clock.value, allowed.0, r.is_served, r.is_ended), tt);
         ordered = ordered_more start going.visits visit going.ordered (later_first start going.visits r.begun (open_in waiting l) later)
             (known_to_none start visit count (λ (v : Visit S K). v.number) (λ (v : Visit S K). v.began) (going.visits ++ visit ∷ []) refl below_visits);
         later = all_append (IsLater start (open_in waiting l)) going.visits (visit ∷ []) (later_rest start going.visits r.begun (open_in waiting l) later)
@@ -105,7 +105,7 @@ module _ {S K C : Type 0} (source_at : S → End) (sink_at : K → End) (tick : 
       }
 
   -- the doors gave no connection
-  pub goes_on : (first old new : DoorsView S K) (h : Hall S K C) (waiting : List (Begun S K C)) (count closed more : ℕ) → Passes old new [] [] more → Going source_at sink_at tick may first old h waiting count closed → Going source_at sink_at tick may first new h waiting count (closed + more)
+  pub goes_on : (first old new : DoorsView S K) (h : Hall S K C) (waiting : List (Begun S K C)) (count closed more : ℕ) → Passes old new [] [] more → Going source_at sink_at ended_at tick may first old h waiting count closed → Going source_at sink_at ended_at tick may first new h waiting count (closed + more)
   goes_on first old new h waiting count closed more passed going =
       let handed = map back_of going.visits in
       let both : Passes first new (going.came ++ []) (handed ++ []) (closed + more) = passed_both first old new going.came [] handed [] closed more going.passed passed in
@@ -124,7 +124,7 @@ module _ {S K C : Type 0} (source_at : S → End) (sink_at : K → End) (tick : 
       }
 
   -- a connection came, with a seat that was split off the main one since, and waits for a thread
-  pub comes : (first old new : DoorsView S K) (h : Hall S K C) (count : ℕ) (b : Begun S K C) (source : S) (sink : K) → Passes old new ((source, sink) ∷ []) [] 0 → b.number.value ≡ count → b.source.value ≡ source → b.sink.value ≡ sink → seen b.seat.value ≡ seen_in h → may b.clock.value → Going source_at sink_at tick may first old h [] count 0 → Going source_at sink_at tick may first new h (b ∷ []) (count + 1) 0
+  pub comes : (first old new : DoorsView S K) (h : Hall S K C) (count : ℕ) (b : Begun S K C) (source : S) (sink : K) → Passes old new ((source, sink) ∷ []) [] 0 → b.number.value ≡ count → b.source.value ≡ source → b.sink.value ≡ sink → seen b.seat.value ≡ seen_in h → may b.clock.value → Going source_at sink_at ended_at tick may first old h [] count 0 → Going source_at sink_at ended_at tick may first new h (b ∷ []) (count + 1) 0
   comes first old new h count b source sink passed number_is source_is sink_is seen_is allowed going =
       let handed = map back_of going.visits in
       let both : Passes first new (going.came ++ (source, sink) ∷ []) (handed ++ []) (0 + 0) = passed_both first old new going.came ((source, sink) ∷ []) handed [] 0 0 going.passed passed in
@@ -142,7 +142,7 @@ module _ {S K C : Type 0} (source_at : S → End) (sink_at : K → End) (tick : 
         passed = subst (λ (xs : List (Back S K)). Passes first new (going.came ++ (source, sink) ∷ []) xs 0) (append-nil handed) both;
         each = going.each;
         ordered = going.ordered;
-        later = later_more (given_at first) going.visits b (open_in [] h) (seen_in h) seen_is (ends_known source_at sink_at tick may (setting_in h) (seen_in h) going.visits going.each) going.later;
+        later = later_more (given_at first) going.visits b (open_in [] h) (seen_in h) seen_is (ends_known source_at sink_at ended_at tick may (setting_in h) (seen_in h) going.visits going.each) going.later;
         met = going.met;
         once = going.once;
         count_is = length-append going.came ((source, sink) ∷ []) ∙ ap (λ (n : ℕ). n + 1) going.count_is;
@@ -150,7 +150,7 @@ module _ {S K C : Type 0} (source_at : S → End) (sink_at : K → End) (tick : 
       }
 
   -- it has a thread
-  pub goes_in : (first now : DoorsView S K) (h l : Hall S K C) (r : Running S K C) (count : ℕ) → arc_value l.turnstile ≡ arc_value h.turnstile → l.running.items ≡ h.running.items ++ r ∷ [] → seen_in l ≡ seen_in h → met_in l ≡ met_in h → Going source_at sink_at tick may first now h (begun_of r ∷ []) count 0 → Going source_at sink_at tick may first now l [] count 0
+  pub goes_in : (first now : DoorsView S K) (h l : Hall S K C) (r : Running S K C) (count : ℕ) → arc_value l.turnstile ≡ arc_value h.turnstile → l.running.items ≡ h.running.items ++ r ∷ [] → seen_in l ≡ seen_in h → met_in l ≡ met_in h → Going source_at sink_at ended_at tick may first now h (begun_of r ∷ []) count 0 → Going source_at sink_at ended_at tick may first now l [] count 0
   goes_in first now h l r count same more seen_same met_same going =
       let setting : setting_in l ≡ setting_in h = ap setting_at same in
       let given = map given_of going.visits in
@@ -162,7 +162,7 @@ module _ {S K C : Type 0} (source_at : S → End) (sink_at : K → End) (tick : 
         came_are = IsPermutation-trans (enumerate_from 0 going.came) (given ++ map began_with (open_in (begun_of r ∷ []) h)) (given ++ map began_with (open_in [] l)) going.came_are
             (IsPermutation-append_right given (map began_with (open_in (begun_of r ∷ []) h)) (map began_with (open_in [] l)) (IsPermutation-map began_with (open_in (begun_of r ∷ []) h) (open_in [] l) turned));
         passed = going.passed;
-        each = subst (λ (g : Setting). AllOf (IsWell source_at sink_at tick may g (seen_in l)) going.visits) (sym setting) (subst (λ (s : List Entry). AllOf (IsWell source_at sink_at tick may (setting_in h) s) going.visits) (sym seen_same) going.each);
+        each = subst (λ (g : Setting). AllOf (IsWell source_at sink_at ended_at tick may g (seen_in l)) going.visits) (sym setting) (subst (λ (s : List Entry). AllOf (IsWell source_at sink_at ended_at tick may (setting_in h) s) going.visits) (sym seen_same) going.each);
         ordered = going.ordered;
         later = later_permuted (given_at first) going.visits (open_in (begun_of r ∷ []) h) (open_in [] l) turned going.later;
         met = met_same ∙ going.met;
@@ -172,11 +172,11 @@ module _ {S K C : Type 0} (source_at : S → End) (sink_at : K → End) (tick : 
       }
 
   -- the doors failed
-  pub fails : (first old new : DoorsView S K) (h : Hall S K C) (count : ℕ) → Passes old new [] [] 0 → old.faults < new.faults → Going source_at sink_at tick may first old h [] count 0 → Going source_at sink_at tick may first new h [] count 0 × (first.faults < new.faults)
+  pub fails : (first old new : DoorsView S K) (h : Hall S K C) (count : ℕ) → Passes old new [] [] 0 → old.faults < new.faults → Going source_at sink_at ended_at tick may first old h [] count 0 → Going source_at sink_at ended_at tick may first new h [] count 0 × (first.faults < new.faults)
   fails first old new h count passed rose going = (goes_on first old new h [] count 0 0 passed going, (let before = going.passed.count in omega (arith, before, rose)))
 
   -- nothing was done yet
-  pub going_begins : (first : DoorsView S K) (h : Hall S K C) → h.running.items ≡ [] → met_in h ≡ [] → Going source_at sink_at tick may first first h [] 0 0
+  pub going_begins : (first : DoorsView S K) (h : Hall S K C) → h.running.items ≡ [] → met_in h ≡ [] → Going source_at sink_at ended_at tick may first first h [] 0 0
   going_begins first h none met_none =
       let nobody : begun_in h ≡ [] = ap (λ (rs : List (Running S K C)). map begun_of rs) none in
       record {
@@ -194,7 +194,7 @@ module _ {S K C : Type 0} (source_at : S → End) (sink_at : K → End) (tick : 
       }
 
   -- the hall is the same to connections
-  pub going_same : (first now : DoorsView S K) (h l : Hall S K C) (waiting : List (Begun S K C)) (count closed : ℕ) → IsAsBefore h l → Going source_at sink_at tick may first now h waiting count closed → Going source_at sink_at tick may first now l waiting count closed
+  pub going_same : (first now : DoorsView S K) (h l : Hall S K C) (waiting : List (Begun S K C)) (count closed : ℕ) → IsAsBefore h l → Going source_at sink_at ended_at tick may first now h waiting count closed → Going source_at sink_at ended_at tick may first now l waiting count closed
   going_same first now h l waiting count closed same going =
       let begun : begun_in l ≡ begun_in h = ap (λ (rs : List (Running S K C)). map begun_of rs) same.2 in
       let setting : setting_in l ≡ setting_in h = ap setting_at same.0 in
@@ -203,7 +203,7 @@ module _ {S K C : Type 0} (source_at : S → End) (sink_at : K → End) (tick : 
         visits = going.visits;
         came_are = subst (λ (bs : List (Begun S K C)). IsPermutation (enumerate_from 0 going.came) (map given_of going.visits ++ map began_with (waiting ++ bs))) (sym begun) going.came_are;
         passed = going.passed;
-        each = subst (λ (g : Setting). AllOf (IsWell source_at sink_at tick may g (seen_in l)) going.visits) (sym setting) (subst (λ (s : List Entry). AllOf (IsWell source_at sink_at tick may (setting_in h) s) going.visits) (sym same.4) going.each);
+        each = subst (λ (g : Setting). AllOf (IsWell source_at sink_at ended_at tick may g (seen_in l)) going.visits) (sym setting) (subst (λ (s : List Entry). AllOf (IsWell source_at sink_at ended_at tick may (setting_in h) s) going.visits) (sym same.4) going.each);
         ordered = going.ordered;
         later = subst (λ (bs : List (Begun S K C)). AllOf (IsLater (given_at first) (waiting ++ bs)) going.visits) (sym begun) going.later;
         met = same.3 ∙ going.met;
@@ -212,9 +212,9 @@ module _ {S K C : Type 0} (source_at : S → End) (sink_at : K → End) (tick : 
         clocks = subst (λ (bs : List (Begun S K C)). AllOf (λ b. may b.clock.value) (waiting ++ bs)) (sym begun) going.clocks;
       }
 
-module _ {S K C : Type 0} (source_at : S → End) (sink_at : K → End) (tick : C → ℕ → C → Type 0) (is_clone : C → C → Type 0) where
+module _ {S K C : Type 0} (source_at : S → End) (sink_at : K → End) (ended_at : K → LastEnd) (tick : C → ℕ → C → Type 0) (is_clone : C → C → Type 0) where
   -- none was handed back
-  pub hands_none : (now : DoorsView S K) (h : Hall S K C) → IsReady h → HandsBack source_at sink_at tick is_clone now now h h
+  pub hands_none : (now : DoorsView S K) (h : Hall S K C) → IsReady h → HandsBack source_at sink_at ended_at tick is_clone now now h h
   hands_none now h ready = record {
     stays = (refl, refl, refl);
     ready = ready;
@@ -226,7 +226,7 @@ module _ {S K C : Type 0} (source_at : S → End) (sink_at : K → End) (tick : 
   }
 
   -- some were, and then others
-  pub hands_both : (a b c : DoorsView S K) (h i j : Hall S K C) → HandsBack source_at sink_at tick is_clone a b h i → HandsBack source_at sink_at tick is_clone b c i j → HandsBack source_at sink_at tick is_clone a c h j
+  pub hands_both : (a b c : DoorsView S K) (h i j : Hall S K C) → HandsBack source_at sink_at ended_at tick is_clone a b h i → HandsBack source_at sink_at ended_at tick is_clone b c i j → HandsBack source_at sink_at ended_at tick is_clone a c h j
   hands_both a b c h i j p q = record {
     stays = (q.stays.0 ∙ p.stays.0, q.stays.1 ∙ p.stays.1, q.stays.2 ∙ p.stays.2);
     ready = q.ready;
@@ -238,7 +238,7 @@ module _ {S K C : Type 0} (source_at : S → End) (sink_at : K → End) (tick : 
   }
 
   -- one was
-  pub hands_one : (old new : DoorsView S K) (h l : Hall S K C) (source : S) (sink : K) (served : Served) → Stays h l → IsReady l → KeepsOut h l → length l.running.items + 1 ≡ length h.running.items → Releases source_at sink_at tick h l source sink served → TookBack old new source sink (Some served) → HandsBack source_at sink_at tick is_clone old new h l
+  pub hands_one : (old new : DoorsView S K) (h l : Hall S K C) (source : S) (sink : K) (served : Served) → Stays h l → IsReady l → KeepsOut h l → length l.running.items + 1 ≡ length h.running.items → Releases source_at sink_at ended_at tick h l source sink served → TookBack old new source sink (Some served) → HandsBack source_at sink_at ended_at tick is_clone old new h l
   hands_one old new h l source sink served same ready out less r took =
       let passed = took (given_at old) (count_given old.given) in
       record {
@@ -248,11 +248,11 @@ module _ {S K C : Type 0} (source_at : S → End) (sink_at : K → End) (tick : 
         fewer = omega (arith, less);
         room = λ more room. away_still old.away new.away 0 1 (length h.running.items + more) (length l.running.items + more) passed.away (omega (arith, less)) room;
         faults = passed.count;
-        going = λ clock first waiting count closed going. goes_back source_at sink_at tick (is_clone clock) first old new h l waiting count closed source sink served same r took going;
+        going = λ clock first waiting count closed going. goes_back source_at sink_at ended_at tick (is_clone clock) first old new h l waiting count closed source sink served same r took going;
       }
 
   -- memory for those that are served is kept where some were handed back
-  pub room_kept : (a b : DoorsView S K) (h i : Hall S K C) → HandsBack source_at sink_at tick is_clone a b h i → HaveRoom a h 0 → HaveRoom b i 0
+  pub room_kept : (a b : DoorsView S K) (h i : Hall S K C) → HandsBack source_at sink_at ended_at tick is_clone a b h i → HaveRoom a h 0 → HaveRoom b i 0
   room_kept a b h i p room = p.room 0 room
 
 -- what a series of connections that are handed back comes to

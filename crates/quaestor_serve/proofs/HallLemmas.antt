@@ -9,7 +9,7 @@ use Rattle.hub_model.specs.declared.entry.Entry.{Entry}
 use Rattle.hub_model.specs.Desk.{IsPrefix}
 use Rattle.hub_model.specs.Legal.{IsLegal}
 use Rattle.hub_model.specs.Setting.{Setting}
-use Rattle.q_outside.specs.Ends.{End}
+use Rattle.q_outside.specs.Ends.{End, LastEnd}
 use Rattle.quaestor_serve.specs.declared.begun.Begun.{Begun}
 use Rattle.quaestor_serve.specs.declared.begun.Done.{Done}
 use Rattle.quaestor_serve.specs.declared.hall.Hall.{Hall}
@@ -123,8 +123,8 @@ module _ {S K C : Type 0} where
   left_at turnstile old new r left all = all_permuted (IsAt turnstile) (map begun_of old) (begun_of r ∷ map begun_of new) (IsPermutation-map begun_of old (r ∷ new) left) all
 
   -- the seat of one that has left is at the turnstile
-  pub seat_at : (source_at : S → End) (sink_at : K → End) (tick : C → ℕ → C → Type 0) (turnstile found : HubTurnstile) (old new : List (Running S K C)) (r : Running S K C) (done : Done S K) → IsPermutation old (r ∷ new) → found ≡ turnstile → AllOf (IsAt turnstile) (map begun_of old) → KeptOf source_at sink_at tick (begun_of r) done → IsSeatOf hub_setting found done.seat
-  seat_at source_at sink_at tick turnstile found old new r done left same all kept = subst (λ (t : HubTurnstile). IsSeatOf hub_setting t done.seat) ((left_at turnstile old new r left all).0 ∙ sym same) kept.own
+  pub seat_at : (source_at : S → End) (sink_at : K → End) (ended_at : K → LastEnd) (tick : C → ℕ → C → Type 0) (turnstile found : HubTurnstile) (old new : List (Running S K C)) (r : Running S K C) (done : Done S K) → IsPermutation old (r ∷ new) → found ≡ turnstile → AllOf (IsAt turnstile) (map begun_of old) → KeptOf source_at sink_at ended_at tick (begun_of r) done → IsSeatOf hub_setting found done.seat
+  seat_at source_at sink_at ended_at tick turnstile found old new r done left same all kept = subst (λ (t : HubTurnstile). IsSeatOf hub_setting t done.seat) ((left_at turnstile old new r left all).0 ∙ sym same) kept.own
 
   -- the hall is ready once a connection has left
   pub ready_without : (turnstile found : HubTurnstile) (old new : List (Running S K C)) (r : Running S K C) (history : List Entry) → IsPermutation old (r ∷ new) → found ≡ turnstile → AllOf (IsAt turnstile) (map begun_of old) → IsLegal (setting_at found) history → AllOf (IsAt turnstile) (map begun_of new) × IsLegal (setting_at turnstile) history
@@ -148,8 +148,8 @@ module _ {S K C : Type 0} where
       (subst (λ (bs : List (Begun S K C)). AllOf (IsAt turnstile) bs) (sym behind) (all_append (IsAt turnstile) (map begun_of old) (begun_of r ∷ []) ready.0 (at, tt)), ready.1)
 
   -- a connection left
-  pub released : (source_at : S → End) (sink_at : K → End) (tick : C → ℕ → C → Type 0) (h l : Hall S K C) (r : Running S K C) (done : Done S K) → IsPermutation h.running.items (r ∷ l.running.items) → arc_value l.turnstile ≡ arc_value h.turnstile → AllOf (IsAt (arc_value h.turnstile)) (begun_in h) → KeptOf source_at sink_at tick (begun_of r) done → IsPrefix (seen_in h) (seen_in l) → IsPrefix (seen done.seat) (seen_in l) → met_in l ≡ met_in h ++ (mine done.seat ++ met done.seat) → Distinct (met_in l) → Releases source_at sink_at tick h l done.source done.sink done.served
-  released source_at sink_at tick h l r done left same all kept this that met_is once =
+  pub released : (source_at : S → End) (sink_at : K → End) (ended_at : K → LastEnd) (tick : C → ℕ → C → Type 0) (h l : Hall S K C) (r : Running S K C) (done : Done S K) → IsPermutation h.running.items (r ∷ l.running.items) → arc_value l.turnstile ≡ arc_value h.turnstile → AllOf (IsAt (arc_value h.turnstile)) (begun_in h) → KeptOf source_at sink_at ended_at tick (begun_of r) done → IsPrefix (seen_in h) (seen_in l) → IsPrefix (seen done.seat) (seen_in l) → met_in l ≡ met_in h ++ (mine done.seat ++ met done.seat) → Distinct (met_in l) → Releases source_at sink_at ended_at tick h l done.source done.sink done.served
+  released source_at sink_at ended_at tick h l r done left same all kept this that met_is once =
       let at : (begun_of r).turnstile.value ≡ arc_value h.turnstile = (left_at (arc_value h.turnstile) h.running.items l.running.items r left all).0 in
       let setting : setting_at (begun_of r).turnstile.value ≡ setting_in l = ap setting_at (at ∙ sym same) in
       let served = served_stays tick (setting_at (begun_of r).turnstile.value) (seen done.seat) (seen_in l) (begun_of r).clock.value (seen (begun_of r).seat.value) (seen done.seat) (sides_of source_at sink_at (begun_of r).source.value (begun_of r).sink.value) (sides_of source_at sink_at done.source done.sink) (mine done.seat) done.served that kept.served in
@@ -162,6 +162,7 @@ module _ {S K C : Type 0} where
         once = once;
         grew = this;
         is_served = subst (λ (g : Setting). IsServed tick g (seen_in l) (begun_of r).clock.value (seen (begun_of r).seat.value) (seen done.seat) (sides_of source_at sink_at (begun_of r).source.value (begun_of r).sink.value) (sides_of source_at sink_at done.source done.sink) (mine done.seat) done.served) setting served;
+        is_ended = kept.is_ended;
       }
 
   -- a matcher's seat was joined to the main one

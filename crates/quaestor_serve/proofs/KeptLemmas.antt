@@ -2,7 +2,7 @@
 use Rattle.std.proofs.Common.{◌≡◌, ℕ, List, [], ◌∷◌, refl, sym, ap, ◌∙◌, subst}
 use Rattle.hub_desk.specs.HubValue.{hub_setting}
 use Rattle.hub_model.specs.declared.entry.Entry.{Entry}
-use Rattle.q_outside.specs.Ends.{End, Ticks}
+use Rattle.q_outside.specs.Ends.{End, HasEnded, LastEnd, Ticks}
 use Rattle.q_outside.specs.declared.served.Served.{Served}
 use Rattle.quaestor_server.specs.Conversation.{Conversation}
 use Rattle.quaestor_serve.specs.Kept.{HubTurnstile, HubSeat, IsFreshAt, Kept, setting_at}
@@ -19,8 +19,8 @@ pub part_stays : (old new : HubSeat) → parts new ≡ parts old → IsPart old 
 part_stays old new same part = subst (λ (p : List ℕ × List ℕ). (p.0 ≡ 1 ∷ []) × (p.1 ≡ [])) (sym same) part
 
 -- a conversation at a fresh seat was well served; `turn_before` and `before` are the turnstile and the seat of the desk at first, `turn_after` and `after` at last
-pub kept_after : {S K C : Type 0} (source_at : S → End) (sink_at : K → End) (tick : C → ℕ → C → Type 0) (turnstile turn_before turn_after : HubTurnstile) (seat before after last : HubSeat) (source source_left : S) (sink sink_left sink_last : K) (clock late : C) (served : Served) → turn_before ≡ turnstile → before ≡ seat → turn_after ≡ turn_before → met after ≡ met before → parts after ≡ parts before → last ≡ after → IsSeatOf hub_setting turn_after last → IsIdle last → IsFreshAt turnstile seat → sink_at sink_last ≡ sink_at sink_left → Conversation (setting_at turn_before) (λ moments. Ticks tick clock moments late) (seen before) (seen after) (mine before) (mine after) (sides_of source_at sink_at source sink) (sides_of source_at sink_at source_left sink_left) served → Kept source_at sink_at tick turnstile seat source sink clock (record { seat = last; source = source_left; sink = sink_last; served = served })
-kept_after source_at sink_at tick turnstile turn_before turn_after seat before after last source source_left sink sink_left sink_last clock late served at here same met_same parts_same last_is own idle fresh ended talk =
+pub kept_after : {S K C : Type 0} (source_at : S → End) (sink_at : K → End) (ended_at : K → LastEnd) (tick : C → ℕ → C → Type 0) (turnstile turn_before turn_after : HubTurnstile) (seat before after last : HubSeat) (source source_left : S) (sink sink_left sink_last : K) (clock late : C) (served : Served) → turn_before ≡ turnstile → before ≡ seat → turn_after ≡ turn_before → met after ≡ met before → parts after ≡ parts before → last ≡ after → IsSeatOf hub_setting turn_after last → IsIdle last → IsFreshAt turnstile seat → sink_at sink_last ≡ sink_at sink_left → HasEnded (ended_at sink_last) (sink_at sink_last).bytes → Conversation (setting_at turn_before) (λ moments. Ticks tick clock moments late) (seen before) (seen after) (mine before) (mine after) (sides_of source_at sink_at source sink) (sides_of source_at sink_at source_left sink_left) served → Kept source_at sink_at ended_at tick turnstile seat source sink clock (record { seat = last; source = source_left; sink = sink_last; served = served })
+kept_after source_at sink_at ended_at tick turnstile turn_before turn_after seat before after last source source_left sink sink_left sink_last clock late served at here same met_same parts_same last_is own idle fresh ended is_ended talk =
     let timed : List ℕ → Type 0 = λ moments. Ticks tick clock moments late in
     let first = sides_of source_at sink_at source sink in
     let none : mine before ≡ [] = ap mine here ∙ fresh.mine in
@@ -42,4 +42,5 @@ kept_after source_at sink_at tick turnstile turn_before turn_after seat before a
         begins = ap seen here;
         ends = refl;
       };
+      is_ended = is_ended;
     }

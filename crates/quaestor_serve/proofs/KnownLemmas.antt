@@ -6,7 +6,7 @@ use Rattle.hub_model.specs.declared.entry.Entry.{Entry}
 use Rattle.hub_model.specs.Desk.{IsPrefix}
 use Rattle.hub_model.specs.Setting.{Setting}
 use Rattle.q_outside.specs.Doors.{Counts}
-use Rattle.q_outside.specs.Ends.{End}
+use Rattle.q_outside.specs.Ends.{End, LastEnd}
 use Rattle.quaestor_serve.specs.declared.begun.Begun.{Begun}
 use Rattle.quaestor_serve.specs.Visits.{Visit, IsWell, IsKnownTo, AreOrdered}
 use Rattle.turnstile.specs.Places.{AllOf}
@@ -67,5 +67,5 @@ module _ {S K C : Type 0} (start : ℕ) where
       all_both (λ v. IsPrefix v.ended history) (IsLater left) (IsLater (b ∷ left)) (λ v ended all. ((λ before. subst (λ (s : List Entry). IsPrefix v.ended s) (sym is) ended), all)) visits known later
 
 -- what was known at the end of each is in the history
-pub ends_known : {S K C : Type 0} (source_at : S → End) (sink_at : K → End) (tick : C → ℕ → C → Type 0) (may : C → Type 0) (g : Setting) (history : List Entry) (visits : List (Visit S K)) → AllOf (IsWell source_at sink_at tick may g history) visits → AllOf (λ v. IsPrefix v.ended history) visits
-ends_known source_at sink_at tick may g history visits = all_map (IsWell source_at sink_at tick may g history) (λ v. IsPrefix v.ended history) (λ v w. served_ended tick g history w.0 v.began v.ended _ _ v.own v.served w.2) visits
+pub ends_known : {S K C : Type 0} (source_at : S → End) (sink_at : K → End) (ended_at : K → LastEnd) (tick : C → ℕ → C → Type 0) (may : C → Type 0) (g : Setting) (history : List Entry) (visits : List (Visit S K)) → AllOf (IsWell source_at sink_at ended_at tick may g history) visits → AllOf (λ v. IsPrefix v.ended history) visits
+ends_known source_at sink_at ended_at tick may g history visits = all_map (IsWell source_at sink_at ended_at tick may g history) (λ v. IsPrefix v.ended history) (λ v w. served_ended tick g history w.0 v.began v.ended _ _ v.own v.served w.2) visits

@@ -11,7 +11,7 @@ use Rattle.hub_model.specs.Desk.{IsPrefix}
 use Rattle.hub_model.specs.Legal.{IsLegal}
 use Rattle.hub_model.specs.Setting.{Setting}
 use Rattle.q_outside.specs.Doors.{DoorsView, Passes}
-use Rattle.q_outside.specs.Ends.{End}
+use Rattle.q_outside.specs.Ends.{End, LastEnd}
 use Rattle.q_outside.proofs.DoorLemmas.{passed_nothing}
 use Rattle.quaestor_serve.specs.declared.begun.Begun.{Begun}
 use Rattle.quaestor_serve.specs.declared.hall.Hall.{Hall}
@@ -124,23 +124,23 @@ module _ {S K C : Type 0} (tick : C → ℕ → C → Type 0) (may : C → Type 
         once = λ once. q.once (p.once once);
       }
 
-module _ {S K C : Type 0} (source_at : S → End) (sink_at : K → End) (tick : C → ℕ → C → Type 0) (may : C → Type 0) where
+module _ {S K C : Type 0} (source_at : S → End) (sink_at : K → End) (ended_at : K → LastEnd) (tick : C → ℕ → C → Type 0) (may : C → Type 0) where
   -- a cause that was found is the cause
-  pub ended_by : (first now : DoorsView S K) (h : Hall S K C) (count most : ℕ) (why found : ServeWhy) → why ≡ found → Going source_at sink_at tick may first now h [] count (closings_by found) → EndsBy found first now count most → Going source_at sink_at tick may first now h [] count (closings_by why) × EndsBy why first now count most
+  pub ended_by : (first now : DoorsView S K) (h : Hall S K C) (count most : ℕ) (why found : ServeWhy) → why ≡ found → Going source_at sink_at ended_at tick may first now h [] count (closings_by found) → EndsBy found first now count most → Going source_at sink_at ended_at tick may first now h [] count (closings_by why) × EndsBy why first now count most
   ended_by first now h count most why found is going ends = (
-    subst (λ (w : ServeWhy). Going source_at sink_at tick may first now h [] count (closings_by w)) (sym is) going,
+    subst (λ (w : ServeWhy). Going source_at sink_at ended_at tick may first now h [] count (closings_by w)) (sym is) going,
     subst (λ (w : ServeWhy). EndsBy w first now count most) (sym is) ends,
   )
 
   -- a server that did not begin has ended
-  pub ends_none : (first : DoorsView S K) (h : Hall S K C) (most : ℕ) (end : ServeEnd) → 0 < most → IsUnbegun end → Going source_at sink_at tick may first first h [] 0 0 → Ends source_at sink_at tick may first first h most end
+  pub ends_none : (first : DoorsView S K) (h : Hall S K C) (most : ℕ) (end : ServeEnd) → 0 < most → IsUnbegun end → Going source_at sink_at ended_at tick may first first h [] 0 0 → Ends source_at sink_at ended_at tick may first first h most end
   ends_none first h most end some unbegun going = (
-    subst (λ (n : ℕ). Going source_at sink_at tick may first first h [] n (closings_by end.why)) (sym unbegun.0) (subst (λ (n : ℕ). Going source_at sink_at tick may first first h [] 0 n) (sym (none_closed end unbegun)) going),
+    subst (λ (n : ℕ). Going source_at sink_at ended_at tick may first first h [] n (closings_by end.why)) (sym unbegun.0) (subst (λ (n : ℕ). Going source_at sink_at ended_at tick may first first h [] 0 n) (sym (none_closed end unbegun)) going),
     ends_unbegun first most end some unbegun,
   )
 
   -- a server that has ended at once has served no connection
-  pub serves_at_once : (g : Setting) (first : DoorsView S K) (most : ℕ) (end : ServeEnd) → end.connections ≡ 0 → closings_by end.why ≡ 0 → EndsBy end.why first first end.connections most → Serves source_at sink_at tick may g first first most end
+  pub serves_at_once : (g : Setting) (first : DoorsView S K) (most : ℕ) (end : ServeEnd) → end.connections ≡ 0 → closings_by end.why ≡ 0 → EndsBy end.why first first end.connections most → Serves source_at sink_at ended_at tick may g first first most end
   unfolding IsLegal
   serves_at_once g first most end nobody not_closed ends = record {
     history = [];
@@ -161,11 +161,11 @@ module _ {S K C : Type 0} (source_at : S → End) (sink_at : K → End) (tick : 
   }
 
   -- so has one that had no memory for the first connection
-  pub serves_none : (g : Setting) (first : DoorsView S K) (most : ℕ) (end : ServeEnd) → 0 < most → IsUnbegun end → Serves source_at sink_at tick may g first first most end
+  pub serves_none : (g : Setting) (first : DoorsView S K) (most : ℕ) (end : ServeEnd) → 0 < most → IsUnbegun end → Serves source_at sink_at ended_at tick may g first first most end
   serves_none g first most end some unbegun = serves_at_once g first most end unbegun.0 (none_closed end unbegun) (ends_unbegun first most end some unbegun)
 
   -- once all connections were handed back and the matchers joined, the server has served them
-  pub serves_all : (g : Setting) (first last : DoorsView S K) (h l : Hall S K C) (most : ℕ) (end : ServeEnd) → setting_in h ≡ g → h.running.items ≡ [] → IsLegal (setting_in l) (seen_in l) → IsWholeIn l → Gathers tick may h l → EndsBy end.why first last end.connections most → Going source_at sink_at tick may first last h [] end.connections (closings_by end.why) → Serves source_at sink_at tick may g first last most end
+  pub serves_all : (g : Setting) (first last : DoorsView S K) (h l : Hall S K C) (most : ℕ) (end : ServeEnd) → setting_in h ≡ g → h.running.items ≡ [] → IsLegal (setting_in l) (seen_in l) → IsWholeIn l → Gathers tick may h l → EndsBy end.why first last end.connections most → Going source_at sink_at ended_at tick may first last h [] end.connections (closings_by end.why) → Serves source_at sink_at ended_at tick may g first last most end
   serves_all g first last h l most end setting none legal whole gathers ends going =
       let nobody : begun_in h ≡ [] = ap (λ (rs : List (Running S K C)). map begun_of rs) none in
       let given : map given_of going.visits ++ map began_with (open_in [] h) ≡ map given_of going.visits = ap (λ (bs : List (Begun S K C)). map given_of going.visits ++ map began_with bs) nobody ∙ append-nil (map given_of going.visits) in
@@ -179,7 +179,7 @@ module _ {S K C : Type 0} (source_at : S → End) (sink_at : K → End) (tick : 
         visits = going.visits;
         came_are = came_are;
         passed = going.passed;
-        each = all_stay source_at sink_at tick may g (seen_in h) (seen_in l) going.visits gathers.grew (subst (λ (s : Setting). AllOf (IsWell source_at sink_at tick may s (seen_in h)) going.visits) setting going.each);
+        each = all_stay source_at sink_at ended_at tick may g (seen_in h) (seen_in l) going.visits gathers.grew (subst (λ (s : Setting). AllOf (IsWell source_at sink_at ended_at tick may s (seen_in h)) going.visits) setting going.each);
         ordered = going.ordered;
         others = gathers.own;
         matching = subst (λ (s : Setting). AllOf (IsMatched tick may s (seen_in l)) gathers.own) last_setting gathers.matching;

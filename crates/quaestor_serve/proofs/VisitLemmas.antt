@@ -4,7 +4,7 @@ use Rattle.hub_model.specs.declared.entry.Entry.{Entry}
 use Rattle.hub_model.specs.Desk.{IsPrefix}
 use Rattle.hub_model.specs.Setting.{Setting}
 use Rattle.dialogue.specs.Dialogue.{Sides}
-use Rattle.q_outside.specs.Ends.{End}
+use Rattle.q_outside.specs.Ends.{End, LastEnd}
 use Rattle.q_outside.specs.declared.served.Served.{Served}
 use Rattle.quaestor_serve.specs.Served.{IsServed}
 use Rattle.quaestor_serve.specs.Visits.{Visit, IsWell}
@@ -43,7 +43,7 @@ served_stays tick g history longer clock began ended before after own served gre
 pub served_ended : {C : Type 0} (tick : C → ℕ → C → Type 0) (g : Setting) (history : List Entry) (clock : C) (began ended : List Entry) (before after : Sides) (own : List (ℕ × Entry)) (served : Served) → IsServed tick g history clock began ended before after own served → IsPrefix ended history
 served_ended tick g history clock began ended before after own served s = subst (λ (e : List Entry). IsPrefix e history) s.ends s.well.beginning
 
-module _ {S K C : Type 0} (source_at : S → End) (sink_at : K → End) (tick : C → ℕ → C → Type 0) (may : C → Type 0) where
+module _ {S K C : Type 0} (source_at : S → End) (sink_at : K → End) (ended_at : K → LastEnd) (tick : C → ℕ → C → Type 0) (may : C → Type 0) where
   -- so are all of a list
-  pub all_stay : (g : Setting) (history longer : List Entry) (visits : List (Visit S K)) → IsPrefix history longer → AllOf (IsWell source_at sink_at tick may g history) visits → AllOf (IsWell source_at sink_at tick may g longer) visits
-  all_stay g history longer visits grew = all_map (IsWell source_at sink_at tick may g history) (IsWell source_at sink_at tick may g longer) (λ visit w. (w.0, w.1, served_stays tick g history longer w.0 visit.began visit.ended _ _ visit.own visit.served grew w.2)) visits
+  pub all_stay : (g : Setting) (history longer : List Entry) (visits : List (Visit S K)) → IsPrefix history longer → AllOf (IsWell source_at sink_at ended_at tick may g history) visits → AllOf (IsWell source_at sink_at ended_at tick may g longer) visits
+  all_stay g history longer visits grew = all_map (IsWell source_at sink_at ended_at tick may g history) (IsWell source_at sink_at ended_at tick may g longer) (λ visit w. (w.0, w.1, served_stays tick g history longer w.0 visit.began visit.ended _ _ visit.own visit.served grew w.2, w.3)) visits

@@ -3,7 +3,7 @@ use Rattle.std.specs.Prelude.{◌≡◌, ℕ, ◌+◌, ◌<◌, ◌≤◌, List,
 use Rattle.std.specs.List.{enumerate_from, flat_map}
 use Rattle.std.specs.List.Sorted.{IsPermutation}
 use Rattle.q_outside.specs.Doors.{DoorsView, Passes}
-use Rattle.q_outside.specs.Ends.{End}
+use Rattle.q_outside.specs.Ends.{End, LastEnd}
 use Rattle.quaestor_serve.specs.declared.begun.Begun.{Begun}
 use Rattle.quaestor_serve.specs.declared.hall.Hall.{Hall}
 use Rattle.quaestor_serve.specs.declared.rounds.Round.{Round}
@@ -26,14 +26,14 @@ module _ {S K C : Type 0} where
   abbrev pub open_in : List (Begun S K C) → Hall S K C → List (Begun S K C)
   open_in waiting h = waiting ++ begun_in h
 
-module _ {S K C : Type 0} (source_at : S → End) (sink_at : K → End) (tick : C → ℕ → C → Type 0) (may : C → Type 0) where
+module _ {S K C : Type 0} (source_at : S → End) (sink_at : K → End) (ended_at : K → LastEnd) (tick : C → ℕ → C → Type 0) (may : C → Type 0) where
   -- Since the doors were in their first state, `count` connections came and the doors were closed `closed` times. The visits are the connections that were handed back, in that order, well served by entries at positions of their own. The others wait for a thread or are being served. Each connection knew at its beginning all that was known at the end of each that was handed back before it came.
   pub record Going (first now : DoorsView S K) (h : Hall S K C) (waiting : List (Begun S K C)) (count closed : ℕ) : Type 0 where
     pub came : List (S × K)
     pub visits : List (Visit S K)
     pub came_are : IsPermutation (enumerate_from 0 came) (map given_of visits ++ map began_with (open_in waiting h))
     pub passed : Passes first now came (map back_of visits) closed
-    pub each : AllOf (IsWell source_at sink_at tick may (setting_in h) (seen_in h)) visits
+    pub each : AllOf (IsWell source_at sink_at ended_at tick may (setting_in h) (seen_in h)) visits
     pub ordered : AreOrdered (given_at first) visits
     pub later : AllOf (λ v. AllOf (λ b. IsKnownTo (given_at first) v b.number.value (seen b.seat.value)) (open_in waiting h)) visits
     pub met : met_in h ≡ flat_map own_of visits
@@ -49,11 +49,11 @@ module _ {S K C : Type 0} (source_at : S → End) (sink_at : K → End) (tick : 
   GoesOn first now h count Fault = Going first now h [] count 0 × (first.faults < now.faults)
 
 -- Connections that had ended were handed back, and no others came. `is_clone` says which clocks a clock may have as clones.
-pub record HandsBack {S K C : Type 0} (source_at : S → End) (sink_at : K → End) (tick : C → ℕ → C → Type 0) (is_clone : C → C → Type 0) (before after : DoorsView S K) (old new : Hall S K C) : Type 0 where
+pub record HandsBack {S K C : Type 0} (source_at : S → End) (sink_at : K → End) (ended_at : K → LastEnd) (tick : C → ℕ → C → Type 0) (is_clone : C → C → Type 0) (before after : DoorsView S K) (old new : Hall S K C) : Type 0 where
   pub stays : Stays old new
   pub ready : IsReady new
   pub out : KeepsOut old new
   pub fewer : length new.running.items ≤ length old.running.items
   pub room : (more : ℕ) → HaveRoom before old more → HaveRoom after new more
   pub faults : before.faults ≤ after.faults
-  pub going : (clock : C) (first : DoorsView S K) (waiting : List (Begun S K C)) (count closed : ℕ) → Going source_at sink_at tick (is_clone clock) first before old waiting count closed → Going source_at sink_at tick (is_clone clock) first after new waiting count closed
+  pub going : (clock : C) (first : DoorsView S K) (waiting : List (Begun S K C)) (count closed : ℕ) → Going source_at sink_at ended_at tick (is_clone clock) first before old waiting count closed → Going source_at sink_at ended_at tick (is_clone clock) first after new waiting count closed

@@ -6,7 +6,7 @@ use Rattle.hub_model.specs.declared.entry.Entry.{Entry}
 use Rattle.hub_model.specs.Desk.{IsPrefix}
 use Rattle.hub_model.specs.Legal.{IsLegal}
 use Rattle.hub_model.specs.Setting.{Setting}
-use Rattle.q_outside.specs.Ends.{End}
+use Rattle.q_outside.specs.Ends.{End, HasEnded, LastEnd}
 use Rattle.q_outside.specs.declared.served.Served.{Served}
 use Rattle.quaestor_serve.specs.declared.begun.Begun.{Begun}
 use Rattle.quaestor_serve.specs.declared.hall.Hall.{Hall}
@@ -53,8 +53,8 @@ module _ {S K C : Type 0} where
   abbrev pub IsWholeIn : Hall S K C → Type 0
   IsWholeIn h = (length (seen_in h) ≡ length (met_in h)) × AreAt (seen_in h) (met_in h)
 
-  -- A connection has left. It was well served in what the main seat has seen now, by entries that this seat has met now, each at a position of its own.
-  pub record Releases (source_at : S → End) (sink_at : K → End) (tick : C → ℕ → C → Type 0) (old new : Hall S K C) (source : S) (sink : K) (served : Served) : Type 0 where
+  -- A connection has left, and its sink was ended. It was well served in what the main seat has seen now, by entries that this seat has met now, each at a position of its own.
+  pub record Releases (source_at : S → End) (sink_at : K → End) (ended_at : K → LastEnd) (tick : C → ℕ → C → Type 0) (old new : Hall S K C) (source : S) (sink : K) (served : Served) : Type 0 where
     pub begun : Begun S K C
     pub own : List (ℕ × Entry)
     -- the history that was known when it ended
@@ -64,3 +64,4 @@ module _ {S K C : Type 0} where
     pub once : Distinct (met_in new)
     pub grew : IsPrefix (seen_in old) (seen_in new)
     pub is_served : IsServed tick (setting_in new) (seen_in new) begun.clock.value (seen begun.seat.value) ended (sides_of source_at sink_at begun.source.value begun.sink.value) (sides_of source_at sink_at source sink) own served
+    pub is_ended : HasEnded (ended_at sink) (sink_at sink).bytes

@@ -4,7 +4,7 @@ use Rattle.hub_desk.specs.HubValue.{HubValueView, hub_setting}
 use Rattle.hub_model.specs.declared.entry.Entry.{Entry}
 use Rattle.hub_model.specs.Legal.{IsLegal}
 use Rattle.hub_model.specs.Setting.{Setting}
-use Rattle.q_outside.specs.Ends.{End}
+use Rattle.q_outside.specs.Ends.{End, HasEnded, LastEnd}
 use Rattle.quaestor_serve.specs.declared.begun.Begun.{Begun}
 use Rattle.quaestor_serve.specs.declared.begun.Done.{Done}
 use Rattle.quaestor_serve.specs.declared.pool.Pool.{Pool}
@@ -43,14 +43,15 @@ pub record IsFreshAt (turnstile : HubTurnstile) (seat : HubSeat) : Type 0 where
 abbrev pub MayBegin : HubTurnstile → HubSeat → Pool → Type 0
 MayBegin turnstile seat pool = IsFreshAt turnstile seat × (pool.config ≡ setting_at turnstile)
 
-module _ {S K C : Type 0} (source_at : S → End) (sink_at : K → End) (tick : C → ℕ → C → Type 0) where
-  -- A connection that began with these, and with all that this seat had seen, was well served in what its seat has seen, by the seat's own entries. The seat has no turn, has met no others, and none was split off it.
+module _ {S K C : Type 0} (source_at : S → End) (sink_at : K → End) (ended_at : K → LastEnd) (tick : C → ℕ → C → Type 0) where
+  -- A connection that began with these, and with all that this seat had seen, was well served in what its seat has seen, by the seat's own entries, and its sink was ended behind all that was given. The seat has no turn, has met no others, and none was split off it.
   pub record Kept (turnstile : HubTurnstile) (seat : HubSeat) (source : S) (sink : K) (clock : C) (done : Done S K) : Type 0 where
     pub own : IsSeatOf hub_setting turnstile done.seat
     pub idle : IsIdle done.seat
     pub met : met done.seat ≡ []
     pub part : IsPart done.seat
     pub served : IsServed tick (setting_at turnstile) (seen done.seat) clock (seen seat) (seen done.seat) (sides_of source_at sink_at source sink) (sides_of source_at sink_at done.source done.sink) (mine done.seat) done.served
+    pub is_ended : HasEnded (ended_at done.sink) (sink_at done.sink).bytes
 
   -- the same of all that it began with
   abbrev pub KeptOf : Begun S K C → Done S K → Type 0

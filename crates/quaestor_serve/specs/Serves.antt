@@ -6,7 +6,7 @@ use Rattle.hub_model.specs.declared.entry.Entry.{Entry}
 use Rattle.hub_model.specs.Legal.{IsLegal}
 use Rattle.hub_model.specs.Setting.{Setting}
 use Rattle.q_outside.specs.Doors.{DoorsView, Passes}
-use Rattle.q_outside.specs.Ends.{End}
+use Rattle.q_outside.specs.Ends.{End, LastEnd}
 use Rattle.quaestor_serve.specs.declared.hall.Hall.{Hall}
 use Rattle.quaestor_serve.specs.declared.serve_end.ServeEnd.{ServeEnd}
 use Rattle.quaestor_serve.specs.declared.serve_end.ServeWhy.{ServeWhy}
@@ -35,10 +35,10 @@ module _ {S K : Type 0} where
   EndsBy DoorFault first last came most = (came < most) × (first.faults < last.faults)
   EndsBy Memory first last came most = came < most
 
-module _ {S K C : Type 0} (source_at : S → End) (sink_at : K → End) (tick : C → ℕ → C → Type 0) (may : C → Type 0) where
+module _ {S K C : Type 0} (source_at : S → End) (sink_at : K → End) (ended_at : K → LastEnd) (tick : C → ℕ → C → Type 0) (may : C → Type 0) where
   -- no further connection is waited for, and this is why
   abbrev pub Ends : (first now : DoorsView S K) → Hall S K C → ℕ → ServeEnd → Type 0
-  Ends first now h most end = Going source_at sink_at tick may first now h [] end.connections (closings_by end.why) × EndsBy end.why first now end.connections most
+  Ends first now h most end = Going source_at sink_at ended_at tick may first now h [] end.connections (closings_by end.why) × EndsBy end.why first now end.connections most
 
   -- Each connection that came was handed back once, in the order in which they ended, with how it was served: well, in one legal history, by entries of its own. Each knew at its beginning all that was known at the end of each that was handed back before it came. Matchers made entries that match all commits before them, and no others. Each position of the history belongs to one of them: the history began empty, and nobody else made entries. The cause of the end is exact.
   pub record Serves (g : Setting) (first last : DoorsView S K) (most : ℕ) (end : ServeEnd) : Type 0 where
@@ -49,7 +49,7 @@ module _ {S K C : Type 0} (source_at : S → End) (sink_at : K → End) (tick : 
     pub visits : List (Visit S K)
     pub came_are : IsPermutation (enumerate_from 0 came) (map given_of visits)
     pub passed : Passes first last came (map back_of visits) (closings_by end.why)
-    pub each : AllOf (IsWell source_at sink_at tick may g history) visits
+    pub each : AllOf (IsWell source_at sink_at ended_at tick may g history) visits
     pub ordered : AreOrdered (given_at first) visits
     -- the entries of the matchers, each with its position
     pub others : List (ℕ × Entry)

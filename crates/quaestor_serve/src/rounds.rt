@@ -44,7 +44,7 @@ where
     requires some { position < deque_len hall.old.running }
     requires ready { IsReady hall.old }
     requires room { HaveRoom (P.at doors.old) hall.old 0 }
-    ensures { HandsBack P.From.at P.To.at C.tick C.is_clone (P.at doors.old) (P.at doors.new) hall.old hall.new }
+    ensures { HandsBack P.From.at P.To.at P.To.ended C.tick C.is_clone (P.at doors.old) (P.at doors.new) hall.old hall.new }
 {
     let Leaving {
         source,
@@ -63,7 +63,7 @@ where
     R: Threads,
     requires ready { IsReady hall.old }
     requires room { HaveRoom (P.at doors.old) hall.old 0 }
-    ensures { HandsBack P.From.at P.To.at C.tick C.is_clone (P.at doors.old) (P.at doors.new) hall.old hall.new }
+    ensures { HandsBack P.From.at P.To.at P.To.ended C.tick C.is_clone (P.at doors.old) (P.at doors.new) hall.old hall.new }
 {
     let Some(&position) = hall.positions.get(place as usize) else {
         return;
@@ -82,7 +82,7 @@ where
     R: Threads + Wait,
     requires ready { IsReady hall.old }
     requires room { HaveRoom (P.at doors.old) hall.old 0 }
-    ensures { HandsBack P.From.at P.To.at C.tick C.is_clone (P.at doors.old) (P.at doors.new) hall.old hall.new }
+    ensures { HandsBack P.From.at P.To.at P.To.ended C.tick C.is_clone (P.at doors.old) (P.at doors.new) hall.old hall.new }
 {
     hall.endings.silence();
     for _n in 0..hall.places {
@@ -103,7 +103,7 @@ where
     requires ready { IsReady hall.old }
     requires room { HaveRoom (P.at doors.old) hall.old 0 }
     ensures empty { deque_len hall.new.running ≡ 0 }
-    ensures hands { HandsBack P.From.at P.To.at C.tick C.is_clone (P.at doors.old) (P.at doors.new) hall.old hall.new }
+    ensures hands { HandsBack P.From.at P.To.at P.To.ended C.tick C.is_clone (P.at doors.old) (P.at doors.new) hall.old hall.new }
 {
     for _ in rt.forever() {
         hand_back_ended(rt, doors, hall);
@@ -125,7 +125,7 @@ where
     requires ready { IsReady hall.old }
     requires room { HaveRoom (P.at doors.old) hall.old 0 }
     ensures vacant { 0 < vec_len hall.new.vacant }
-    ensures hands { HandsBack P.From.at P.To.at C.tick C.is_clone (P.at doors.old) (P.at doors.new) hall.old hall.new }
+    ensures hands { HandsBack P.From.at P.To.at P.To.ended C.tick C.is_clone (P.at doors.old) (P.at doors.new) hall.old hall.new }
 {
     for _ in rt.forever() {
         hand_back_ended(rt, doors, hall);
@@ -153,11 +153,11 @@ where
     F: FnOnce() -> Done<P::From, P::To> + Send + 'static,
     R: Threads + Wait,
     requires runs { F.pre work }
-    requires keeps { (done : Done P.From P.To) → F.post work done → KeptOf P.From.at P.To.at C.tick begun.now done }
+    requires keeps { (done : Done P.From P.To) → F.post work done → KeptOf P.From.at P.To.at P.To.ended C.tick begun.now done }
     requires ready { IsReady hall.old }
     requires room { HaveRoom (P.at doors.old) hall.old 0 }
     ensures started { result.promise.begun.value ≡ begun.now }
-    ensures hands { HandsBack P.From.at P.To.at C.tick C.is_clone (P.at doors.old) (P.at doors.new) hall.old hall.new }
+    ensures hands { HandsBack P.From.at P.To.at P.To.ended C.tick C.is_clone (P.at doors.old) (P.at doors.new) hall.old hall.new }
 {
     let mut work = work;
     for _ in rt.forever() {
@@ -202,7 +202,7 @@ where
     ensures ready { IsReady hall.new }
     ensures out { KeepsOut hall.old hall.new }
     ensures room { HaveRoom (P.at doors.new) hall.new 0 }
-    ensures going { (given : C) (first before : DoorsView P.From P.To) → C.is_clone given clock → Passes before (P.at doors.old) ((source, sink) ∷ []) [] 0 → Going P.From.at P.To.at C.tick (C.is_clone given) first before hall.old [] number 0 → Going P.From.at P.To.at C.tick (C.is_clone given) first (P.at doors.new) hall.new [] (number + 1) 0 }
+    ensures going { (given : C) (first before : DoorsView P.From P.To) → C.is_clone given clock → Passes before (P.at doors.old) ((source, sink) ∷ []) [] 0 → Going P.From.at P.To.at P.To.ended C.tick (C.is_clone given) first before hall.old [] number 0 → Going P.From.at P.To.at P.To.ended C.tick (C.is_clone given) first (P.at doors.new) hall.new [] (number + 1) 0 }
 {
     let Some(place) = hall.vacant.pop() else {
         unreachable!()
@@ -250,7 +250,7 @@ where
     ensures ready { IsReady hall.new }
     ensures out { KeepsOut hall.old hall.new }
     ensures room { HaveRoom (P.at doors.new) hall.new 0 }
-    ensures going { (first : DoorsView P.From P.To) → Going P.From.at P.To.at C.tick (C.is_clone clock.now) first (P.at doors.old) hall.old [] number 0 → GoesOn P.From.at P.To.at C.tick (C.is_clone clock.now) first (P.at doors.new) hall.new number result }
+    ensures going { (first : DoorsView P.From P.To) → Going P.From.at P.To.at P.To.ended C.tick (C.is_clone clock.now) first (P.at doors.old) hall.old [] number 0 → GoesOn P.From.at P.To.at P.To.ended C.tick (C.is_clone clock.now) first (P.at doors.new) hall.new number result }
 {
     wait_for_place(rt, doors, hall);
     let Ok(clock) = clock.clone() else {

@@ -7,7 +7,7 @@ use std::thread::{Promise, PromisedHandle};
 impl<S: Source, K: Sink, C: Clock> Promise<Done<S, K>> for Beginning<S, K, C> {
     ghost use Rattle.quaestor_serve.specs.Kept.{KeptOf};
 
-    ghost kept_by = { λ beginning done. KeptOf S.at K.at C.tick beginning.begun.value done };
+    ghost kept_by = { λ beginning done. KeptOf S.at K.at K.ended C.tick beginning.begun.value done };
 }
 
 /// A connection that is served.

@@ -112,7 +112,7 @@ where
     ensures out { KeepsOut hall.old hall.new }
     ensures count { length matchers.new.items ≡ length matchers.old.items }
     ensures work { WorkIn C.tick (C.is_clone clock.now) hall.new matchers.new.items }
-    ensures ends { (first : DoorsView P.From P.To) → Going P.From.at P.To.at C.tick (C.is_clone clock.now) first (P.at doors.old) hall.old [] 0 0 → Ends P.From.at P.To.at C.tick (C.is_clone clock.now) first (P.at doors.new) hall.new connections result }
+    ensures ends { (first : DoorsView P.From P.To) → Going P.From.at P.To.at P.To.ended C.tick (C.is_clone clock.now) first (P.at doors.old) hall.old [] 0 0 → Ends P.From.at P.To.at P.To.ended C.tick (C.is_clone clock.now) first (P.at doors.new) hall.new connections result }
 {
     for given in 0..connections {
         let why = match ring(rt, alloc, doors, hall, clock, gate, given) {
@@ -162,7 +162,7 @@ where
     ensures room { HaveRoom (P.at doors.new) hall.new 0 }
     ensures out { HasOut 0 hall.old.seat → HasOut (length matchers.new.items + length hall.new.running.items) hall.new.seat }
     ensures work { WorkIn C.tick (C.is_clone clock.now) hall.new matchers.new.items }
-    ensures ends { Ends P.From.at P.To.at C.tick (C.is_clone clock.now) (P.at doors.old) (P.at doors.new) hall.new connections result }
+    ensures ends { Ends P.From.at P.To.at P.To.ended C.tick (C.is_clone clock.now) (P.at doors.old) (P.at doors.new) hall.new connections result }
 {
     if start_matchers(rt, alloc, hall, matchers, clock, count).is_err() {
         return no_memory();
@@ -193,7 +193,7 @@ where
     R: Threads + Wait + Copy + Send + 'static,
     requires places { 0 < crew.places }
     requires workers { 0 < crew.workers }
-    ensures { Serves P.From.at P.To.at C.tick (C.is_clone clock.now) config (P.at doors.old) (P.at doors.new) connections result }
+    ensures { Serves P.From.at P.To.at P.To.ended C.tick (C.is_clone clock.now) config (P.at doors.old) (P.at doors.new) connections result }
 {
     if connections == 0 {
         return ServeEnd {

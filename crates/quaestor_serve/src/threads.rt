@@ -33,7 +33,7 @@ fn serve_at<R: Wait, S: Source, K: Sink, C: Clock + Drop>(
     pool: &Pool,
 ) -> Done<S, K>
     requires { MayBegin turnstile.now seat pool.now }
-    ensures { Kept S.at K.at C.tick turnstile.now seat source sink clock result }
+    ensures { Kept S.at K.at K.ended C.tick turnstile.now seat source sink clock result }
 {
     let mut desk = Seated::new(rt, turnstile, seat);
     let mut rooms = PoolRooms { rt, pool };
@@ -70,7 +70,7 @@ pub(crate) fn serve_there<R: Wait + Copy, S: Source, K: Sink, C: Clock + Drop, G
     pool: Arc<Pool, Global>,
 ) -> Done<S, K>
     requires { MayBegin (arc_value turnstile) seat (arc_value pool) }
-    ensures { Kept S.at K.at C.tick (arc_value turnstile) seat source sink clock result }
+    ensures { Kept S.at K.at K.ended C.tick (arc_value turnstile) seat source sink clock result }
 {
     gate.pass(place);
     let done = serve_at(&rt, alloc, &turnstile, seat, source, sink, clock, &pool);
@@ -91,7 +91,7 @@ where
     F: FnOnce() -> Done<S, K> + Send + 'static,
     R: Threads,
     requires runs { F.pre work }
-    requires keeps { (done : Done S K) → F.post work done → KeptOf S.at K.at C.tick begun.now done }
+    requires keeps { (done : Done S K) → F.post work done → KeptOf S.at K.at K.ended C.tick begun.now done }
     ensures started { IfOk result (λ handle. handle.promise.begun.value ≡ begun.now) }
     ensures refused { IfErr result (λ back. back ≡ work) }
 {
@@ -114,7 +114,7 @@ where
     K: Sink + Drop,
     C: Clock + Drop,
     R: Threads,
-    ensures { KeptOf S.at K.at C.tick (begun_of running) result }
+    ensures { KeptOf S.at K.at K.ended C.tick (begun_of running) result }
 {
     let Running { place: _, handle } = running;
     handle.join(rt)

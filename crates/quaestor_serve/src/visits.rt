@@ -57,7 +57,7 @@ where
     ensures ready { IsReady hall.new }
     ensures out { KeepsOut hall.old hall.new }
     ensures fewer { deque_len hall.new.running + 1 ≡ deque_len hall.old.running }
-    ensures releases { Releases S.at K.at C.tick hall.old hall.new result.source result.sink result.served }
+    ensures releases { Releases S.at K.at K.ended C.tick hall.old hall.new result.source result.sink result.served }
 {
     let Some(running) = hall.running.swap_remove_back(position) else {
         unreachable!()

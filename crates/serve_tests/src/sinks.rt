@@ -26,9 +26,11 @@ pub(crate) struct KeptSink {
 }
 
 impl Sink for KeptSink {
-    ghost use Rattle.std.specs.Prelude.{None};
+    ghost use Rattle.std.specs.Prelude.{Some, None};
 
     ghost at = { λ s. record { bytes = None; faults = s.faults } };
+
+    ghost ended = { λ _. Some None };
 
     fn give(&mut self, bytes: &[u8]) -> Result<usize, Failed> {
         if self.bytes.extend_from_slice(bytes).is_err() && self.faults < u64::MAX {

@@ -1,5 +1,5 @@
 //! The sink of a connection over TCP.
-ghost use Rattle.std.specs.Prelude.{◌≡◌, None};
+ghost use Rattle.std.specs.Prelude.{◌≡◌, Some, None};
 
 use crate::stream::Shared;
 use q_outside::{Failed, Sink};
@@ -31,6 +31,8 @@ impl<R: Clock + Drop> TcpSink<R> {
 
 impl<R: Clock + Drop> Sink for TcpSink<R> {
     ghost at = { λ s. record { bytes = None; faults = s.faults } };
+
+    ghost ended = { λ _. Some None };
 
     fn give(&mut self, bytes: &[u8]) -> Result<usize, Failed> {
         match self.shared.write(bytes) {

@@ -4,5 +4,5 @@ use Rattle.quaestor_prog.proofs.program.pipe.Goals as goal
 
 pub returns : goal.returns
 returns g c =
-    piped _ _ _ c.serve_connection-served.new.desk.entries _ _ _ _ _ _ _ c.in-Ok-new.ensures.setting c.in-Ok-new.ensures.empty c.end.ensures
+    piped _ _ _ c.serve_connection-served.new.desk.entries _ _ _ _ _ _ _ _ c.in-Ok-new.ensures.setting c.in-Ok-new.ensures.empty c.end.ensures.keeps c.end.ensures.ends
     c.serve_connection-served.ensures.legal c.serve_connection-served.ensures.conversation c.of.ensures

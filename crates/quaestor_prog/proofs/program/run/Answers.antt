@@ -7,7 +7,7 @@ use Rattle.quaestor_prog.proofs.program.run.Goals as goal
 -- ---- pipe
 
 pub returns-in-Ok-Pipe-clause-pipe : goal.returns-in-Ok-Pipe-clause-pipe
-returns-in-Ok-Pipe-clause-pipe g c = λ h at is. (run_of g.C.Clock.tick _ _ _ _ h _ at _ _ _ (rw c.in-Ok-Pipe.field-0-is at c.in-Ok-Pipe.ensures) is c.pipe_at.ensures, refl)
+returns-in-Ok-Pipe-clause-pipe g c = λ h at is. (run_of g.C.Clock.tick _ _ _ _ h _ at _ _ _ _ (rw c.in-Ok-Pipe.field-0-is at c.in-Ok-Pipe.ensures) is c.pipe_at.ensures, refl)
 
 pub returns-in-Ok-Pipe-clause-serve : goal.returns-in-Ok-Pipe-clause-serve
 returns-in-Ok-Pipe-clause-serve g c = λ ask is. let pipe = rw c.in-Ok-Pipe.field-0-is at c.in-Ok-Pipe.ensures in absurd (pipe_serve _ pipe.named is.named)
@@ -30,7 +30,7 @@ pub returns-in-Ok-Serve-clause-pipe : goal.returns-in-Ok-Serve-clause-pipe
 returns-in-Ok-Serve-clause-pipe g c = λ h at is. let serve = rw c.in-Ok-Serve.field-0-is at c.in-Ok-Serve.ensures in absurd (pipe_serve _ is.named serve.named)
 
 pub returns-in-Ok-Serve-clause-serve : goal.returns-in-Ok-Serve-clause-serve
-returns-in-Ok-Serve-clause-serve g c = λ ask is. (refl, refl, inr (served_of _ _ _ _ _ _ _ _ _ _ ask _ _ _ _ _ (rw c.in-Ok-Serve.field-0-is at c.in-Ok-Serve.ensures) is c.serve_at.ensures))
+returns-in-Ok-Serve-clause-serve g c = λ ask is. (refl, refl, inr (served_of _ _ _ _ _ _ _ _ _ _ _ ask _ _ _ _ _ _ (rw c.in-Ok-Serve.field-0-is at c.in-Ok-Serve.ensures) is c.serve_at.ensures))
 
 pub returns-in-Ok-Serve-clause-read : goal.returns-in-Ok-Serve-clause-read
 returns-in-Ok-Serve-clause-read g c = λ ask is. let serve = rw c.in-Ok-Serve.field-0-is at c.in-Ok-Serve.ensures in absurd (serve_read _ serve.named is.named)
@@ -53,7 +53,7 @@ pub returns-in-Ok-Read-clause-serve : goal.returns-in-Ok-Read-clause-serve
 returns-in-Ok-Read-clause-serve g c = λ ask is. let reads = rw c.in-Ok-Read.field-0-is at c.in-Ok-Read.ensures in absurd (serve_read _ is.named reads.named)
 
 pub returns-in-Ok-Read-clause-read : goal.returns-in-Ok-Read-clause-read
-returns-in-Ok-Read-clause-read g c = λ ask is. (refl, refl, inr (read_of _ _ _ _ _ _ ask _ _ _ _ _ (rw c.in-Ok-Read.field-0-is at c.in-Ok-Read.ensures) is c.read_at.ensures))
+returns-in-Ok-Read-clause-read g c = λ ask is. (refl, refl, inr (read_of _ _ _ _ _ _ ask _ _ _ _ _ _ (rw c.in-Ok-Read.field-0-is at c.in-Ok-Read.ensures) is c.read_at.ensures))
 
 pub returns-in-Ok-Read-clause-world : goal.returns-in-Ok-Read-clause-world
 returns-in-Ok-Read-clause-world g c = λ seed steps is. let reads = rw c.in-Ok-Read.field-0-is at c.in-Ok-Read.ensures in absurd (read_world _ reads.named is.named)
@@ -78,7 +78,7 @@ returns-in-Ok-World-clause-read g c = λ ask is. let world = rw c.in-Ok-World.fi
 pub returns-in-Ok-World-clause-world : goal.returns-in-Ok-World-clause-world
 returns-in-Ok-World-clause-world g c = λ seed steps is. (
   record {
-    text = world_of _ _ seed _ steps _ _ _ (rw c.in-Ok-World.field-0-is at c.in-Ok-World.ensures) is c.show_world.ensures;
+    text = world_of _ _ seed _ steps _ _ _ _ (rw c.in-Ok-World.field-0-is at c.in-Ok-World.ensures) is c.show_world.ensures;
     source = refl;
     ticks = refl;
   },

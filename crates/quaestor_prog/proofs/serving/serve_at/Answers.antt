@@ -13,8 +13,9 @@ returns-in-Ok g c = inr (record {
   told = c.address.ensures;
   are_new = c.in-Ok.ensures.unused;
   kept = rw c.in-Ok.ensures.count at c.keep_doors.ensures;
-  through = through_ended _ _ _ _ _ _ _ _ _ _ _ _ _ c.end.ensures c.serve_through-status.ensures;
+  through = through_ended _ _ _ _ _ _ _ _ _ _ _ _ _ _ c.end.ensures.keeps c.serve_through-status.ensures;
+  is_ended = c.end.ensures.ends;
 })
 
 pub returns-in-Err : goal.returns-in-Err
-returns-in-Err g c = inl (refl, c.end-in-Err.ensures, c.in-Err.ensures.count.0, c.in-Err.ensures.count.1, c.in-Err.ensures.count.2)
+returns-in-Err g c = inl (refl, c.end-in-Err.ensures.keeps, c.end-in-Err.ensures.ends, c.in-Err.ensures.count.0, c.in-Err.ensures.count.1, c.in-Err.ensures.count.2)

@@ -20,10 +20,10 @@ returns-clause-room g c = room_with (g.P.Doors.at c.start-handle.new.doors).away
 
 pub returns-clause-going : goal.returns-clause-going
 returns-clause-going g c = λ given first before is_clone passed going.
-    goes_in g.P.From.Source.at g.P.To.Sink.at g.C.Clock.tick (g.C.Clone.is_clone given) first (g.P.Doors.at c.start-handle.new.doors) c.start-handle.new.hall _ _ (c.args.number + 1) refl c.push_back_reserved.ensures.items refl refl
+    goes_in g.P.From.Source.at g.P.To.Sink.at g.P.To.Sink.ended g.C.Clock.tick (g.C.Clone.is_clone given) first (g.P.Doors.at c.start-handle.new.doors) c.start-handle.new.hall _ _ (c.args.number + 1) refl c.push_back_reserved.ensures.items refl refl
     (c.start-handle.ensures.hands.going given first (c.start-handle.result.promise.begun.value ∷ []) (c.args.number + 1) 0
-    (comes g.P.From.Source.at g.P.To.Sink.at g.C.Clock.tick (g.C.Clone.is_clone given) first before (g.P.Doors.at c.args.doors.now) _ c.args.number c.start-handle.result.promise.begun.value c.args.source c.args.sink passed (search rules) (search rules) (search rules) (search rules) (search rules)
-    (going_same g.P.From.Source.at g.P.To.Sink.at g.C.Clock.tick (g.C.Clone.is_clone given) first before c.args.hall.now _ [] c.args.number 0 (refl, refl, refl, ap (λ m. m.0.met) c.split-seat.ensures.view, ap (λ m. m.0.seen) c.split-seat.ensures.view) going)))
+    (comes g.P.From.Source.at g.P.To.Sink.at g.P.To.Sink.ended g.C.Clock.tick (g.C.Clone.is_clone given) first before (g.P.Doors.at c.args.doors.now) _ c.args.number c.start-handle.result.promise.begun.value c.args.source c.args.sink passed (search rules) (search rules) (search rules) (search rules) (search rules)
+    (going_same g.P.From.Source.at g.P.To.Sink.at g.P.To.Sink.ended g.C.Clock.tick (g.C.Clone.is_clone given) first before c.args.hall.now _ [] c.args.number 0 (refl, refl, refl, ap (λ m. m.0.met) c.split-seat.ensures.view, ap (λ m. m.0.seen) c.split-seat.ensures.view) going)))
 
 pub returns-clause-out : goal.returns-clause-out
 returns-clause-out g c = keeps_with c.args.hall.now.running.items c.start-handle.new.hall.running.items c.push_back_reserved.new.self.items c.args.hall.now.seat c.split-seat.new.seat c.start-handle.new.hall.seat _ (λ n was. (c.split-seat.ensures.out n was).0) c.start-handle.ensures.hands.out c.push_back_reserved.ensures.items

@@ -5,4 +5,4 @@ use Rattle.quaestor_serve.proofs.rounds.drain.Given as goal
 abbrev pub invariant-loop : goal.invariant-loop
 invariant-loop g l =
     (goal.iterator-loop g).can_next l.iterator' × (goal.iterator-loop g).is_finite l.iterator'
-    × HandsBack g.P.From.Source.at g.P.To.Sink.at g.C.Clock.tick g.C.Clone.is_clone (g.P.Doors.at l.initial.doors) (g.P.Doors.at l.doors) l.initial.hall l.hall
+    × HandsBack g.P.From.Source.at g.P.To.Sink.at g.P.To.Sink.ended g.C.Clock.tick g.C.Clone.is_clone (g.P.Doors.at l.initial.doors) (g.P.Doors.at l.doors) l.initial.hall l.hall

@@ -13,9 +13,9 @@ returns-in-loop-given-clause-ends g c = λ first going.
     let before = c.loop-given.invariant.4 first going in
     let less = c.loop-given-test.true in
     elim c.match-ring.branch [
-      | in-NoMemory w ↦ ended_by g.P.From.Source.at g.P.To.Sink.at g.C.Clock.tick (g.C.Clone.is_clone c.args.clock.now) first _ _ c.loop-given.given c.args.connections c.match-ring.why Memory w.why-is (w.in-NoMemory.ensures.going first before) (omega (arith, less))
-      | in-Closed w ↦ ended_by g.P.From.Source.at g.P.To.Sink.at g.C.Clock.tick (g.C.Clone.is_clone c.args.clock.now) first _ _ c.loop-given.given c.args.connections c.match-ring.why Closed w.why-is (w.in-Closed.ensures.going first before) less
-      | in-Fault w ↦ let failed = w.in-Fault.ensures.going first before in ended_by g.P.From.Source.at g.P.To.Sink.at g.C.Clock.tick (g.C.Clone.is_clone c.args.clock.now) first _ _ c.loop-given.given c.args.connections c.match-ring.why DoorFault w.why-is failed.0 (less, failed.1)
+      | in-NoMemory w ↦ ended_by g.P.From.Source.at g.P.To.Sink.at g.P.To.Sink.ended g.C.Clock.tick (g.C.Clone.is_clone c.args.clock.now) first _ _ c.loop-given.given c.args.connections c.match-ring.why Memory w.why-is (w.in-NoMemory.ensures.going first before) (omega (arith, less))
+      | in-Closed w ↦ ended_by g.P.From.Source.at g.P.To.Sink.at g.P.To.Sink.ended g.C.Clock.tick (g.C.Clone.is_clone c.args.clock.now) first _ _ c.loop-given.given c.args.connections c.match-ring.why Closed w.why-is (w.in-Closed.ensures.going first before) less
+      | in-Fault w ↦ let failed = w.in-Fault.ensures.going first before in ended_by g.P.From.Source.at g.P.To.Sink.at g.P.To.Sink.ended g.C.Clock.tick (g.C.Clone.is_clone c.args.clock.now) first _ _ c.loop-given.given c.args.connections c.match-ring.why DoorFault w.why-is failed.0 (less, failed.1)
     ]
 
 pub loop-given-preserved : goal.loop-given-preserved

@@ -7,13 +7,13 @@ use Rattle.quaestor_serve.proofs.serving.serve_all.Goals as goal
 
 pub returns-then-is_err-clause-ends : goal.returns-then-is_err-clause-ends
 returns-then-is_err-clause-ends g c =
-    ends_none g.P.From.Source.at g.P.To.Sink.at g.C.Clock.tick (g.C.Clone.is_clone c.args.clock.now) (g.P.Doors.at c.args.doors.now) c.start_matchers.new.hall c.args.connections c.no_memory.result c.requires.some c.no_memory.ensures
-    (going_same g.P.From.Source.at g.P.To.Sink.at g.C.Clock.tick (g.C.Clone.is_clone c.args.clock.now) (g.P.Doors.at c.args.doors.now) (g.P.Doors.at c.args.doors.now) c.args.hall.now c.start_matchers.new.hall [] 0 0 c.start_matchers.ensures.same (going_begins g.P.From.Source.at g.P.To.Sink.at g.C.Clock.tick (g.C.Clone.is_clone c.args.clock.now) (g.P.Doors.at c.args.doors.now) c.args.hall.now c.requires.empty.0 c.requires.empty.1))
+    ends_none g.P.From.Source.at g.P.To.Sink.at g.P.To.Sink.ended g.C.Clock.tick (g.C.Clone.is_clone c.args.clock.now) (g.P.Doors.at c.args.doors.now) c.start_matchers.new.hall c.args.connections c.no_memory.result c.requires.some c.no_memory.ensures
+    (going_same g.P.From.Source.at g.P.To.Sink.at g.P.To.Sink.ended g.C.Clock.tick (g.C.Clone.is_clone c.args.clock.now) (g.P.Doors.at c.args.doors.now) (g.P.Doors.at c.args.doors.now) c.args.hall.now c.start_matchers.new.hall [] 0 0 c.start_matchers.ensures.same (going_begins g.P.From.Source.at g.P.To.Sink.at g.P.To.Sink.ended g.C.Clock.tick (g.C.Clone.is_clone c.args.clock.now) (g.P.Doors.at c.args.doors.now) c.args.hall.now c.requires.empty.0 c.requires.empty.1))
 
 pub returns-clause-ends : goal.returns-clause-ends
 returns-clause-ends g c =
     c.ring_all.ensures.ends (g.P.Doors.at c.args.doors.now)
-    (going_same g.P.From.Source.at g.P.To.Sink.at g.C.Clock.tick (g.C.Clone.is_clone c.args.clock.now) (g.P.Doors.at c.args.doors.now) (g.P.Doors.at c.args.doors.now) c.args.hall.now c.start_matchers.new.hall [] 0 0 c.start_matchers.ensures.same (going_begins g.P.From.Source.at g.P.To.Sink.at g.C.Clock.tick (g.C.Clone.is_clone c.args.clock.now) (g.P.Doors.at c.args.doors.now) c.args.hall.now c.requires.empty.0 c.requires.empty.1))
+    (going_same g.P.From.Source.at g.P.To.Sink.at g.P.To.Sink.ended g.C.Clock.tick (g.C.Clone.is_clone c.args.clock.now) (g.P.Doors.at c.args.doors.now) (g.P.Doors.at c.args.doors.now) c.args.hall.now c.start_matchers.new.hall [] 0 0 c.start_matchers.ensures.same (going_begins g.P.From.Source.at g.P.To.Sink.at g.P.To.Sink.ended g.C.Clock.tick (g.C.Clone.is_clone c.args.clock.now) (g.P.Doors.at c.args.doors.now) c.args.hall.now c.requires.empty.0 c.requires.empty.1))
 
 pub returns-clause-out : goal.returns-clause-out
 returns-clause-out g c = λ out. all_out c.args.hall.now.running.items c.start_matchers.new.hall.running.items c.ring_all.new.hall.running.items c.start_matchers.new.hall.seat c.ring_all.new.hall.seat (length c.start_matchers.new.matchers.items) (length c.ring_all.new.matchers.items) c.requires.empty.0 c.start_matchers.ensures.same.2 c.ring_all.ensures.count (c.start_matchers.ensures.out 0 out) c.ring_all.ensures.out
