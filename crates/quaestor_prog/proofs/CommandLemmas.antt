@@ -8,6 +8,9 @@ use Rattle.clap.specs.declared.error.kind.ErrorKind.{ErrorKind}
 use Rattle.clap.specs.declared.error.kind.ErrorKind.TheVariants as kind
 use Rattle.hub_model.specs.Setting.{Setting}
 use Rattle.quaestor_prog.specs.Commands.{option_rule, word_rule, with_limit_rules, with_setting_rules, versioned, pipe_app, serve_app, read_app, world_app, program_app, NamesPipe, NamesServe, NamesRead, NamesWorld, NamesNone, FaultsAre, IsAnswered, AskHelp}
+use Rattle.quaestor_prog.specs.Help.{IsHelpOf, IsShownFor}
+use Rattle.quaestor_prog.specs.declared.help.HelpText.{HelpText}
+use Rattle.quaestor_prog.specs.declared.help.HelpText.TheVariants as texts
 use Rattle.quaestor_prog.specs.Words.{AreRun, AreTaken, Asks, FoundRead, IsAnswerOf, IsPipe, IsRead, IsServe, IsServeOf, IsWorld, AreServeOptions, ReadAsk, ServeAsk}
 use Rattle.quaestor_prog.specs.declared.words.Invocation.{Invocation}
 use Rattle.quaestor_prog.specs.declared.words.Invocation.TheVariants.{Pipe, Serve, Read, World, Help, Invalid}
@@ -66,12 +69,24 @@ unanswered kinds of single (inl memory) some help version answered = some memory
 unanswered kinds of single (inr among) some help version (inl p) = help (single of kind.DisplayHelp among p)
 unanswered kinds of single (inr among) some help version (inr p) = version (single of kind.DisplayVersion among p)
 
--- where clap's error is help or the version, one of them was asked for
-pub answered : (kinds : Kinds) (of : ErrorKind) → (of ≡ kind.OutOfMemory) ⊎ IsAmong of kinds → (of ≡ kind.DisplayHelp) ⊎ (of ≡ kind.DisplayVersion) → IsAnswered kinds
-answered kinds of (inl memory) (inl help) = let bad : kind.OutOfMemory ≡ kind.DisplayHelp = sym memory ∙ help in absurd cc
-answered kinds of (inl memory) (inr version) = let bad : kind.OutOfMemory ≡ kind.DisplayVersion = sym memory ∙ version in absurd cc
-answered kinds of (inr among) (inl help) = inl (subst (λ k. IsAmong k kinds) help among)
-answered kinds of (inr among) (inr version) = inr (subst (λ k. IsAmong k kinds) version among)
+-- where clap's error is help or the version, that text was asked for
+pub answered : (own text : HelpText) (kinds : Kinds) (of : ErrorKind) → (of ≡ kind.OutOfMemory) ⊎ IsAmong of kinds → ((of ≡ kind.DisplayHelp) × (text ≡ own)) ⊎ ((of ≡ kind.DisplayVersion) × (text ≡ texts.Version)) → IsShownFor own text kinds
+answered own text kinds of (inl memory) (inl shown) = let bad : kind.OutOfMemory ≡ kind.DisplayHelp = sym memory ∙ shown.0 in absurd cc
+answered own text kinds of (inl memory) (inr version) = let bad : kind.OutOfMemory ≡ kind.DisplayVersion = sym memory ∙ version.0 in absurd cc
+answered own text kinds of (inr among) (inl shown) = inl (subst (λ k. IsAmong k kinds) shown.0 among, shown.1)
+answered own text kinds of (inr among) (inr version) = inr (subst (λ k. IsAmong k kinds) version.0 among, version.1)
+
+-- words that ask for a text ask for help
+shown_answered : (own text : HelpText) (kinds : Kinds) → IsShownFor own text kinds → IsAnswered kinds
+shown_answered own text kinds (inl shown) = inl shown.0
+shown_answered own text kinds (inr version) = inr version.0
+
+pub help_asked : (words : List Text) (text : HelpText) → IsHelpOf words text → AskHelp words
+help_asked words text (inl p) = inl (p.0, shown_answered _ text _ p.1)
+help_asked words text (inr (inl s)) = inr (inl (s.0, shown_answered _ text _ s.1))
+help_asked words text (inr (inr (inl r))) = inr (inr (inl (r.0, shown_answered _ text _ r.1)))
+help_asked words text (inr (inr (inr (inl w)))) = inr (inr (inr (inl (w.0, shown_answered _ text _ w.1))))
+help_asked words text (inr (inr (inr (inr n)))) = inr (inr (inr (inr (n.0, shown_answered _ text _ n.1))))
 
 -- a list with a kind is not empty
 pub not_taken : (kinds : Kinds) (of : ErrorKind) → (of ≡ kind.OutOfMemory) ⊎ IsAmong of kinds → of ≢ kind.OutOfMemory → kinds ≡ [] → ⊥
@@ -189,36 +204,36 @@ among_kinds kinds of own (inl memory) some e = absurd (some memory)
 among_kinds kinds of own (inr among) some e = subst (λ k. IsAmong k kinds) (sym e) among
 
 -- clap's error says what the words ask for, of the command that reads them: it has these kinds for them, and none where they run a command
-pub asks_error : {E : Type 0} (words : List Text) (kinds : Kinds) (of : ErrorKind) (r : Result Invocation E) → Single kinds
-    → ((such : Kinds → Type 0) → such kinds → FaultsAre such words) → (AskHelp words → IsAnswered kinds) → (AreRun words → kinds ≡ [])
-    → (of ≡ kind.OutOfMemory) ⊎ IsAmong of kinds → IsAnswerOf of r → IfOk r (Asks words)
-asks_error words kinds of (Ok (Pipe p)) single says helps runs k a = absurd a
-asks_error words kinds of (Ok (Serve s)) single says helps runs k a = absurd a
-asks_error words kinds of (Ok (Read r)) single says helps runs k a = absurd a
-asks_error words kinds of (Ok (World w)) single says helps runs k a = absurd a
-asks_error words kinds of (Ok (Help t)) single says helps runs k a = says IsAnswered (answered kinds of k a)
-asks_error words kinds of (Ok (Invalid (why.Words e))) single says helps runs k a = (
+pub asks_error : {E : Type 0} (words : List Text) (own : HelpText) (kinds : Kinds) (of : ErrorKind) (r : Result Invocation E) → Single kinds
+    → ((such : Kinds → Type 0) → such kinds → FaultsAre such words) → ((text : HelpText) → IsShownFor own text kinds → IsHelpOf words text) → (AskHelp words → IsAnswered kinds) → (AreRun words → kinds ≡ [])
+    → (of ≡ kind.OutOfMemory) ⊎ IsAmong of kinds → IsAnswerOf own of r → IfOk r (Asks words)
+asks_error words own kinds of (Ok (Pipe p)) single says shows helps runs k a = absurd a
+asks_error words own kinds of (Ok (Serve s)) single says shows helps runs k a = absurd a
+asks_error words own kinds of (Ok (Read r)) single says shows helps runs k a = absurd a
+asks_error words own kinds of (Ok (World w)) single says shows helps runs k a = absurd a
+asks_error words own kinds of (Ok (Help t)) single says shows helps runs k a = shows t (answered own t kinds of k a)
+asks_error words own kinds of (Ok (Invalid (why.Words e))) single says shows helps runs k a = (
   (λ taken. ⊎_elim (λ r. not_taken kinds of k a.0 (runs r)) (λ h. unanswered kinds of single k a.0 a.1 a.2 (helps h)) taken),
   says (IsAmong (kind_of e)) (among_kinds kinds of _ k a.0 a.3),
 )
-asks_error words kinds of (Ok (Invalid why.NoCommand)) single says helps runs k a = absurd a
-asks_error words kinds of (Ok (Invalid (why.Value v))) single says helps runs k a = absurd a
-asks_error words kinds of (Err e) single says helps runs k a = tt
+asks_error words own kinds of (Ok (Invalid why.NoCommand)) single says shows helps runs k a = absurd a
+asks_error words own kinds of (Ok (Invalid (why.Value v))) single says shows helps runs k a = absurd a
+asks_error words own kinds of (Err e) single says shows helps runs k a = tt
 
-pub asks_pipe : {E : Type 0} (words : List Text) (of : ErrorKind) (r : Result Invocation E) → NamesPipe words → (of ≡ kind.OutOfMemory) ⊎ IsAmong of (fault_of pipe_app words) → IsAnswerOf of r → IfOk r (Asks words)
-asks_pipe words of r named k a = asks_error words (fault_of pipe_app words) of r (pipe_single words) (λ such s. inl (named, s)) (faults_pipe IsAnswered words named) (λ runs. (pipe_runs words named runs).2.taken) k a
+pub asks_pipe : {E : Type 0} (words : List Text) (of : ErrorKind) (r : Result Invocation E) → NamesPipe words → (of ≡ kind.OutOfMemory) ⊎ IsAmong of (fault_of pipe_app words) → IsAnswerOf texts.Pipe of r → IfOk r (Asks words)
+asks_pipe words of r named k a = asks_error words texts.Pipe (fault_of pipe_app words) of r (pipe_single words) (λ such s. inl (named, s)) (λ text s. inl (named, s)) (faults_pipe IsAnswered words named) (λ runs. (pipe_runs words named runs).2.taken) k a
 
-pub asks_serve : {E : Type 0} (words : List Text) (of : ErrorKind) (r : Result Invocation E) → NamesServe words → (of ≡ kind.OutOfMemory) ⊎ IsAmong of (fault_of serve_app words) → IsAnswerOf of r → IfOk r (Asks words)
-asks_serve words of r named k a = asks_error words (fault_of serve_app words) of r (serve_single words) (λ such s. inr (inl (named, s))) (faults_serve IsAnswered words named) (λ runs. (serve_runs words named runs).1.taken) k a
+pub asks_serve : {E : Type 0} (words : List Text) (of : ErrorKind) (r : Result Invocation E) → NamesServe words → (of ≡ kind.OutOfMemory) ⊎ IsAmong of (fault_of serve_app words) → IsAnswerOf texts.Serve of r → IfOk r (Asks words)
+asks_serve words of r named k a = asks_error words texts.Serve (fault_of serve_app words) of r (serve_single words) (λ such s. inr (inl (named, s))) (λ text s. inr (inl (named, s))) (faults_serve IsAnswered words named) (λ runs. (serve_runs words named runs).1.taken) k a
 
-pub asks_read : {E : Type 0} (words : List Text) (of : ErrorKind) (r : Result Invocation E) → NamesRead words → (of ≡ kind.OutOfMemory) ⊎ IsAmong of (fault_of read_app words) → IsAnswerOf of r → IfOk r (Asks words)
-asks_read words of r named k a = asks_error words (fault_of read_app words) of r (read_single words) (λ such s. inr (inr (inl (named, s)))) (faults_read IsAnswered words named) (λ runs. (read_runs words named runs).1.taken) k a
+pub asks_read : {E : Type 0} (words : List Text) (of : ErrorKind) (r : Result Invocation E) → NamesRead words → (of ≡ kind.OutOfMemory) ⊎ IsAmong of (fault_of read_app words) → IsAnswerOf texts.Read of r → IfOk r (Asks words)
+asks_read words of r named k a = asks_error words texts.Read (fault_of read_app words) of r (read_single words) (λ such s. inr (inr (inl (named, s)))) (λ text s. inr (inr (inl (named, s)))) (faults_read IsAnswered words named) (λ runs. (read_runs words named runs).1.taken) k a
 
-pub asks_world : {E : Type 0} (words : List Text) (of : ErrorKind) (r : Result Invocation E) → NamesWorld words → (of ≡ kind.OutOfMemory) ⊎ IsAmong of (fault_of world_app words) → IsAnswerOf of r → IfOk r (Asks words)
-asks_world words of r named k a = asks_error words (fault_of world_app words) of r (world_single words) (λ such s. inr (inr (inr (inl (named, s))))) (faults_world IsAnswered words named) (λ runs. (world_runs words named runs).2.taken) k a
+pub asks_world : {E : Type 0} (words : List Text) (of : ErrorKind) (r : Result Invocation E) → NamesWorld words → (of ≡ kind.OutOfMemory) ⊎ IsAmong of (fault_of world_app words) → IsAnswerOf texts.World of r → IfOk r (Asks words)
+asks_world words of r named k a = asks_error words texts.World (fault_of world_app words) of r (world_single words) (λ such s. inr (inr (inr (inl (named, s))))) (λ text s. inr (inr (inr (inl (named, s))))) (faults_world IsAnswered words named) (λ runs. (world_runs words named runs).2.taken) k a
 
-pub asks_program : {E : Type 0} (words : List Text) (of : ErrorKind) (r : Result Invocation E) → NamesNone words → (of ≡ kind.OutOfMemory) ⊎ IsAmong of (fault_of program_app words) → IsAnswerOf of r → IfOk r (Asks words)
-asks_program words of r none k a = asks_error words (fault_of program_app words) of r (program_single words) (λ such s. inr (inr (inr (inr (none, s))))) (faults_program IsAnswered words none) (λ runs. absurd (none_runs words none runs)) k a
+pub asks_program : {E : Type 0} (words : List Text) (of : ErrorKind) (r : Result Invocation E) → NamesNone words → (of ≡ kind.OutOfMemory) ⊎ IsAmong of (fault_of program_app words) → IsAnswerOf texts.Program of r → IfOk r (Asks words)
+asks_program words of r none k a = asks_error words texts.Program (fault_of program_app words) of r (program_single words) (λ such s. inr (inr (inr (inr (none, s))))) (λ text s. inr (inr (inr (inr (none, s))))) (faults_program IsAnswered words none) (λ runs. absurd (none_runs words none runs)) k a
 
 -- words that a command takes, though not with these values, are not taken at all
 pub pipe_refused : (words : List Text) → NamesPipe words → fault_of pipe_app words ≡ [] → ((g : Setting) (at : Option ℕ) → IsPipe words g at → ⊥) → AreTaken words → ⊥
@@ -255,6 +270,7 @@ pub serve_asked : {E : Type 0} (words : List Text) (ask : ServeAsk) (r : Result 
 serve_asked words ask (Ok (Serve s)) named taken options is = record { named = named; taken = taken; options = subst (AreServeOptions (matches_of serve_app words)) (sym is) options }
 serve_asked words ask (Ok (Pipe p)) named taken options is = absurd is
 serve_asked words ask (Ok (Read r)) named taken options is = absurd is
+serve_asked words ask (Ok (World w)) named taken options is = absurd is
 serve_asked words ask (Ok (Help t)) named taken options is = absurd is
 serve_asked words ask (Ok (Invalid f)) named taken options is = absurd is
 serve_asked words ask (Err e) named taken options is = tt

@@ -1,4 +1,5 @@
 pub mod Commands
+pub mod Help
 pub mod ListPlaces
 pub mod Places
 pub mod Reading

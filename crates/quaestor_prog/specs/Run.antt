@@ -8,6 +8,9 @@ use Rattle.hub_model.specs.Setting.{Setting}
 use Rattle.q_base.specs.declared.moment.TheConstants.{GREATEST_SECONDS}
 use Rattle.q_outside.specs.Ends.{End, GaveBytes, GavePart, HasEnded, LastEnd, Ticks}
 use Rattle.q_outside.specs.declared.served.Served.{Served}
+use Rattle.clap.specs.Words.{Text}
+use Rattle.quaestor_prog.specs.Help.{IsHelpOf, text_of_help}
+use Rattle.quaestor_prog.specs.declared.help.HelpText.{HelpText}
 use Rattle.quaestor_prog.specs.Status.{status_of}
 use Rattle.quaestor_prog.specs.declared.status.Status.{Status}
 use Rattle.quaestor_prog.specs.declared.status.Status.TheVariants.{Done, Words, WriteFault, Memory}
@@ -57,16 +60,17 @@ pub record IsRefused (a b : Sides) (ended : LastEnd) (tells : List ℕ → Type 
   pub source : b.source ≡ a.source
   pub ticks : tells []
 
--- the sink was given some text, or failed inside it, and was ended behind that; or there was no memory for the text
-abbrev pub IsText : End → End → LastEnd → Status → Type 0
-IsText before after ended Done = (text : List ℕ) × GaveBytes before after text × HasEnded ended after.bytes
-IsText before after ended WriteFault = (text : List ℕ) × GavePart before after text × HasEnded ended after.bytes
-IsText before after ended Memory = after ≡ before
-IsText before after ended _ = ⊥
+-- the sink was given a text, or failed inside it, and was ended behind that
+abbrev pub IsText : List ℕ → End → End → LastEnd → Status → Type 0
+IsText text before after ended Done = GaveBytes before after text × HasEnded ended after.bytes
+IsText text before after ended WriteFault = GavePart before after text × HasEnded ended after.bytes
+IsText text before after ended _ = ⊥
 
--- The words ask for help: a text was given, and nothing else was done.
-pub record IsHelped (a b : Sides) (ended : LastEnd) (tells : List ℕ → Type 0) (status : Status) : Type 0 where
-  pub text : IsText a.sink b.sink ended status
+-- The words ask for help: the text that they ask for was given, and nothing else was done.
+pub record IsHelped (words : List Text) (a b : Sides) (ended : LastEnd) (tells : List ℕ → Type 0) (status : Status) : Type 0 where
+  pub asked : HelpText
+  pub is_asked : IsHelpOf words asked
+  pub text : IsText (text_of_help asked) a.sink b.sink ended status
   pub source : b.source ≡ a.source
   pub ticks : tells []
 

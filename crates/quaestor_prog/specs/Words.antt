@@ -13,6 +13,9 @@ use Rattle.query_normal.specs.Keys.{key_text, IsKey}
 use Rattle.query_normal.specs.declared.key.KeyShape.{KeyShape}
 use Rattle.q_outside.specs.declared.limits.Limits.{Limits}
 use Rattle.quaestor_prog.specs.Commands.{pipe_app, serve_app, read_app, world_app, program_app, NamesPipe, NamesServe, NamesRead, NamesWorld, NamesNone, AskHelp, FaultsAre}
+use Rattle.quaestor_prog.specs.Help.{IsHelpOf}
+use Rattle.quaestor_prog.specs.declared.help.HelpText.{HelpText}
+use Rattle.quaestor_prog.specs.declared.help.HelpText.TheVariants.{Version}
 use Rattle.quaestor_prog.specs.declared.ranges.TheConstants.{MOST_PLACES, DEFAULT_PLACES, MOST_WORKERS, DEFAULT_WORKERS, MOST_MATCHERS, DEFAULT_MATCHERS, MOST_CONNECTIONS, MOST_SECONDS, DEFAULT_IDLE, DEFAULT_HEAD_TIME, DEFAULT_REPLY_TIME, MOST_RATE, DEFAULT_RATE, DEFAULT_GRACE, MOST_SEED, MOST_STEPS}
 use Rattle.quaestor_prog.specs.declared.refusal.BadValue.{BadValue}
 use Rattle.quaestor_prog.specs.declared.refusal.BadValue.TheVariants.{Number, Lifetimes, Argument, NoLevel, NoKey, NoOrigins}
@@ -254,19 +257,19 @@ Asks words (Pipe p) = IsPipe words p.config p.clock
 Asks words (Serve s) = IsServe words (ask_of s)
 Asks words (Read r) = IsRead words (read_ask_of r)
 Asks words (World w) = IsWorld words w.seed w.steps
-Asks words (Help text) = AskHelp words
+Asks words (Help text) = IsHelpOf words text
 Asks words (Invalid refusal) = (AreTaken words → ⊥) × IsReason words refusal
 
--- what an answer of clap of this kind comes to
-abbrev pub IsAnswerOf : {E : Type 0} → ErrorKind → Result Invocation E → Type 0
-IsAnswerOf of (Ok (Pipe p)) = ⊥
-IsAnswerOf of (Ok (Serve s)) = ⊥
-IsAnswerOf of (Ok (Read r)) = ⊥
-IsAnswerOf of (Ok (World w)) = ⊥
-IsAnswerOf of (Ok (Help text)) = (of ≡ kind.DisplayHelp) ⊎ (of ≡ kind.DisplayVersion)
-IsAnswerOf of (Ok (Invalid (why.Words error))) = (of ≢ kind.OutOfMemory) × (of ≢ kind.DisplayHelp) × (of ≢ kind.DisplayVersion) × (kind_of error ≡ of)
-IsAnswerOf of (Ok (Invalid refusal)) = ⊥
-IsAnswerOf of (Err e) = of ≡ kind.OutOfMemory
+-- what an answer of clap of this kind comes to, for a command of which this is the help
+abbrev pub IsAnswerOf : {E : Type 0} → HelpText → ErrorKind → Result Invocation E → Type 0
+IsAnswerOf own of (Ok (Pipe p)) = ⊥
+IsAnswerOf own of (Ok (Serve s)) = ⊥
+IsAnswerOf own of (Ok (Read r)) = ⊥
+IsAnswerOf own of (Ok (World w)) = ⊥
+IsAnswerOf own of (Ok (Help text)) = ((of ≡ kind.DisplayHelp) × (text ≡ own)) ⊎ ((of ≡ kind.DisplayVersion) × (text ≡ Version))
+IsAnswerOf own of (Ok (Invalid (why.Words error))) = (of ≢ kind.OutOfMemory) × (of ≢ kind.DisplayHelp) × (of ≢ kind.DisplayVersion) × (kind_of error ≡ of)
+IsAnswerOf own of (Ok (Invalid refusal)) = ⊥
+IsAnswerOf own of (Err e) = of ≡ kind.OutOfMemory
 
 -- what clap found for the words of `read` asks for a read, or a value is refused, which they have for no read
 abbrev pub FoundRead : List Row → Invocation → Type 0

@@ -2,6 +2,7 @@
 #![tactic(auto)]
 
 mod commands;
+mod help;
 mod list_places;
 mod places;
 mod program;
@@ -12,6 +13,7 @@ mod serving;
 mod status;
 mod words;
 
+pub use help::HelpText;
 pub use list_places::ListPlaces;
 pub use places::Places;
 pub use program::{refusal_of, run};

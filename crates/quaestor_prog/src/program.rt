@@ -3,18 +3,19 @@ ghost use Rattle.std.specs.Prelude.{◌≡◌, ◌⊎◌, ℕ, Option, None, IfO
 ghost use Rattle.hub_model.specs.Setting.{Setting};
 ghost use Rattle.q_outside.specs.Ends.{HasEnded, Ticks};
 ghost use Rattle.quaestor_prog.specs.Commands.{AskHelp};
+ghost use Rattle.quaestor_prog.specs.Help.{text_of_help};
 ghost use Rattle.quaestor_prog.specs.Reading.{IsReading};
 ghost use Rattle.quaestor_prog.specs.Serving.{IsServing};
 ghost use Rattle.quaestor_prog.specs.Run.{AreTimed, GaveWorld, HasWorld, IsHelped, IsRefused, IsRun, IsText, IsUnbegun, IsUsage};
 ghost use Rattle.quaestor_prog.specs.Words.{AreTaken, IsPipe, IsRead, IsReason, IsServe, IsWorld, ReadAsk, ServeAsk};
 
+use crate::help::HelpText;
 use crate::places::Places;
 use crate::reading::read_at;
 use crate::refusal::Refusal;
 use crate::serving::serve_at;
 use crate::status::Status;
 use crate::words::{Invocation, WorldOptions, read_words};
-use clap::Error;
 use q_base::{Memory, Moment};
 use q_outside::{Clock, Failed, FixedClock, Sink, Source, give_all};
 use quaestor_server::{Config, Owned, Room, serve_connection};
@@ -70,7 +71,7 @@ where
         (AreTimed C.tick clock.old clock.new None) result
         × (places.new ≡ places.old) }
     ensures help { AskHelp (map string_bytes words.now)
-        → (IsHelped (record { source = S.at source.old; sink = K.at sink.old })
+        → (IsHelped (map string_bytes words.now) (record { source = S.at source.old; sink = K.at sink.old })
         (record { source = S.at source.new; sink = K.at sink.new }) (K.ended sink.new)
         (AreTimed C.tick clock.old clock.new None) result
         ⊎ IsUnbegun (record { source = S.at source.old; sink = K.at sink.old })
@@ -98,7 +99,7 @@ where
         Ok(Invocation::Serve(options)) => serve_at(rt, alloc, options, sink, &*clock, places),
         Ok(Invocation::Read(options)) => read_at(alloc, &options, sink, places),
         Ok(Invocation::World(options)) => show_world(alloc, options, sink, &*places),
-        Ok(Invocation::Help(text)) => show(alloc, &text, sink),
+        Ok(Invocation::Help(asked)) => show(asked, sink),
         Ok(Invocation::Invalid(_)) => refuse(sink),
         Err(_) => Status::Memory,
     }
@@ -219,14 +220,11 @@ fn refuse<K: Sink>(sink: &mut K) -> Status
     }
 }
 
-/// Writes the text of the help or of the version, and ends the sink.
-fn show<K: Sink>(alloc: Global, text: &Error, sink: &mut K) -> Status
-    ensures { IsText (K.at sink.old) (K.at sink.new) (K.ended sink.new) result }
+/// Writes the text of a help or of the version, and ends the sink.
+fn show<K: Sink>(asked: HelpText, sink: &mut K) -> Status
+    ensures { IsText (text_of_help asked) (K.at sink.old) (K.at sink.new) (K.ended sink.new) result }
 {
-    let Ok(line) = format!(in alloc; "{text}") else {
-        return Status::Memory;
-    };
-    let given = give_all(sink, line.as_bytes());
+    let given = give_all(sink, asked.text());
     sink.end();
     match given {
         Ok(()) => Status::Done,

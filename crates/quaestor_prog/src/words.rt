@@ -9,6 +9,7 @@ ghost use Rattle.q_outside.specs.declared.limits.Limits.{Limits as LimitsOf};
 ghost use Rattle.quaestor_prog.specs.Words.{AreLimits, AreOptions, AreOrigins, AreServeOptions, AreWorldOptions, FoundRead, IsCount, Asks, IsArgument, IsArgumentRange, IsNumberIn, ServeAsk, ask_of, asked_with, are_origins, are_web_origins, is_host_byte, is_of_scheme, is_web_origin, IsAnswerOf, IsBadValue, IsClock, IsConfiguration, IsNumber, IsRange, IsServeOf, level_word};
 
 use crate::commands::{pipe_command, program_command, read_command, serve_command, world_command};
+use crate::help::HelpText;
 use crate::ranges::{
     DEFAULT_GRACE, DEFAULT_HEAD_TIME, DEFAULT_IDLE, DEFAULT_MATCHERS, DEFAULT_PLACES, DEFAULT_RATE,
     DEFAULT_REPLY_TIME, DEFAULT_WORKERS, MOST_CONNECTIONS, MOST_MATCHERS, MOST_PLACES, MOST_RATE,
@@ -85,8 +86,8 @@ pub(crate) enum Invocation<'a> {
     Read(ReadOptions<'a>),
     /// To run a world.
     World(WorldOptions),
-    /// To show this text, of the help or of the version.
-    Help(Error),
+    /// To show this text, of a help or of the version.
+    Help(HelpText),
     /// Nothing, since no command takes them.
     Invalid(Refusal<'a>),
 }
@@ -114,7 +115,7 @@ fn read_pipe<'a>(alloc: Global, words: &'a [String]) -> Result<Invocation<'a>, M
             Ok(options) => Ok(Invocation::Pipe(options)),
             Err(value) => Ok(Invocation::Invalid(Refusal::Value(value))),
         },
-        Err(error) => answer_of(error),
+        Err(error) => answer_of(error, HelpText::Pipe),
     }
 }
 
@@ -128,7 +129,7 @@ fn read_serve<'a>(alloc: Global, words: &'a [String]) -> Result<Invocation<'a>, 
             Ok((options, origins)) => serve_with(alloc, options, origins),
             Err(value) => Ok(Invocation::Invalid(Refusal::Value(value))),
         },
-        Err(error) => answer_of(error),
+        Err(error) => answer_of(error, HelpText::Serve),
     }
 }
 
@@ -158,7 +159,7 @@ fn read_read<'a>(alloc: Global, words: &'a [String]) -> Result<Invocation<'a>, M
 {
     match read_command(alloc)?.try_get_matches_from(words) {
         Ok(matches) => read_options(alloc, &matches),
-        Err(error) => answer_of(error),
+        Err(error) => answer_of(error, HelpText::Read),
     }
 }
 
@@ -172,7 +173,7 @@ fn read_world<'a>(alloc: Global, words: &'a [String]) -> Result<Invocation<'a>, 
             Ok(options) => Ok(Invocation::World(options)),
             Err(value) => Ok(Invocation::Invalid(Refusal::Value(value))),
         },
-        Err(error) => answer_of(error),
+        Err(error) => answer_of(error, HelpText::World),
     }
 }
 
@@ -183,17 +184,18 @@ fn read_program<'a>(alloc: Global, words: &'a [String]) -> Result<Invocation<'a>
 {
     match program_command(alloc)?.try_get_matches_from(words) {
         Ok(_) => Ok(Invocation::Invalid(Refusal::NoCommand)),
-        Err(error) => answer_of(error),
+        Err(error) => answer_of(error, HelpText::Program),
     }
 }
 
-/// What clap's answer comes to where it gives no matches.
-fn answer_of<'a>(error: Error) -> Result<Invocation<'a>, Memory>
-    ensures { IsAnswerOf (kind_of error) result }
+/// What clap's answer comes to where it gives no matches, for a command of which this is the help.
+fn answer_of<'a>(error: Error, help: HelpText) -> Result<Invocation<'a>, Memory>
+    ensures { IsAnswerOf help (kind_of error) result }
 {
     match error.kind() {
         ErrorKind::OutOfMemory => Err(Memory),
-        ErrorKind::DisplayHelp | ErrorKind::DisplayVersion => Ok(Invocation::Help(error)),
+        ErrorKind::DisplayHelp => Ok(Invocation::Help(help)),
+        ErrorKind::DisplayVersion => Ok(Invocation::Help(HelpText::Version)),
         _ => Ok(Invocation::Invalid(Refusal::Words(error))),
     }
 }

@@ -1,5 +1,6 @@
 -- words that are taken are not refused
 use Rattle.std.proofs.Common.{inl, inr}
+use Rattle.quaestor_prog.proofs.CommandLemmas.{help_asked}
 use Rattle.quaestor_prog.proofs.program.refusal_of.Goals as goal
 
 pub returns-in-Invalid-clause-some : goal.returns-in-Invalid-clause-some
@@ -16,3 +17,6 @@ returns-in-Read-clause-none c = inl (inr (inr (inl (_, rw c.in-Read.is at c.in_o
 
 pub returns-in-World-clause-none : goal.returns-in-World-clause-none
 returns-in-World-clause-none c = inl (inr (inr (inr (_, _, rw c.in-World.is at c.in_ok-refusal.ensures))))
+
+pub returns-clause-none : goal.returns-clause-none
+returns-clause-none c = inr (help_asked _ _ (rw c.in-Help.is at c.in_ok-refusal.ensures))

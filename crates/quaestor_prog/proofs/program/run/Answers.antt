@@ -1,6 +1,6 @@
 -- the words ask for one thing, or for none
 use Rattle.std.proofs.Common.{refl, inl, inr}
-use Rattle.quaestor_prog.proofs.CommandLemmas.{pipe_serve, pipe_read, pipe_world, serve_read, serve_world, read_world}
+use Rattle.quaestor_prog.proofs.CommandLemmas.{pipe_serve, pipe_read, pipe_world, serve_read, serve_world, read_world, help_asked}
 use Rattle.quaestor_prog.proofs.RunLemmas.{run_of, served_of, read_of, world_of, no_help, no_help_serving, no_help_reading, no_help_world}
 use Rattle.quaestor_prog.proofs.program.run.Goals as goal
 
@@ -94,19 +94,31 @@ returns-in-Ok-World-clause-usage g c = λ none. absurd (none (inl (inr (inr (inr
 -- ---- help
 
 pub returns-in-Ok-Help-clause-pipe : goal.returns-in-Ok-Help-clause-pipe
-returns-in-Ok-Help-clause-pipe g c = λ h at is. absurd (no_help _ h at is (rw c.in-Ok-Help.field-0-is at c.in-Ok-Help.ensures))
+returns-in-Ok-Help-clause-pipe g c = λ h at is. absurd (no_help _ h at is (help_asked _ _ (rw c.in-Ok-Help.field-0-is at c.in-Ok-Help.ensures)))
 
 pub returns-in-Ok-Help-clause-serve : goal.returns-in-Ok-Help-clause-serve
-returns-in-Ok-Help-clause-serve g c = λ ask is. absurd (no_help_serving _ ask is (rw c.in-Ok-Help.field-0-is at c.in-Ok-Help.ensures))
+returns-in-Ok-Help-clause-serve g c = λ ask is. absurd (no_help_serving _ ask is (help_asked _ _ (rw c.in-Ok-Help.field-0-is at c.in-Ok-Help.ensures)))
 
 pub returns-in-Ok-Help-clause-read : goal.returns-in-Ok-Help-clause-read
-returns-in-Ok-Help-clause-read g c = λ ask is. absurd (no_help_reading _ ask is (rw c.in-Ok-Help.field-0-is at c.in-Ok-Help.ensures))
+returns-in-Ok-Help-clause-read g c = λ ask is. absurd (no_help_reading _ ask is (help_asked _ _ (rw c.in-Ok-Help.field-0-is at c.in-Ok-Help.ensures)))
 
 pub returns-in-Ok-Help-clause-world : goal.returns-in-Ok-Help-clause-world
-returns-in-Ok-Help-clause-world g c = λ seed steps is. absurd (no_help_world _ seed steps is (rw c.in-Ok-Help.field-0-is at c.in-Ok-Help.ensures))
+returns-in-Ok-Help-clause-world g c = λ seed steps is. absurd (no_help_world _ seed steps is (help_asked _ _ (rw c.in-Ok-Help.field-0-is at c.in-Ok-Help.ensures)))
 
 pub returns-in-Ok-Help-clause-usage : goal.returns-in-Ok-Help-clause-usage
-returns-in-Ok-Help-clause-usage g c = λ none. absurd (none (inr (rw c.in-Ok-Help.field-0-is at c.in-Ok-Help.ensures)))
+returns-in-Ok-Help-clause-usage g c = λ none. absurd (none (inr (help_asked _ _ (rw c.in-Ok-Help.field-0-is at c.in-Ok-Help.ensures))))
+
+pub returns-in-Ok-Help-clause-help : goal.returns-in-Ok-Help-clause-help
+returns-in-Ok-Help-clause-help g c = λ help. (
+  inl (record {
+    asked = c.in-Ok-Help.asked;
+    is_asked = rw c.in-Ok-Help.field-0-is at c.in-Ok-Help.ensures;
+    text = c.show.ensures;
+    source = refl;
+    ticks = refl;
+  }),
+  refl,
+)
 
 -- ---- refused
 

@@ -1,0 +1,147 @@
+//! The texts of `--help` and of `--version`.
+ghost use Rattle.std.specs.Prelude.{◌≡◌};
+ghost use Rattle.quaestor_prog.specs.Help.{text_of_help};
+
+/// What `--version` shows, of the program and of each command.
+const VERSION_LINE: &[u8] = b"quaestor 0.1.0\n";
+
+/// The help of the program.
+const PROGRAM_HELP: &[u8] = b"Usage: quaestor COMMAND [OPTIONS]
+
+Options:
+  -h, --help     Print help
+  -V, --version  Print version
+
+Commands:
+  pipe   Serves standard input as one connection
+  serve  Serves the connections that come to an address
+  read   Reads a key at the server of an address
+  world  Runs a server, two caches and three clients by numbers that a seed gives
+
+quaestor COMMAND --help shows the options of a command.
+";
+
+/// The help of `pipe`.
+const PIPE_HELP: &[u8] = b"Serves standard input as one connection, over a store that begins empty
+
+Usage: quaestor pipe [OPTIONS]
+
+Options:
+      --bits <N>      2^N bits in a page, 10 to 22 [default: 17]
+      --hashes <N>    N positions of a key, 1 to 16 [default: 6]
+      --ttl-low <N>   Least lifetime, 1 to 31536000 seconds [default: 1]
+      --ttl-high <N>  Greatest lifetime, 1 to 31536000 seconds [default: 3600]
+      --active <N>    At most N active keys, 0 to 1000000 [default: 10000]
+      --bytes <N>     Capacity, 65792 to 134217728 bytes [default: 134217728]
+      --clock <N>     The clock stays at N seconds since 1970 [default: the clock of the system]
+  -h, --help          Print help
+  -V, --version       Print version
+";
+
+/// The help of `serve`.
+const SERVE_HELP: &[u8] =
+    b"Serves the connections that come to an address, over one store that begins empty
+
+Usage: quaestor serve [OPTIONS] <ADDR>
+
+Arguments:
+  <ADDR>  The address, such as 127.0.0.1:8080; port 0 takes a free one
+
+Options:
+      --bits <N>                2^N bits in a page, 10 to 22 [default: 17]
+      --hashes <N>              N positions of a key, 1 to 16 [default: 6]
+      --ttl-low <N>             Least lifetime, 1 to 31536000 seconds [default: 1]
+      --ttl-high <N>            Greatest lifetime, 1 to 31536000 seconds [default: 3600]
+      --active <N>              At most N active keys, 0 to 1000000 [default: 10000]
+      --bytes <N>               Capacity, 65792 to 134217728 bytes [default: 134217728]
+      --places <N>              At most N connections at the same time, 1 to 32768 [default: 4096]
+      --workers <N>             At most N of them are served at the same time, 1 to 64
+                                [default: 16]
+      --matchers <N>            N threads look for outdated copies, 1 to 16 [default: 1]
+      --connections <N>         Ends after N connections, 1 to 1099511627776
+                                [default: it does not end by their number]
+      --idle <N>                A connection waits at most N seconds for its next request,
+                                0 to 3600, 0 for any time [default: 30]
+      --head-time <N>           A request has N seconds beside those of its bytes, 1 to 3600
+                                [default: 10]
+      --reply-time <N>          A reply has N seconds beside those of its bytes, 1 to 3600
+                                [default: 10]
+      --least-rate <N>          N bytes give a request or a reply a second more, 1 to 1000000
+                                [default: 1000]
+      --grace <N>               Told to end, it answers what it has begun for at most N seconds,
+                                0 to 3600 [default: 10]
+      --allow-origin <ORIGINS>  Web pages of these origins may read replies: * for all, or
+                                https://HOST and the like, with a space between two
+                                [default: none]
+  -h, --help                    Print help
+  -V, --version                 Print version
+";
+
+/// The help of `read`.
+const READ_HELP: &[u8] =
+    b"Fetches the page of a server, reads a key by a new session, and writes its commit, its way
+and what it has
+
+Usage: quaestor read <ADDR> <LEVEL> <KEY>
+
+Arguments:
+  <ADDR>   The address of the server, such as 127.0.0.1:8080
+  <LEVEL>  session or causal, which accept a copy of a cache that the server's page vouches for,
+           or strong, which asks the server
+  <KEY>    r/COLLECTION/ID, or q/COLLECTION/KIND/f=FILTER;o=ORDER;s=SKIP;n=TAKE, where KIND is
+           objects or ids
+
+Options:
+  -h, --help     Print help
+  -V, --version  Print version
+";
+
+/// The help of `world`.
+const WORLD_HELP: &[u8] =
+    b"Runs a server, two caches and three clients in memory, and writes a line for each read and
+a summary
+
+Usage: quaestor world <SEED> <STEPS>
+
+Arguments:
+  <SEED>   The number that gives all steps, 0 to 18446744073709551615
+  <STEPS>  How many steps, 1 to 1000000
+
+Options:
+  -h, --help     Print help
+  -V, --version  Print version
+";
+
+/// A text that the program shows of itself.
+#[derive(Clone, Copy, Debug, PartialEq, Eq)]
+pub enum HelpText {
+    /// The help of the program, where no command is named.
+    Program,
+    /// The help of `pipe`.
+    Pipe,
+    /// The help of `serve`.
+    Serve,
+    /// The help of `read`.
+    Read,
+    /// The help of `world`.
+    World,
+    /// The name of the program and its version.
+    Version,
+}
+
+impl HelpText {
+    /// The text itself.
+    #[tactic(auto, unfolding(crate::specs::Help::text_of_help))]
+    pub fn text(self) -> &'static [u8]
+        ensures { result.now ≡ text_of_help self }
+    {
+        match self {
+            HelpText::Program => PROGRAM_HELP,
+            HelpText::Pipe => PIPE_HELP,
+            HelpText::Serve => SERVE_HELP,
+            HelpText::Read => READ_HELP,
+            HelpText::World => WORLD_HELP,
+            HelpText::Version => VERSION_LINE,
+        }
+    }
+}
