@@ -6,8 +6,8 @@ help: ## [at once] lists the commands
 	@awk -F ':.*## \\[|\\] ' '/^[a-z-]+:.*## \[/ { printf "  %-12s %-18s %s\n", $$1, $$2, $$3 }' $(firstword $(MAKEFILE_LIST))
 try: named ## [1 min] runs the tests of CRATE=name without a proof
 	@python3 tools/test.py $(CRATE)
-test: ## [6 min] runs every test and example without a proof, and then those of `make lasts`
-	@python3 tools/test.py && python3 tools/lasts.py
+test: ## [6 min] runs every test and example without a proof, and then those of `make lasts` and `make costs`
+	@python3 tools/test.py && python3 tools/lasts.py && python3 tools/costs.py
 check: ## [1 to 60 min] proves what changed, every crate, lowest first
 	rt all check
 fmt: ## [10 s] lays out every crate
@@ -28,6 +28,8 @@ example: ## [at once, or 3 min] runs the examples and compares their output with
 	@sh tools/example.sh
 lasts: ## [30 s] tries the server with clients that are silent, slow or many, and ends it
 	@python3 tools/lasts.py
+costs: ## [20 s] compares what requests cost that would be dear if a call looked again at what it knows
+	@python3 tools/costs.py
 caches: ## [10 s] tries serve and read against each other, straight and through nginx and Varnish
 	@python3 tools/caches.py
 bench: ## [1 min] measures the server with wrk and prints a table
@@ -53,4 +55,4 @@ shop: ## [at once] starts a server, the example's page and a cache, and prints t
 
 named:
 	@test -n "$(CRATE)" || { echo "say which: CRATE=name" >&2; exit 2; }
-.PHONY: help try test check fmt lint edits plant crate program run example lasts caches bench ci dist verify-dist wasm client client-test browser-test shop named
+.PHONY: help try test check fmt lint edits plant crate program run example lasts costs caches bench ci dist verify-dist wasm client client-test browser-test shop named
