@@ -1,10 +1,11 @@
 -- Lists of queries with their keys, also for the crates above.
-use Rattle.std.proofs.Common.{◌≡◌, ℕ, zero, suc, ◌<◌, ◌≤◌, Bool, true, false, List, [], ◌∷◌, ◌++◌, length, map, take, drop, get_or, slice_get, All, Contains, Option, Some, None, is_some, position, set, OnOk, Result, Ok, Err, ◌-◌, refl, sym, ap, ◌∙◌, subst, inl, inr, arith}
+use Rattle.std.proofs.Common.{◌≡◌, ℕ, zero, suc, ◌<◌, ◌≤◌, Bool, true, false, List, [], ◌∷◌, ◌++◌, length, map, take, drop, get_or, slice_get, All, Contains, Option, Some, None, is_some, position, set, filter, nat_lt, OnOk, Result, Ok, Err, ◌-◌, refl, sym, ap, ◌∙◌, subst, inl, inr, arith}
 use Rattle.std.specs.Map.{lookup, keys_of}
 use Rattle.std.specs.List.{swap_remove}
 use Rattle.std.specs.Option.{option_map_or}
-use Rattle.std.proofs.lemmas.Bool.{cases_Bool, cases_eq}
+use Rattle.std.proofs.lemmas.Bool.{cases_Bool, cases_eq, ltb-true}
 use Rattle.std.proofs.lemmas.List.{get_or-take, get_or_default, get_or-set_same, get_or-set_other, length-set, length-take-le}
+use Rattle.std.proofs.lemmas.List.Elements.{All-weaker, filter_passes}
 use Rattle.std.proofs.lemmas.List.Quantifiers.{position-Some}
 use Rattle.std.proofs.lemmas.Map.Entries.{length-keys_of}
 use Rattle.indexmap.specs.IndexMap.{set_value_at, swap_remove_entry}
@@ -14,8 +15,8 @@ use Rattle.query_core.specs.declared.query.Query.{Query}
 use Rattle.query_normal.specs.declared.key.KeyShape.{KeyShape}
 use Rattle.query_normal.specs.Keys.{same_key}
 use Rattle.query_normal.specs.SameKey.{same_key-Decides}
-use Rattle.active_queries.specs.Following.{Following, Follows, FollowsKey, AreFollowing, forgotten}
-use Rattle.active_queries.specs.Queries.{begun, HaveSeen, all_forgotten}
+use Rattle.active_queries.specs.Following.{Following, Follows, FollowsKey, AreFollowing, AreAbove, forgotten}
+use Rattle.active_queries.specs.Queries.{begun, HaveSeen, ListAbove, all_forgotten}
 
 -- ---- what holds of each
 
@@ -133,6 +134,10 @@ followed-on journal entries i v w there on = All-written (FollowsKey journal) en
 pub seen-on : (n : ℕ) (entries : List (KeyShape × Following)) (i : ℕ) (v w : Following) → slice_get (map (λ e. e.1) entries) i ≡ Some v → v.seen ≤ w.seen → HaveSeen n entries → HaveSeen n (set_value_at entries i w)
 seen-on n entries i v w there up = All-written (λ e. n ≤ e.1.seen) entries i v w there (λ key low. omega (arith, low, up))
 
+pub above-on : (n : ℕ) (entries : List (KeyShape × Following)) (i : ℕ) (v w : Following) → slice_get (map (λ e. e.1) entries) i ≡ Some v → (n ≤ v.seen → AreAbove n v.changed → AreAbove n w.changed)
+    → HaveSeen n entries → ListAbove n entries → ListAbove n (set_value_at entries i w)
+above-on n entries i v w there on seen = All-written (λ e. AreAbove n e.1.changed) entries i v w there (λ key above. on (seen-at n entries i v there seen) above)
+
 -- the one written under a key is found there
 found-written : (test : KeyShape → Bool) (entries : List (KeyShape × Following)) (i : ℕ) (w : Following) (d : KeyShape) → i < length (keys_of entries) → test (get_or (keys_of entries) i d) ≡ true →
     ((k : ℕ) → k < i → test (get_or (keys_of entries) k d) ≡ false) → lookup test (set_value_at entries i w) ≡ Some w
@@ -195,6 +200,15 @@ pub All-forgotten : (P Q : KeyShape × Following → Type 0) (to : ℕ) (entries
 All-forgotten P Q to [] each all = λ k d within. absurd (omega (arith, within))
 All-forgotten P Q to (e ∷ entries) each all =
     All-both Q (e.0, forgotten to e.1) (all_forgotten to entries) (each e (All-first P e entries all)) (All-forgotten P Q to entries each (All-rest P e entries all))
+
+-- those that are left are above the commit
+forgotten-above : (to : ℕ) (changed : List ℕ) → AreAbove to (filter (λ n. nat_lt to n) changed)
+forgotten-above to changed =
+    All-weaker (λ n. nat_lt to n ≡ true) (λ n. to < n) (λ n above. ltb-true to n above) (filter (λ n. nat_lt to n) changed) (filter_passes (λ n. nat_lt to n) changed)
+
+pub all-above : (to : ℕ) (entries : List (KeyShape × Following)) → ListAbove to (all_forgotten to entries)
+all-above to [] = λ k d within. absurd (omega (arith, within))
+all-above to (e ∷ entries) = All-both (λ x. AreAbove to x.1.changed) (e.0, forgotten to e.1) (all_forgotten to entries) (forgotten-above to e.1.changed) (all-above to entries)
 
 -- what follows where a call succeeded
 pub on-ok : {A E P Q : Type 0} (r : Result A E) → (P → Q) → OnOk r P → OnOk r Q

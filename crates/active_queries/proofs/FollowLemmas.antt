@@ -24,7 +24,7 @@ use Rattle.match_sets.specs.Contents.{Contents, StandsFor, IsNext, window_of}
 use Rattle.match_sets.specs.Follow.{ArePassing, verdict_on}
 use Rattle.hub_model.specs.Journal.{Finding, absent, present, queried, result_at, same_finding}
 use Rattle.hub_model.specs.Outdated.{is_changed}
-use Rattle.active_queries.specs.Following.{Following, Follows, FollowsKey, AreFollowing, forgotten, IsRowAfter}
+use Rattle.active_queries.specs.Following.{Following, Follows, FollowsKey, AreFollowing, AreAbove, forgotten, IsRowAfter}
 
 -- ---- lists of commits
 
@@ -79,6 +79,15 @@ noted-low true changed seen low =
   where
     one : All (λ m. m ≤ suc seen) (suc seen ∷ [])
     one zero d within = omega arith
+    one (suc k) d within = absurd (omega (arith, within))
+
+-- a commit that is noted is above those that were seen
+pub noted-above : (shows : Bool) (changed : List ℕ) (n seen commit : ℕ) → n ≤ seen → commit ≡ suc seen → AreAbove n changed → AreAbove n (noted shows changed commit)
+noted-above false changed n seen commit low next above = above
+noted-above true changed n seen commit low next above = All-append (λ m. n < m) changed (commit ∷ []) above one
+  where
+    one : All (λ m. n < m) (commit ∷ [])
+    one zero d within = omega (arith, low, next)
     one (suc k) d within = absurd (omega (arith, within))
 
 -- ---- whether a commit changes the result

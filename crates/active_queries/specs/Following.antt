@@ -41,6 +41,10 @@ FollowsKey journal e = (kind : Kind) × (query : Query) × (e.0 ≡ QueryKey kin
 abbrev pub AreFollowing : List Change → List (KeyShape × Following) → Type 0
 AreFollowing journal entries = All (FollowsKey journal) entries
 
+-- the changed commits are above a commit
+abbrev pub AreAbove : ℕ → List ℕ → Type 0
+AreAbove n changed = All (λ m. n < m) changed
+
 -- without the changed commits up to one
 abbrev pub forgotten : ℕ → Following → Following
 forgotten to a = record { kind = a.kind; set = a.set; seen = a.seen; from = max a.from to; changed = filter (λ n. nat_lt to n) a.changed }

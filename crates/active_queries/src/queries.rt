@@ -6,7 +6,7 @@ ghost use Rattle.commit_book.specs.declared.change.Change.{Change as AChange};
 ghost use Rattle.query_normal.specs.declared.key.KeyShape.{KeyShape as AKey};
 ghost use Rattle.query_normal.specs.Keys.{same_key};
 ghost use Rattle.active_queries.specs.Following.{Following as AFollowing, AreFollowing};
-ghost use Rattle.active_queries.specs.Queries.{begun, HaveSeen, all_forgotten};
+ghost use Rattle.active_queries.specs.Queries.{begun, HaveSeen, ListAbove, all_forgotten};
 
 use crate::query::ActiveQuery;
 use commit_book::Book;
@@ -81,6 +81,7 @@ impl ActiveQueries {
         ensures following { AreFollowing book.now.journal self.old.entries → AreFollowing book.now.journal self.new.entries }
         ensures begun { begun self.new.entries ≡ begun self.old.entries }
         ensures seen { (n : ℕ) → HaveSeen n self.old.entries → HaveSeen n self.new.entries }
+        ensures above { (n : ℕ) → HaveSeen n self.old.entries → ListAbove n self.old.entries → ListAbove n self.new.entries }
         ensures reached { OnOk result (IfSome (lookup (same_key key.now) self.new.entries) (λ a. to ≤ a.seen)) }
         ensures others { (other : AKey) → same_key key.now other ≡ false → lookup (same_key other) self.new.entries ≡ lookup (same_key other) self.old.entries }
         ensures spare { self.old.spare ≤ self.new.spare }
@@ -97,6 +98,7 @@ impl ActiveQueries {
         ensures following { AreFollowing book.now.journal self.old.entries → AreFollowing book.now.journal self.new.entries }
         ensures begun { begun self.new.entries ≡ begun self.old.entries }
         ensures seen { (n : ℕ) → HaveSeen n self.old.entries → HaveSeen n self.new.entries }
+        ensures above { (n : ℕ) → HaveSeen n self.old.entries → ListAbove n self.old.entries → ListAbove n self.new.entries }
         ensures reached { OnOk result (HaveSeen to self.new.entries) }
         ensures spare { self.old.spare ≤ self.new.spare }
     {
@@ -159,6 +161,7 @@ impl ActiveQueries {
         ensures entries { self.new.entries ≡ all_forgotten to self.old.entries }
         ensures following { (journal : List AChange) → HaveSeen to self.old.entries → AreFollowing journal self.old.entries → AreFollowing journal self.new.entries }
         ensures seen { (n : ℕ) → HaveSeen n self.old.entries → HaveSeen n self.new.entries }
+        ensures above { ListAbove to self.new.entries }
         ensures keys { keys_of self.new.entries ≡ keys_of self.old.entries }
         ensures spare { self.old.spare ≤ self.new.spare }
     {

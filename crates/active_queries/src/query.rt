@@ -14,7 +14,7 @@ ghost use Rattle.query_core.specs.Meaning.{satisfies_if};
 ghost use Rattle.match_sets.specs.Contents.{window_of, StandsFor, IsNext, IsSame};
 ghost use Rattle.match_sets.specs.Follow.{verdict_on};
 ghost use Rattle.match_sets.specs.Windows.{has_changed, ShowsChange};
-ghost use Rattle.active_queries.specs.Following.{Follows, IsRowAfter, forgotten};
+ghost use Rattle.active_queries.specs.Following.{Follows, AreAbove, IsRowAfter, forgotten};
 
 use commit_book::{Book, CommitRow};
 use hub_model::laws::equal_results_are_tested;
@@ -69,6 +69,7 @@ impl ActiveQuery {
         ensures follows { IfOk result (λ a. Follows kind query.now a book.now.journal) }
         ensures from { IfOk result (λ a. a.from ≡ commit) }
         ensures seen { IfOk result (λ a. a.seen ≡ commit) }
+        ensures changed { IfOk result (λ a. a.changed ≡ []) }
     {
         let documents = Docs::of(book.documents_of(commit, &query.collection)?);
         let set = MatchSet::start(alloc, query, &documents, commit)?;
@@ -122,6 +123,7 @@ impl ActiveQuery {
         ensures follows { (kind : AKind) (query : AQuery) → Follows kind query self.old book.now.journal → Follows kind query self.new book.now.journal }
         ensures from { self.new.from ≡ self.old.from }
         ensures seen { self.old.seen ≤ self.new.seen }
+        ensures above { (n : ℕ) → n ≤ self.old.seen → AreAbove n self.old.changed → AreAbove n self.new.changed }
         ensures reached { OnOk result (to ≤ self.new.seen) }
     {
         let from = self.seen;
@@ -149,6 +151,7 @@ impl ActiveQuery {
         ensures follows { (kind : AKind) (query : AQuery) → Follows kind query self.old book.now.journal → Follows kind query self.new book.now.journal }
         ensures from { self.new.from ≡ self.old.from }
         ensures seen { self.old.seen ≤ self.new.seen }
+        ensures above { (n : ℕ) → n ≤ self.old.seen → AreAbove n self.old.changed → AreAbove n self.new.changed }
         ensures reached { OnOk result (to ≤ self.new.seen) }
     {
         while self.seen < to {
@@ -164,6 +167,7 @@ impl ActiveQuery {
         ensures follows { (kind : AKind) (query : AQuery) → Follows kind query self.old book.now.journal → Follows kind query self.new book.now.journal }
         ensures from { self.new.from ≡ self.old.from }
         ensures seen { self.old.seen ≤ self.new.seen }
+        ensures above { (n : ℕ) → n ≤ self.old.seen → AreAbove n self.old.changed → AreAbove n self.new.changed }
         ensures reached { OnOk result (self.new.seen ≡ self.old.seen + 1) }
     {
         windows_stay_while_commits_pass_by();

@@ -1,5 +1,5 @@
 -- The steps of the hub's calls.
-use Rattle.std.proofs.Common.{◌≡◌, ℕ, ◌+◌, ◌-◌, ◌<◌, ◌≤◌, Bool, true, false, ◌&&◌, ◌||◌, Option, option_map, map, max, nat_lt, List, [], ◌∷◌, ◌++◌, length, slice_index_or, All, if◌then◌else◌, refl, sym, ap, ap₂, ◌∙◌, subst, arith, inl, Some, length-append}
+use Rattle.std.proofs.Common.{◌≡◌, ℕ, ◌+◌, ◌-◌, ◌<◌, ◌≤◌, Bool, true, false, ◌&&◌, ◌||◌, Option, option_map, map, max, nat_lt, List, [], ◌∷◌, ◌++◌, length, slice_index_or, All, if◌then◌else◌, refl, sym, ap, ap₂, ◌∙◌, subst, arith, inl, Some, None, length-append, Result, Ok, Err, OnErr}
 use Rattle.std.proofs.lemmas.Bool.{le-leb, lt-leb}
 use Rattle.std.specs.List.{list_any, IsDistinct}
 use Rattle.std.specs.List.Sorted.{IsPermutation, IsSorted}
@@ -33,13 +33,14 @@ use Rattle.hub_model.specs.Legal.{most_unmatched}
 use Rattle.active_queries.specs.Following.{Following, AreFollowing}
 use Rattle.hub_core.specs.declared.lifetimes.Lifetimes.{Lifetimes}
 use Rattle.hub_core.specs.ActiveQueries.{is_query, KeepsQueries, StayKept}
-use Rattle.hub_core.specs.HubState.{HubView, HasCopies, HasEstimates, HasWrites, IsAt, IsLeanCopies, IsSoundHub, help_of, hub_of}
-use Rattle.hub_core.specs.Lifetimes.{Drops, KeepsLifetimes, ids_at, went_idle}
+use Rattle.hub_core.specs.HubState.{HubView, HasCopies, HasEstimates, HasWrites, HaveGoneOn, IsAsBefore, IsAt, IsLeanCopies, IsSoundHub, help_of, hub_of, hub_with}
+use Rattle.hub_core.specs.Lifetimes.{Drops, KeepsLifetimes, MakesEntry, ViewedAlike, has_entry, ids_at, went_idle}
 use Rattle.hub_core.proofs.LifeLemmas.{estimates-known, estimates-passed, lifetime-at, lifetimes-longer, lifetimes-passed, lifetimes-records, writes-extended}
 use Rattle.hub_core.proofs.KeepLemmas.{keeps-written}
 use Rattle.hub_core.specs.CopiesView.{CopiesView, Passes, invalidated_keys, until_in, AreInvalidated, IsInvalidationReserved, CanInvalidate}
 use Rattle.hub_core.proofs.IssueLemmas.{active-later}
 use Rattle.hub_core.proofs.MatchLemmas.{invalidations-raise}
+use Rattle.hub_core.proofs.WrittenLemmas.{entries-written}
 use Rattle.hub_core.proofs.StateLemmas.{time-moved, copies-later, invalidations-later, invalidations-written, copies-read, invalidations-read}
 
 -- the clock leaves the configuration
@@ -81,7 +82,9 @@ sound-passed book front h new before after l later moment sound passes idle kept
         idle = idle;
         ready = ready;
         invalidatable = ap (λ (x : CopiesView). x.invalidatable) passes.rest ∙ sound.lean.invalidatable;
+        writes = λ collection id. ap (λ (x : Lifetimes). has_entry x.estimator.records collection id) drops.rest ∙ sound.lean.writes collection id;
         estimates = estimates-lean book.journal front new later idle ready keeps;
+        sets = kept book.journal front sound.queries;
       };
       queries = kept book.journal front sound.queries;
       lifetimes = keeps;
@@ -89,24 +92,57 @@ sound-passed book front h new before after l later moment sound passes idle kept
 
 -- and when the queries have followed
 pub sound-followed : (book : Contents) (front : ℕ) (h : CopiesView) (before after : List (KeyShape × Following)) (l : Lifetimes) → IsSoundHub book front h before l → KeepsQueries book.journal front h.copies h.idle after → IsSoundHub book front h after l
-sound-followed book front h before after l sound keeps = record { within = sound.within; capacity = sound.capacity; lean = sound.lean; queries = keeps; lifetimes = sound.lifetimes }
+sound-followed book front h before after l sound keeps = record {
+  within = sound.within;
+  capacity = sound.capacity;
+  lean = record {
+    change = sound.lean.change;
+    names = sound.lean.names;
+    idle = sound.lean.idle;
+    ready = sound.lean.ready;
+    invalidatable = sound.lean.invalidatable;
+    writes = sound.lean.writes;
+    estimates = sound.lean.estimates;
+    sets = keeps;
+  };
+  queries = keeps;
+  lifetimes = sound.lifetimes;
+}
 
 -- and when a copy was issued
-pub sound-read : (book : Contents) (front : ℕ) (h new : CopiesView) (before after : List (KeyShape × Following)) (l later : Lifetimes) → IsSoundHub book front h before l → KeepsQueries book.journal front new.copies new.idle after → KeepsLifetimes book.journal front new later → new.setting ≡ h.setting → new.idle ≡ [] → new.ready ≡ [] → new.invalidatable ≡ h.invalidatable → IsSoundHub book front new after later
-sound-read book front h new before after l later sound keeps lives setting idle ready invalidatable = record {
+pub sound-read : (book : Contents) (front : ℕ) (h new : CopiesView) (before after : List (KeyShape × Following)) (l later : Lifetimes) → IsSoundHub book front h before l → KeepsQueries book.journal front new.copies new.idle after → KeepsLifetimes book.journal front new later → new.setting ≡ h.setting → new.idle ≡ [] → new.ready ≡ [] → new.invalidatable ≡ h.invalidatable → later.estimator.records ≡ l.estimator.records → IsSoundHub book front new after later
+sound-read book front h new before after l later sound keeps lives setting idle ready invalidatable records = record {
   within = sound.within;
   capacity = sound.capacity ∙ ap (λ (x : Setting). x.capacity) (sym setting);
-  lean = record { change = sound.lean.change; names = sound.lean.names; idle = idle; ready = ready; invalidatable = invalidatable ∙ sound.lean.invalidatable; estimates = estimates-lean book.journal front new later idle ready lives };
+  lean = record {
+    change = sound.lean.change;
+    names = sound.lean.names;
+    idle = idle;
+    ready = ready;
+    invalidatable = invalidatable ∙ sound.lean.invalidatable;
+    writes = λ collection id. ap (λ (names : Names). has_entry names collection id) records ∙ sound.lean.writes collection id;
+    estimates = estimates-lean book.journal front new later idle ready lives;
+    sets = keeps;
+  };
   queries = keeps;
   lifetimes = lives;
 }
 
 -- and when commits were matched, or could not be
-pub sound-matched : (book : Contents) (front later : ℕ) (h new : CopiesView) (before after : List (KeyShape × Following)) (l made : Lifetimes) → IsSoundHub book front h before l → later ≤ length book.journal → KeepsQueries book.journal later new.copies new.idle after → KeepsLifetimes book.journal later new made → new.setting ≡ h.setting → IsLeanCopies new → IsSoundHub book later new after made
-sound-matched book front later h new before after l made sound within keeps lives setting lean = record {
+pub sound-matched : (book : Contents) (front later : ℕ) (h new : CopiesView) (before after : List (KeyShape × Following)) (l made : Lifetimes) → IsSoundHub book front h before l → later ≤ length book.journal → KeepsQueries book.journal later new.copies new.idle after → KeepsLifetimes book.journal later new made → new.setting ≡ h.setting → IsLeanCopies new → MakesEntry None l.estimator.records made.estimator.records → IsSoundHub book later new after made
+sound-matched book front later h new before after l made sound within keeps lives setting lean entered = record {
   within = within;
   capacity = sound.capacity ∙ ap (λ (x : Setting). x.capacity) (sym setting);
-  lean = record { change = sound.lean.change; names = sound.lean.names; idle = lean.idle; ready = lean.ready; invalidatable = lean.invalidatable; estimates = estimates-lean book.journal later new made lean.idle lean.ready lives };
+  lean = record {
+    change = sound.lean.change;
+    names = sound.lean.names;
+    idle = lean.idle;
+    ready = lean.ready;
+    invalidatable = lean.invalidatable;
+    writes = λ collection id. entered collection id ∙ sound.lean.writes collection id;
+    estimates = estimates-lean book.journal later new made lean.idle lean.ready lives;
+    sets = keeps;
+  };
   queries = keeps;
   lifetimes = lives;
 }
@@ -115,12 +151,13 @@ sound-matched book front later h new before after l made sound within keeps live
 pub sound-written : (book reserved more : Contents) (front later : ℕ) (h moved new : CopiesView) (before mid after : List (KeyShape × Following)) (l made left : Lifetimes) (noted : Estimated) (change : Change) (moment : ℕ) → IsSoundHub book front h before l → reserved ≡ record book { reserved = Some change } →
     later ≤ length reserved.journal → IsLeanCopies moved → moved.setting ≡ h.setting → KeepsQueries reserved.journal later moved.copies moved.idle mid → KeepsLifetimes reserved.journal later moved made → Passes moment moved new → new.idle ≡ [] → StayKept moved mid new after → Drops (went_idle moved new) made left →
     noted ≡ record left.estimator { records = noted.records } →
-    more ≡ with_commit reserved change more.names → AreNamesOf more.journal more.names → ((journal longer : List Change) (entries : List (KeyShape × Following)) → AreFollowing journal entries → AreFollowing (journal ++ longer) entries) → IsSoundHub more later new after (record left { estimator = noted })
-sound-written book reserved more front later h moved new before mid after l made left noted change moment sound reserved_is within lean setting keeps lives passes idle kept drops noted_is more_is names longer =
+    more ≡ with_commit reserved change more.names → AreNamesOf more.journal more.names → ((journal longer : List Change) (entries : List (KeyShape × Following)) → AreFollowing journal entries → AreFollowing (journal ++ longer) entries) → MakesEntry (Some change) l.estimator.records made.estimator.records → MakesEntry (Some change) left.estimator.records noted.records → IsSoundHub more later new after (record left { estimator = noted })
+sound-written book reserved more front later h moved new before mid after l made left noted change moment sound reserved_is within lean setting keeps lives passes idle kept drops noted_is more_is names longer entered written =
     let journal : more.journal ≡ reserved.journal ++ change ∷ [] = ap (λ (b : Contents). b.journal) more_is in
     let passed = kept reserved.journal later keeps in
     let size : length more.journal ≡ length reserved.journal + 1 = ap length journal ∙ length-append reserved.journal (change ∷ []) in
     let ready : new.ready ≡ [] = ap (λ (x : CopiesView). x.ready) passes.rest ∙ lean.ready in
+    let queried = keeps-written reserved.journal later new.copies new.idle after passed more.journal (subst (λ (xs : List Change). AreFollowing xs after) (sym journal) (longer reserved.journal (change ∷ []) after passed.following)) in
     let stayed : KeepsLifetimes reserved.journal later new left = lifetimes-passed moved new moment passes lean.idle reserved.journal later made left lean.ready idle lives drops in
     let grown : KeepsLifetimes more.journal later new left = subst (λ (xs : List Change). KeepsLifetimes xs later new left) (sym journal) (lifetimes-longer reserved.journal (change ∷ []) later new left within stayed) in
     let life : KeepsLifetimes more.journal later new (record left { estimator = noted }) = subst (λ (e : Estimated). KeepsLifetimes more.journal later new (record left { estimator = e })) (sym noted_is) (lifetimes-records more.journal later new left noted.records grown) in
@@ -135,9 +172,13 @@ sound-written book reserved more front later h moved new before mid after l made
         idle = idle;
         ready = ready;
         invalidatable = ap (λ (x : CopiesView). x.invalidatable) passes.rest ∙ lean.invalidatable;
+        writes =
+            entries-written book.journal more.journal change l.estimator.records made.estimator.records left.estimator.records noted.records sound.lean.writes entered (ap (λ (x : Lifetimes). x.estimator.records) drops.rest) written
+            (journal ∙ ap (λ (b : Contents). b.journal ++ change ∷ []) reserved_is);
         estimates = estimates-lean more.journal later new (record left { estimator = noted }) idle ready life;
+        sets = queried;
       };
-      queries = keeps-written reserved.journal later new.copies new.idle after passed more.journal (subst (λ (xs : List Change). AreFollowing xs after) (sym journal) (longer reserved.journal (change ∷ []) after passed.following));
+      queries = queried;
       lifetimes = life;
     }
 
@@ -163,6 +204,65 @@ help-full s moment front commits front_is commits_is full =
 pub help-none : (s : State) (moment front commits : ℕ) → front ≡ s.front → commits ≡ length s.journal → commits - front < most_unmatched → front ≤ commits → help_of s moment ≡ []
 help-none s moment front commits front_is commits_is few within =
     ap (λ (b : Bool). if b then Match moment (length s.journal) ∷ [] else []) (lt-leb (s.front + most_unmatched) (length s.journal) (omega (arith, few, front_is, commits_is, within)))
+
+-- ---- the sets of the queries are no part of a state
+
+module _ (book : Contents) (front : ℕ) (h : CopiesView) (entries : List (KeyShape × Following)) (l : Lifetimes) where
+  pub at-with : (s : State) → IsAt (hub_of book front h l) s → IsAt (hub_with book front h entries l) s
+  at-with s is = record { time = is.time; book = is.book; copies = is.copies; invalidations = is.invalidations; writes = is.writes; estimates = is.estimates; purges = is.purges }
+
+  at-without : (s : State) → IsAt (hub_with book front h entries l) s → IsAt (hub_of book front h l) s
+  at-without s is = record { time = is.time; book = is.book; copies = is.copies; invalidations = is.invalidations; writes = is.writes; estimates = is.estimates; purges = is.purges }
+
+  -- the parts of a hub that has come to a state
+  pub parts-at : (hub : HubView) (s : State) → hub_with book front h entries l ≡ hub → IsAt hub s → IsAt (hub_of book front h l) s
+  parts-at hub s view at = at-without s (subst (λ (x : HubView). IsAt x s) (sym view) at)
+
+  -- all is as before where the sets alone have gone on
+  pub as-before : (hub : HubView) (later : List (KeyShape × Following)) → hub_with book front h entries l ≡ hub → HaveGoneOn entries later → IsAsBefore hub (hub_with book front h later l)
+  as-before hub later view gone = subst (λ (x : HubView). IsAsBefore x (hub_with book front h later l)) view (record { rest = refl; sets = gone })
+
+  -- also where memory ran out in a match
+  pub alike-before : (more : Contents) (later : ℕ) (new : CopiesView) (after : List (KeyShape × Following)) (made : Lifetimes) (hub : HubView) → hub_with book front h entries l ≡ hub → more ≡ book → later ≡ front → new ≡ h → ViewedAlike l made → HaveGoneOn entries after → IsAsBefore hub (hub_with more later new after made)
+  alike-before more later new after made hub view book_is front_is copies alike gone =
+      let estimator = alike.estimator in
+      let texts = alike.texts in
+      subst (λ (x : HubView). IsAsBefore x (hub_with more later new after made)) view
+      (record {
+        rest =
+            (λ i. record {
+              setting = (copies i).setting;
+              clock = (copies i).clock;
+              commits = length (book_is i).journal;
+              rows = (book_is i).journal;
+              front = front_is i;
+              copies = (copies i).copies;
+              outdated = (copies i).outdated;
+              change = (book_is i).reserved;
+              names = (book_is i).names;
+              idle = (copies i).idle;
+              ready = (copies i).ready;
+              invalidatable = (copies i).invalidatable;
+              writes = (estimator i).records;
+              estimates = (estimator i).keys;
+              purges = texts i;
+              sets = after;
+            });
+        sets = gone;
+      })
+
+-- what holds anyway holds where a call failed
+pub on_err_all : {T E : Type 0} (r : Result T E) (P : Type 0) → P → OnErr r P
+on_err_all (Ok x) P p = tt
+on_err_all (Err e) P p = p
+
+-- a hub that is as before has come to the same state
+pub still-at : (old new : HubView) (s : State) → IsAsBefore old new → IsAt old s → IsAt new s
+still-at old new s before is = subst (λ (x : HubView). IsAt x s) (sym before.rest) (record { time = is.time; book = is.book; copies = is.copies; invalidations = is.invalidations; writes = is.writes; estimates = is.estimates; purges = is.purges })
+
+-- a hub that is the same is as before
+pub same-before : (old new : HubView) → new ≡ old → IsAsBefore old new
+same-before old new same = subst (λ (x : HubView). IsAsBefore old x) (sym same) (record { rest = refl; sets = record { begun = refl; seen = λ n seen. seen } })
 
 -- of a hub that has come to a state
 module _ (book : Contents) (front : ℕ) (h : CopiesView) (l : Lifetimes) (s : State) (is : IsAt (hub_of book front h l) s) where

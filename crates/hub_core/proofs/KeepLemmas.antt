@@ -15,8 +15,8 @@ use Rattle.issued_expiries.proofs.ViewLemmas.{only_above, above_nothing, latest_
 use Rattle.commit_book.specs.declared.change.Change.{Change}
 use Rattle.hub_model.specs.Outdated.{is_changed}
 use Rattle.hub_model.proofs.KeySets.{same_key-flips}
-use Rattle.active_queries.specs.Following.{Following, FollowsKey, AreFollowing, forgotten}
-use Rattle.active_queries.specs.Queries.{HaveSeen, begun, all_forgotten}
+use Rattle.active_queries.specs.Following.{Following, FollowsKey, AreFollowing, AreAbove, forgotten}
+use Rattle.active_queries.specs.Queries.{HaveSeen, ListAbove, begun, all_forgotten}
 use Rattle.hub_core.specs.CopiesView.{until_below}
 use Rattle.hub_core.specs.Invalidations.{is_after, invalidates}
 use Rattle.hub_core.specs.ActiveQueries.{KeepsQueries, IsCovered, has_query, is_query}
@@ -186,6 +186,7 @@ keeps-none journal front = record {
   following = All-nil _;
   recent = All-nil _;
   covered = All-nil _;
+  listed = All-nil _;
   tied = λ key. sym (and-false (is_query key));
 }
 
@@ -193,14 +194,15 @@ keeps-none journal front = record {
 module _ (journal : List Change) (front : ℕ) (copies : List Copy) (idle : List KeyShape) (entries : List (KeyShape × Following)) (keeps : KeepsQueries journal front copies idle entries) where
   -- with another journal that the queries follow
   pub keeps-written : (longer : List Change) → AreFollowing longer entries → KeepsQueries longer front copies idle entries
-  keeps-written longer following = record { following = following; recent = keeps.recent; covered = keeps.covered; tied = keeps.tied }
+  keeps-written longer following = record { following = following; recent = keeps.recent; covered = keeps.covered; listed = keeps.listed; tied = keeps.tied }
 
   -- when the queries have followed
-  pub keeps-followed : (new : List (KeyShape × Following)) → begun new ≡ begun entries → AreFollowing journal new → HaveSeen front new → KeepsQueries journal front copies idle new
-  keeps-followed new same following seen = record {
+  pub keeps-followed : (new : List (KeyShape × Following)) → begun new ≡ begun entries → AreFollowing journal new → HaveSeen front new → ListAbove front new → KeepsQueries journal front copies idle new
+  keeps-followed new same following seen above = record {
     following = following;
     recent = seen;
     covered = begun-All (λ key from. (from ≤ front) ⊎ (until_below copies key from ≡ 0)) entries new same keeps.covered;
+    listed = above;
     tied = λ key. begun-lookup entries new same key ∙ keeps.tied key;
   }
 
@@ -211,6 +213,7 @@ module _ (journal : List Change) (front : ℕ) (copies : List Copy) (idle : List
     following = keeps.following;
     recent = keeps.recent;
     covered = λ k d low. still (slice_index_or entries k d) (keeps.covered k d low);
+    listed = keeps.listed;
     tied = λ key.
         keeps.tied key
         ∙ was-active (is_query key) (is_active copies key) (is_active later key) (list_any (same_key key) idle) (active-later clock copies later same key)
@@ -227,6 +230,7 @@ module _ (journal : List Change) (front : ℕ) (copies : List Copy) (idle : List
     following = keeps.following;
     recent = keeps.recent;
     covered = λ k d low. still (slice_index_or entries k d) (keeps.covered k d low);
+    listed = keeps.listed;
     tied = λ key. keeps.tied key ∙ ap₂ (λ (a b : Bool). is_query key && (a || b)) (sym (active_alike others copies key same)) (sym (is key));
   }
     where
@@ -256,6 +260,7 @@ module _ (journal : List Change) (front : ℕ) (copies : List Copy) (idle : List
       following = keeps.following;
       recent = keeps.recent;
       covered = λ k d low. covered-more (slice_index_or entries k d) (keeps.following k d low) (keeps.covered k d low);
+      listed = keeps.listed;
       tied = λ other.
           keeps.tied other
           ∙ now-active (is_query other) (same_key key other) (is_active copies other) (list_any (same_key other) idle)
@@ -270,11 +275,12 @@ module _ (journal : List Change) (front : ℕ) (copies : List Copy) (idle : List
         ]
 
     -- of a key that has a query from now on
-    pub keeps-started : (query : Following) → is_query key ≡ true → lookup (same_key key) entries ≡ None → FollowsKey journal (key, query) → query.from ≡ commit → query.seen ≡ commit → front ≤ commit → KeepsQueries journal front more left (entries ++ (key, query) ∷ [])
-    keeps-started query is absent follows from seen forward = record {
+    pub keeps-started : (query : Following) → is_query key ≡ true → lookup (same_key key) entries ≡ None → FollowsKey journal (key, query) → query.from ≡ commit → query.seen ≡ commit → query.changed ≡ [] → front ≤ commit → KeepsQueries journal front more left (entries ++ (key, query) ∷ [])
+    keeps-started query is absent follows from seen nothing forward = record {
       following = All-push (FollowsKey journal) entries (key, query) keeps.following follows;
       recent = All-push (λ (e : KeyShape × Following). front ≤ e.1.seen) entries (key, query) keeps.recent recent;
       covered = All-push (IsCovered front more) entries (key, query) (λ k d low. covered-more (slice_index_or entries k d) (keeps.following k d low) (keeps.covered k d low)) (inr none);
+      listed = All-push (λ (e : KeyShape × Following). AreAbove front e.1.changed) entries (key, query) keeps.listed (subst (AreAbove front) (sym nothing) (All-nil _));
       tied = λ other.
           lookup-push entries (key, query) other
           ∙ ap₂ (λ (a b : Bool). a || b) (keeps.tied other) (same_key-flips other key)
@@ -304,6 +310,7 @@ module _ (journal : List Change) (front : ℕ) (copies : List Copy) (idle : List
     following = among-All (FollowsKey journal) entries new among keeps.following;
     recent = among-All (λ (e : KeyShape × Following). front ≤ e.1.seen) entries new among keeps.recent;
     covered = among-All (IsCovered front copies) entries new among keeps.covered;
+    listed = among-All (λ (e : KeyShape × Following). AreAbove front e.1.changed) entries new among keeps.listed;
     tied = λ other. elim (cases_Bool (same_key key other)) [
       | inl own ↦ (
           let e : key ≡ other = (same_key-Decides key other).0 own in
@@ -319,11 +326,12 @@ module _ (journal : List Change) (front : ℕ) (copies : List Copy) (idle : List
   }
 
   -- when the front has moved, and the changes up to it are forgotten
-  pub keeps-matched : (to : ℕ) → front ≤ to → AreFollowing journal (all_forgotten to entries) → HaveSeen to (all_forgotten to entries) → KeepsQueries journal to copies idle (all_forgotten to entries)
-  keeps-matched to forward following seen = record {
+  pub keeps-matched : (to : ℕ) → front ≤ to → AreFollowing journal (all_forgotten to entries) → HaveSeen to (all_forgotten to entries) → ListAbove to (all_forgotten to entries) → KeepsQueries journal to copies idle (all_forgotten to entries)
+  keeps-matched to forward following seen above = record {
     following = following;
     recent = seen;
     covered = All-map (IsCovered to copies) (λ (e : KeyShape × Following). (e.0, forgotten to e.1)) entries (λ k d low. moved (slice_index_or entries k d) (keeps.covered k d low));
+    listed = above;
     tied = λ key.
         is_some-lookup (same_key key) (all_forgotten to entries)
         ∙ ap (list_any (same_key key)) (keys_of-map_values (forgotten to) entries)

@@ -14,5 +14,6 @@ pub mod MatchedLemmas
 pub mod NoteLemmas
 pub mod HubLemmas
 pub mod WriteLemmas
+pub mod WrittenLemmas
 pub mod OutcomeLemmas
 pub mod QueryLemmas

@@ -138,7 +138,7 @@ module _ (journal : List Change) (front : ℕ) (mid new : CopiesView) (key : Key
         let e : (key, own.1) ≡ own = (λ i. (sym started.key_is i, own.1)) in
         subst (λ (x : KeyShape × Following). KeepsQueries journal front new.copies new.idle (queries.entries ++ x ∷ [])) e
         (keeps-started journal front mid.copies mid.idle queries.entries keeps key commit (mid.clock + ttl) new.copies new.idle (omega (arith, last)) more left
-        own.1 started.query started.absent started.follows (begun ∙ sym last) (seen ∙ sym last) (omega (arith, within, last)))
+        own.1 started.query started.absent started.follows (begun ∙ sym last) (seen ∙ sym last) started.changed (omega (arith, within, last)))
 
   pub kept-issued : (started : Option (KeyShape × Following)) → IsAtHand journal key started queries → KeepsQueries journal front new.copies new.idle (with_started started ttl queries.entries)
   kept-issued None known = elim (cases_Bool (nat_lt 0 ttl)) [ inl some ↦ issued-known some known | inr none ↦ issued-none none ]

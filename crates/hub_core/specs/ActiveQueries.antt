@@ -8,7 +8,7 @@ use Rattle.query_normal.specs.declared.key.KeyShape.TheVariants.{Record, Query}
 use Rattle.issued_expiries.specs.Copies.{Copy, is_active}
 use Rattle.commit_book.specs.declared.change.Change.{Change}
 use Rattle.active_queries.specs.Following.{Following, FollowsKey, AreFollowing}
-use Rattle.active_queries.specs.Queries.{Queries}
+use Rattle.active_queries.specs.Queries.{Queries, ListAbove}
 use Rattle.hub_core.specs.CopiesView.{CopiesView, until_below}
 
 -- the key is that of a query
@@ -24,11 +24,12 @@ IsCovered front copies e = (e.1.from ≤ front) ⊎ (until_below copies e.0 e.1.
 abbrev pub has_query : List Copy → List KeyShape → KeyShape → Bool
 has_query copies idle key = is_query key && (is_active copies key || list_any (same_key key) idle)
 
--- Each active query key has its match set, which has followed the journal at least up to the front, and lists what a match needs.
+-- Each active query key has its match set, which has followed the journal at least up to the front, and lists what a match needs: no commit up to the front.
 pub record KeepsQueries (journal : List Change) (front : ℕ) (copies : List Copy) (idle : List KeyShape) (entries : List (KeyShape × Following)) : Type 0 where
   pub following : AreFollowing journal entries
   pub recent : All (λ e. front ≤ e.1.seen) entries
   pub covered : All (IsCovered front copies) entries
+  pub listed : ListAbove front entries
   pub tied : (key : KeyShape) → is_some (lookup (same_key key) entries) ≡ has_query copies idle key
 
 -- the queries stay kept through a step of the copies, of whichever journal and front
@@ -42,6 +43,7 @@ pub record IsStarted (journal : List Change) (key : KeyShape) (new : KeyShape ×
   pub follows : FollowsKey journal (key, new.1)
   pub from : new.1.from ≡ length journal
   pub seen : new.1.seen ≡ length journal
+  pub changed : new.1.changed ≡ []
   pub absent : lookup (same_key key) queries.entries ≡ None
   pub space : 0 < queries.spare
 

@@ -1,5 +1,6 @@
 -- Internal. What contracts see of a hub, and the history that it represents.
 use Rattle.std.specs.Prelude.{◌≡◌, ℕ, ◌+◌, ◌≤◌, ◌&&◌, true, nat_le, if◌then◌else◌, List, [], ◌∷◌, Option, None, length, map}
+use Rattle.std.specs.List.{list_any}
 use Rattle.issued_expiries.specs.Copies.{Copy, SameCopies, is_active}
 use Rattle.ttl_estimator.specs.Estimates.{Entries, is_known, kept_of}
 use Rattle.ttl_estimator.specs.Rates.{last_eight}
@@ -15,14 +16,16 @@ use Rattle.hub_model.specs.Step.{state_of}
 use Rattle.hub_model.specs.Until.{until_of_outdated}
 use Rattle.commit_book.specs.declared.change.Change.{Change}
 use Rattle.commit_book.specs.Contents.{Contents}
+use Rattle.commit_book.specs.Journal.{is_of}
 use Rattle.commit_book.specs.Names.{Names, AreNamesOf}
 use Rattle.hub_model.specs.declared.entry.Entry.{Entry}
 use Rattle.hub_model.specs.declared.entry.Entry.TheVariants.{Match}
 use Rattle.active_queries.specs.Following.{Following}
+use Rattle.active_queries.specs.Queries.{HaveSeen, begun}
 use Rattle.hub_core.specs.declared.lifetimes.Lifetimes.{Lifetimes}
 use Rattle.hub_core.specs.CopiesView.{CopiesView, until_in}
 use Rattle.hub_core.specs.ActiveQueries.{is_query, KeepsQueries}
-use Rattle.hub_core.specs.Lifetimes.{KeepsLifetimes}
+use Rattle.hub_core.specs.Lifetimes.{KeepsLifetimes, has_entry}
 
 -- what a hub keeps
 pub record HubView : Type 0 where
@@ -53,8 +56,10 @@ pub record HubView : Type 0 where
   pub estimates : Entries
   -- the texts of the purged keys, in the order of their numbers
   pub purges : List (List ℕ)
+  -- the keys of active queries, each with its match set and the commits that it lists
+  pub sets : List (KeyShape × Following)
 
--- the hub of these parts
+-- the hub of these parts, without the sets of its queries
 abbrev pub hub_of : Contents → ℕ → CopiesView → Lifetimes → HubView
 hub_of book front h l = record {
   setting = h.setting;
@@ -72,16 +77,33 @@ hub_of book front h l = record {
   writes = l.estimator.records;
   estimates = l.estimator.keys;
   purges = l.purges.texts;
+  sets = [];
 }
 
--- Nothing is kept but what the history needs: no memory is reserved, no key is idle, the index has the names of the rows alone, and estimates are kept of active queries alone.
+-- the same with them
+abbrev pub hub_with : Contents → ℕ → CopiesView → List (KeyShape × Following) → Lifetimes → HubView
+hub_with book front h entries l = record (hub_of book front h l) { sets = entries }
+
+-- The sets have only gone on: they are those of the same keys, and list the changed commits after the same ones, and none has seen less.
+pub record HaveGoneOn (old new : List (KeyShape × Following)) : Type 0 where
+  pub begun : begun new ≡ begun old
+  pub seen : (n : ℕ) → HaveSeen n old → HaveSeen n new
+
+-- All is as before, but that the sets have gone on.
+pub record IsAsBefore (old new : HubView) : Type 0 where
+  pub rest : new ≡ record old { sets = new.sets }
+  pub sets : HaveGoneOn old.sets new.sets
+
+-- Nothing is kept but what the history needs: no memory is reserved, no key is idle, the index has the names of the rows alone, the clocks of writes are kept of written records alone, and estimates and match sets of active queries alone. A match set has followed the journal at least up to the front, and lists no commit up to it.
 pub record IsLean (h : HubView) : Type 0 where
   pub change : h.change ≡ None
   pub names : AreNamesOf h.rows h.names
   pub idle : h.idle ≡ []
   pub ready : h.ready ≡ []
   pub invalidatable : h.invalidatable ≡ []
+  pub writes : (collection id : List ℕ) → has_entry h.writes collection id ≡ list_any (is_of collection id) h.rows
   pub estimates : (key : KeyShape) → is_known h.estimates key ≡ (is_query key && is_active h.copies key)
+  pub sets : KeepsQueries h.rows h.front h.copies h.idle h.sets
 
 -- the same of the copies alone
 pub record IsLeanCopies (h : CopiesView) : Type 0 where
@@ -97,7 +119,7 @@ help_of s moment = if nat_le (s.front + most_unmatched) (length s.journal) then 
 pub record IsSoundHub (book : Contents) (front : ℕ) (h : CopiesView) (entries : List (KeyShape × Following)) (l : Lifetimes) : Type 0 where
   pub within : front ≤ length book.journal
   pub capacity : book.capacity ≡ h.setting.capacity
-  pub lean : IsLean (hub_of book front h l)
+  pub lean : IsLean (hub_with book front h entries l)
   pub queries : KeepsQueries book.journal front h.copies h.idle entries
   pub lifetimes : KeepsLifetimes book.journal front h l
 

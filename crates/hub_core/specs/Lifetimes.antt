@@ -1,5 +1,5 @@
 -- Internal. What is kept for the lifetimes of replies and for purges.
-use Rattle.std.specs.Prelude.{◌≡◌, ℕ, ◌≤◌, Bool, true, not, ◌&&◌, ◌||◌, nat_lt, if◌then◌else◌, List, [], map, length, Option, None, is_some}
+use Rattle.std.specs.Prelude.{◌≡◌, ℕ, ◌≤◌, Bool, true, false, not, ◌&&◌, ◌||◌, nat_lt, if◌then◌else◌, List, [], map, length, Option, None, Some, is_some}
 use Rattle.std.specs.List.{list_any}
 use Rattle.std.specs.Map.{lookup}
 use Rattle.query_normal.specs.Keys.{same_key}
@@ -10,6 +10,8 @@ use Rattle.commit_book.specs.Documents.{docs}
 use Rattle.issued_expiries.specs.Copies.{Copy, is_active, until_at}
 use Rattle.ttl_estimator.specs.declared.estimates.Kept.{Kept}
 use Rattle.ttl_estimator.specs.Estimates.{is_known, kept_of}
+use Rattle.ttl_estimator.specs.Records.{Names as Writes, entry_of}
+use Rattle.commit_book.specs.Journal.{is_of}
 use Rattle.purge_list.specs.LastChanges.{Changes, change_of, is_known as has_change}
 use Rattle.commit_book.specs.declared.change.Change.{Change}
 use Rattle.hub_model.specs.Lifetime.{limits_of}
@@ -32,6 +34,19 @@ pub record Drops (gone : KeyShape → Bool) (old new : Lifetimes) : Type 0 where
 -- the key is idle, or becomes so by a step of the copies
 abbrev pub went_idle : CopiesView → CopiesView → KeyShape → Bool
 went_idle old new key = is_idle old key || is_active old.copies key && not (is_active new.copies key)
+
+-- a record has an entry for the clocks of its writes
+abbrev pub has_entry : Writes → List ℕ → List ℕ → Bool
+has_entry writes collection id = is_some (entry_of writes collection id)
+
+-- the change, if there is one, is of the record
+abbrev pub is_of_some : List ℕ → List ℕ → Option Change → Bool
+is_of_some collection id None = false
+is_of_some collection id (Some change) = is_of collection id change
+
+-- the record of a change, if there is one, has an entry too, and no other that had none
+abbrev pub MakesEntry : Option Change → Writes → Writes → Type 0
+MakesEntry change old new = (collection id : List ℕ) → has_entry new collection id ≡ (is_of_some collection id change || has_entry old collection id)
 
 -- a copy of the key at a commit is unexpired
 abbrev pub has_copy : List Copy → KeyShape → ℕ → Bool

@@ -12,7 +12,7 @@ ghost use Rattle.hub_model.specs.Step.{found_of, is_accepted, after, after_all};
 ghost use Rattle.hub_model.specs.Helps.{helps_of};
 ghost use Rattle.hub_core.specs.PageRoom.{IsRoomFor};
 ghost use Rattle.hub_core.specs.ActiveQueries.{is_query};
-ghost use Rattle.hub_core.specs.HubState.{IsAt, IsLean};
+ghost use Rattle.hub_core.specs.HubState.{IsAsBefore, IsAt, IsLean};
 ghost use Rattle.hub_core.specs.ReadAnswer.{AnswersRead};
 
 use crate::config::Config;
@@ -55,13 +55,13 @@ impl Model for Hub {
     ghost use Rattle.std.specs.Coded.{codes};
     ghost use Rattle.q_doc.specs.Code.{tree_code};
     ghost use Rattle.query_core.specs.Code.{filter_code};
-    ghost use Rattle.hub_core.specs.HubState.{HubView, IsSoundHub, hub_of};
+    ghost use Rattle.hub_core.specs.HubState.{HubView, IsSoundHub, hub_with};
 
     ghost Value = { HubView };
 
     ghost coded = { Prim.hlevel (codes, tree_code, filter_code) };
 
-    ghost view = { λ h. hub_of h.book h.front h.copies h.life };
+    ghost view = { λ h. hub_with h.book h.front h.copies h.queries.entries h.life };
 
     ghost invariant = { λ h. IsSoundHub h.book h.front h.copies h.queries.entries h.life };
 }
@@ -100,7 +100,8 @@ impl Hub {
 
         // What stays.
         ensures setting { self.new.setting ≡ self.old.setting }
-        ensures memory { OnErr result (self.new ≡ self.old) }
+        ensures memory { OnErr result (IsAsBefore self.old self.new) }
+        ensures still { OnErr result ((s : State) → IsAt self.old s → IsAt self.new s) }
         ensures lean { IsLean self.new }
     {
         queries_follow_longer_journals();
@@ -161,7 +162,8 @@ impl Hub {
 
         // What stays.
         ensures setting { self.new.setting ≡ self.old.setting }
-        ensures memory { OnErr result (self.new ≡ self.old) }
+        ensures memory { OnErr result (IsAsBefore self.old self.new) }
+        ensures still { OnErr result ((s : State) → IsAt self.old s → IsAt self.new s) }
         ensures lean { IsLean self.new }
     {
         match key.shape() {
@@ -239,7 +241,7 @@ impl Hub {
     fn read_query(&mut self, moment: Moment, key: &Key, tags: &Tags) -> Result<Answer, Memory>
         ensures answers { IfOk result (AnswersRead self.old self.new moment key.now tags.now) }
         ensures setting { self.new.setting ≡ self.old.setting }
-        ensures memory { OnErr result (self.new ≡ self.old) }
+        ensures memory { OnErr result (IsAsBefore self.old self.new) }
         ensures lean { IsLean self.new }
     {
         let started = follow_or_start(self.alloc, &self.book, &mut self.queries, key)?;
@@ -274,7 +276,8 @@ impl Hub {
 
         // What stays.
         ensures setting { self.new.setting ≡ self.old.setting }
-        ensures memory { OnErr result (self.new ≡ self.old) }
+        ensures memory { OnErr result (IsAsBefore self.old self.new) }
+        ensures still { OnErr result ((s : State) → IsAt self.old s → IsAt self.new s) }
         ensures lean { IsLean self.new }
     {
         match_commits(

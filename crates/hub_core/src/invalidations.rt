@@ -7,6 +7,7 @@ ghost use Rattle.hub_core.specs.CopiesView.{until_in, IsInvalidationReserved, Ca
 ghost use Rattle.active_queries.specs.Following.{Following as AFollowing};
 ghost use Rattle.active_queries.specs.Queries.{HaveSeen};
 ghost use Rattle.hub_core.specs.ActiveQueries.{KeepsQueries};
+ghost use Rattle.hub_core.specs.HubState.{HaveGoneOn};
 ghost use Rattle.hub_core.specs.Invalidations.{key_of, is_key, altered_key, is_after, is_invalidation, invalidates, AreInvalidationsOf, AreRecordInvalidationsOf, invalidated_until};
 
 use crate::copies::Copies;
@@ -41,6 +42,7 @@ pub fn reserve_invalidations(
     ensures reserved { IfOk result (λ invalidations. All (λ m. IsInvalidationReserved copies.new m.key) invalidations.items) }
     ensures within { IfOk result (λ invalidations. All (λ m. m.commit ≤ to) invalidations.items) }
     ensures seen { OnOk result (HaveSeen to queries.new.entries) }
+    ensures gone_on { HaveGoneOn queries.old.entries queries.new.entries }
     ensures kept { KeepsQueries book.now.journal front copies.old.copies copies.old.idle queries.new.entries }
     ensures rest { copies.new ≡ record copies.old { invalidatable = copies.new.invalidatable } }
 {

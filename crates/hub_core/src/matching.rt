@@ -1,5 +1,5 @@
 //! A match of commits against the issued copies.
-ghost use Rattle.std.specs.Prelude.{◌≡◌, ◌≤◌, ◌||◌, true, max, length, IsTrue, IfOk, OnOk, OnErr, All, IfSome};
+ghost use Rattle.std.specs.Prelude.{◌≡◌, ◌≤◌, ◌||◌, true, max, length, IsTrue, IfOk, OnOk, OnErr, All, IfSome, Some, option_copied};
 ghost use Rattle.std.specs.List.{list_any, IsDistinct};
 ghost use Rattle.std.specs.List.Sorted.{IsSorted};
 ghost use Rattle.query_normal.specs.Keys.{same_key};
@@ -15,9 +15,9 @@ ghost use Rattle.hub_model.specs.Step.{after, after_all};
 ghost use Rattle.active_queries.specs.Queries.{HaveSeen};
 ghost use Rattle.hub_core.specs.ActiveQueries.{KeepsQueries};
 ghost use Rattle.hub_core.specs.CopiesView.{IsInvalidationReserved};
-ghost use Rattle.hub_core.specs.HubState.{IsAt, IsLeanCopies, help_of, hub_of};
+ghost use Rattle.hub_core.specs.HubState.{HaveGoneOn, IsAt, IsLeanCopies, help_of, hub_of};
 ghost use Rattle.hub_core.specs.Invalidations.{AreInvalidationsOf, HaveEntries, purges_at};
-ghost use Rattle.hub_core.specs.Lifetimes.{KeepsLifetimes, ViewedAlike};
+ghost use Rattle.hub_core.specs.Lifetimes.{KeepsLifetimes, MakesEntry, ViewedAlike};
 
 use crate::copies::Copies;
 use crate::invalidations::{Invalidation, invalidate_all, reserve_invalidations};
@@ -29,6 +29,7 @@ use commit_book::{Book, Change};
 use q_base::{Commit, Memory, Moment};
 use query_normal::Key;
 use std::alloc::Global;
+use ttl_estimator::Estimator;
 
 /// How many commits may come after the front.
 const MOST_UNMATCHED: u64 = 1_024;
@@ -65,8 +66,10 @@ pub fn match_commits(
     ensures lifetimes { OnOk result (KeepsLifetimes book.now.journal to copies.new life.new) }
     ensures lifetimes_still { OnErr result (KeepsLifetimes book.now.journal front copies.new life.new) }
     ensures known { OnOk result (IfSome change.entry (λ c. IsTrue (has_record life.new.estimator c.now.collection c.now.id))) }
+    ensures entered { OnOk result (MakesEntry (option_copied change.entry) life.old.estimator.records life.new.estimator.records) }
     ensures err { OnErr result (copies.new ≡ copies.old) }
     ensures alike { OnErr result (ViewedAlike life.old life.new) }
+    ensures gone_on { OnErr result (HaveGoneOn queries.old.entries queries.new.entries) }
     ensures setting { copies.new.setting ≡ copies.old.setting }
     ensures lean { IsLeanCopies copies.new }
 {
@@ -112,6 +115,7 @@ fn prepare(
     ensures reserved { IfOk result (λ p. All (λ m. IsInvalidationReserved copies.new m.key) p.invalidations.items) }
     ensures entries { IfOk result (λ p. HaveEntries copies.old.copies life.new.changes p.invalidations.items) }
     ensures seen { OnOk result (HaveSeen to queries.new.entries) }
+    ensures gone_on { HaveGoneOn queries.old.entries queries.new.entries }
 
     // The keys that the match purges.
     ensures purged { IfOk result (λ p. (key : AKey) → list_any (same_key key) p.purged.items ≡ list_any (purges_at copies.old.copies life.old.changes (max copies.old.clock moment) key) p.invalidations.items) }
@@ -124,6 +128,7 @@ fn prepare(
     ensures kept { KeepsQueries book.now.journal front copies.old.copies copies.old.idle queries.new.entries }
     ensures changes { (key : AKey) → change_of life.new.changes key ≡ change_of life.old.changes key }
     ensures active { (key : AKey) → has_change life.new.changes key ≡ true → (has_change life.old.changes key || is_active copies.old.copies key) ≡ true }
+    ensures entered { OnOk result (MakesEntry (option_copied change.entry) life.old.estimator.records life.new.estimator.records) }
     ensures records { ExtendsAll life.old.estimator.records life.new.estimator.records }
     ensures estimator { life.new.estimator ≡ record life.old.estimator { records = life.new.estimator.records } }
     ensures alike { OnErr result (ViewedAlike life.old life.new) }
@@ -135,14 +140,25 @@ fn prepare(
     let purged = purged_keys(alloc, copies, &life.changes, &invalidations, second)?;
     reserve_changes(copies, &mut life.changes, &invalidations)?;
     life.purges.reserve(purged.len())?;
-    if let Some(change) = change {
-        life.estimator
-            .reserve_record(&change.collection, &change.id)?;
-    }
+    make_entry(&mut life.estimator, change)?;
     Ok(Prepared {
         invalidations,
         purged,
     })
+}
+
+/// Makes an entry for the writes of the record of a change, if there is one.
+fn make_entry(estimator: &mut Estimator, change: Option<&Change>) -> Result<(), Memory>
+    ensures known { OnOk result (IfSome change.entry (λ c. IsTrue (has_record estimator.new c.now.collection c.now.id))) }
+    ensures entered { OnOk result (MakesEntry (option_copied change.entry) estimator.old.records estimator.new.records) }
+    ensures extends { ExtendsAll estimator.old.records estimator.new.records }
+    ensures rest { estimator.new ≡ record estimator.old { records = estimator.new.records } }
+    ensures err { OnErr result (estimator.new ≡ estimator.old) }
+{
+    match change {
+        Some(change) => estimator.reserve_record(&change.collection, &change.id),
+        None => Ok(()),
+    }
 }
 
 /// Makes an entry for the writes of the record of a change, and matches all commits at a moment where as
@@ -166,9 +182,11 @@ pub fn make_way(
     ensures lifetimes { KeepsLifetimes book.now.journal front.new copies.new life.new }
     ensures within { front.new ≤ length book.now.journal }
     ensures known { OnOk result (IsTrue (has_record life.new.estimator change.now.collection change.now.id)) }
+    ensures entered { OnOk result (MakesEntry (Some change.now) life.old.estimator.records life.new.estimator.records) }
     ensures err { OnErr result (copies.new ≡ copies.old) }
     ensures front { OnErr result (front.new ≡ front.old) }
     ensures alike { OnErr result (ViewedAlike life.old life.new) }
+    ensures gone_on { OnErr result (HaveGoneOn queries.old.entries queries.new.entries) }
     ensures setting { copies.new.setting ≡ copies.old.setting }
     ensures lean { IsLeanCopies copies.new }
 {

@@ -19,7 +19,7 @@ ghost use Rattle.hub_model.specs.Step.{has_read};
 ghost use Rattle.active_queries.specs.Following.{Follows, AreFollowing};
 ghost use Rattle.hub_core.specs.ActiveQueries.{is_query, IsAtHand, IsStarted, KeepsQueries, query_at_hand, with_started};
 ghost use Rattle.hub_core.specs.CopiesView.{IsReadyFor, Passes};
-ghost use Rattle.hub_core.specs.HubState.{IsAt, hub_of};
+ghost use Rattle.hub_core.specs.HubState.{HaveGoneOn, IsAt, hub_of};
 ghost use Rattle.hub_core.specs.Lifetimes.{KeepsLifetimes, ids_at};
 
 use crate::copies::Copies;
@@ -45,6 +45,7 @@ pub fn follow_or_start(
     key: &Key,
 ) -> Result<Option<(Key, ActiveQuery)>, Memory>
     ensures at_hand { IfOk result (λ started. IsAtHand book.now.journal key.now started queries.new) }
+    ensures gone_on { HaveGoneOn queries.old.entries queries.new.entries }
     ensures kept { (front : ℕ) (copies : List Copy) (idle : List AKey) → KeepsQueries book.now.journal front copies idle queries.old.entries → KeepsQueries book.now.journal front copies idle queries.new.entries }
 {
     match key.shape() {
@@ -262,6 +263,7 @@ pub fn issue_copy(
     ensures issued { (front : ℕ) (s : State) → front ≤ length book.now.journal → copies.old.idle ≡ [] → IsAt (hub_of book.now front copies.old life.old) s → IsAt (hub_of book.now front copies.new life.new) (has_read copies.old.setting key.now (length book.now.journal) (at_moment s moment)) }
     ensures kept { (front : ℕ) → front ≤ length book.now.journal → KeepsQueries book.now.journal front copies.old.copies copies.old.idle queries.old.entries → KeepsQueries book.now.journal front copies.new.copies copies.new.idle queries.new.entries }
     ensures lifetimes { (front : ℕ) → front ≤ length book.now.journal → copies.old.idle ≡ [] → KeepsLifetimes book.now.journal front copies.old life.old → KeepsLifetimes book.now.journal front copies.new life.new }
+    ensures writes { life.new.estimator.records ≡ life.old.estimator.records }
     ensures clock { copies.new.clock ≡ max copies.old.clock moment }
     ensures setting { copies.new.setting ≡ copies.old.setting }
     ensures idle { copies.new.idle ≡ [] }

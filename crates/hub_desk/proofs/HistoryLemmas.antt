@@ -48,6 +48,13 @@ module _ (h : HubView) (history : List Entry) (represented : Represents h histor
   pub represents-more : (new : HubView) (longer : List Entry) (e : Entry) → EntriesAreRepresented → Admits s e → new.setting ≡ h.setting → IsAt new (after_all h.setting s (entries_for h.setting history e)) → longer ≡ history ++ entries_for h.setting history e → Represents new longer
   represents-more new longer e represents admits same at stored = subst (λ (l : List Entry). Represents new l) (sym stored) (represents h new history e represented admits same at)
 
+  -- the hub after a call that had no memory represents the same history
+  pub represents-still : (new : HubView) → new.setting ≡ h.setting → ((t : State) → IsAt h t → IsAt new t) → Represents new history
+  represents-still new same still = record {
+    state = subst (λ (g : Setting). IsAt new (state_of g history)) (sym same) (still s represented.state);
+    legal = subst (λ (g : Setting). IsLegal g history) (sym same) represented.legal;
+  }
+
   -- a read of the last commit may follow, as the front is not above it
   pub may_read : (at : ℕ) → s.front ≤ length s.journal → at ≡ h.commits → (s.front ≤ at) × (at ≤ length s.journal)
   may_read at within last = let same = represented.state.book.commits in (omega (arith, within, same, last), omega (arith, same, last))

@@ -1,5 +1,5 @@
 -- What the calls of a hub add to a history, as the value of a turnstile, and what a desk at a seat makes of it.
-use Rattle.std.proofs.Common.{◌≡◌, ℕ, ◌+◌, ◌<◌, ◌≤◌, List, [], ◌++◌, length, sym, ap, ◌∙◌, append-nil, length-append, arith, subst}
+use Rattle.std.proofs.Common.{◌≡◌, ℕ, ◌+◌, ◌<◌, ◌≤◌, List, [], ◌++◌, length, sym, ap, ◌∙◌, append-nil, length-append, arith, subst, Result, Ok, Err, OnErr}
 use Rattle.hub_core.specs.HubState.{HubView, IsAt}
 use Rattle.hub_model.specs.declared.entry.Entry.{Entry}
 use Rattle.hub_model.specs.declared.entry.Entry.TheVariants.{Match, Tick}
@@ -13,7 +13,7 @@ use Rattle.hub_model.specs.State.{State}
 use Rattle.hub_model.specs.Step.{after_all, state_of}
 use Rattle.hub_desk.specs.Calls.{EntriesAreRepresented, RepliesAreBehind}
 use Rattle.hub_desk.specs.Desk.{matching}
-use Rattle.hub_desk.proofs.HistoryLemmas.{match_is, tick_is}
+use Rattle.hub_desk.proofs.HistoryLemmas.{match_is, represents-still, tick_is}
 use Rattle.hub_desk.specs.HubValue.{HubValueView, hub_setting, StandsFor, entries_for, HasAdded}
 
 -- a hub and a number of entries
@@ -34,6 +34,10 @@ module _ (h : HubView) (inside old : HubValueView) (hub_is : h ≡ inside.hub) (
   -- the hub stands for the history itself
   pub stood : StandsFor (valued h inside.count) history
   stood = subst (λ (v : HubValueView). StandsFor v history) (sym same) stands
+
+  -- After a call that had no memory the value stands for it still.
+  pub stays : (new : HubView) → new.setting ≡ h.setting → ((t : State) → IsAt h t → IsAt new t) → StandsFor (valued new inside.count) history
+  stays new setting still = record { represents = represents-still h history stood.represents new setting still; counted = stood.counted }
 
   -- After a call for an entry the hub is in the state behind the entries of the call, the count is that many more, and what was told is the reply in the state behind those ahead.
   pub added : (new : HubValueView) (e : Entry) (told : Replied)
@@ -71,3 +75,8 @@ module _ (g : Setting) (value : HubValueView) (history : List Entry) (stands : S
   -- and by a tick where it is the last commit
   pub ticks : to ≤ front → Tick moment ≡ matching (state_of g (history ++ [])) moment
   ticks ahead = tick_is value.hub history stands.represents moment front to front_is to_is ahead ∙ ap (λ (t : State). matching t moment) alone
+
+-- what holds anyway holds where a call failed
+pub on_err_all : {T E : Type 0} (r : Result T E) (P : Type 0) → P → OnErr r P
+on_err_all (Ok x) P p = tt
+on_err_all (Err e) P p = p

@@ -25,6 +25,10 @@ pub record StandsFor (value : HubValueView) (history : List Entry) : Type 0 wher
   pub represents : Represents value.hub history
   pub counted : value.count ≡ length history
 
+-- whatever history the value stood for, it stands for still
+abbrev pub StandsStill : HubValueView → HubValueView → Type 0
+StandsStill old new = (history : List Entry) → StandsFor old history → StandsFor new history
+
 -- the entries of a call for this one, after a history: those that come ahead of it, and this one
 abbrev pub entries_for : Setting → List Entry → Entry → List Entry
 entries_for g history e = helps_of g (state_of g history) e ++ e ∷ []

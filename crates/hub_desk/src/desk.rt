@@ -1,5 +1,5 @@
 //! The store as a connection sees it: calls that make entries of one history.
-ghost use Rattle.std.specs.Prelude.{◌≡◌, ℕ, ◌≤◌, true, List, length, IfOk, OnOk, OnErr};
+ghost use Rattle.std.specs.Prelude.{◌≡◌, ℕ, ◌≤◌, Bool, true, List, length, IfOk, OnOk, OnErr};
 ghost use Rattle.hub_core.specs.PageRoom.{IsRoomFor};
 ghost use Rattle.hub_model.specs.declared.entry.Entry.{Entry as AnEntry};
 ghost use Rattle.hub_model.specs.declared.entry.Entry.TheVariants.{Write, Read, Purges, Tick};
@@ -39,9 +39,14 @@ pub trait Desk {
     /// The next request's entries need no memory.
     ghost is_ready: { Self → Type 0 };
 
+    /// There may be no memory for the entries of a request, whatever it asks: so at a desk that stores
+    /// its entries, and not at one whose entries need none.
+    ghost may_be_unready: { Bool };
+
     /// Reserves memory for the entries of one request: its own, and what comes ahead of it.
     fn ready(&mut self) -> Result<(), Memory>
         ensures ready { OnOk result (is_ready self.new) }
+        ensures unready { OnErr result (may_be_unready ≡ true) }
         ensures none { Learns (setting self.old) (seen self.old) (seen self.new) (mine self.old) (mine self.new) }
         ensures anchor { anchor self.new ≡ anchor self.old }
         ensures setting { setting self.new ≡ setting self.old };

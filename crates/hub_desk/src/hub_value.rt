@@ -5,7 +5,7 @@ ghost use Rattle.hub_model.specs.declared.entry.Entry.{Entry as AnEntry};
 ghost use Rattle.hub_model.specs.declared.entry.Entry.TheVariants.{Write, Read, Match, Purges, Tick};
 ghost use Rattle.hub_model.specs.Reply.{wrote, read, matched, purged, counted, told_of};
 ghost use Rattle.hub_model.specs.Step.{is_accepted, state_of};
-ghost use Rattle.hub_desk.specs.HubValue.{hub_setting, StandsFor, Adds, AddsPage};
+ghost use Rattle.hub_desk.specs.HubValue.{hub_setting, StandsFor, StandsStill, Adds, AddsPage};
 
 use crate::laws::calls_make_entries;
 use hub_core::{Config, Hub, PageRoom, hubs_represent_histories};
@@ -110,7 +110,7 @@ impl HubValue {
         requires { self.old.count + 2 < 2 ^ 64 }
         ensures made { IfOk result (λ w. Adds self.old self.new (Write moment change.now condition.now) (wrote w)) }
         ensures accepted { OnErr result ((history : List AnEntry) → StandsFor self.old history → is_accepted (hub_setting self.old) (state_of (hub_setting self.old) history) change.now condition.now ≡ true) }
-        ensures memory { OnErr result (self.new ≡ self.old) }
+        ensures memory { OnErr result (StandsStill self.old self.new) }
         ensures setting { hub_setting self.new ≡ hub_setting self.old }
     {
         // The law by which the fronts tell what helped a write.
@@ -127,7 +127,7 @@ impl HubValue {
         requires { self.old.count + 1 < 2 ^ 64 }
         ensures made { IfOk result (λ a. Adds self.old self.new (Read moment key.now tags.now a.commit) (read a)) }
         ensures last { IfOk result (λ a. (history : List AnEntry) → StandsFor self.old history → a.commit ≡ length (state_of (hub_setting self.old) history).journal) }
-        ensures memory { OnErr result (self.new ≡ self.old) }
+        ensures memory { OnErr result (StandsStill self.old self.new) }
         ensures setting { hub_setting self.new ≡ hub_setting self.old }
     {
         // The law by which a read of the last commit is not below the front.
@@ -144,7 +144,7 @@ impl HubValue {
         requires above { self.old.hub.front < to }
         requires within { to ≤ self.old.hub.commits }
         ensures made { IfOk result (λ m. Adds self.old self.new (Match moment to) (matched m)) }
-        ensures memory { OnErr result (self.new ≡ self.old) }
+        ensures memory { OnErr result (StandsStill self.old self.new) }
         ensures setting { hub_setting self.new ≡ hub_setting self.old }
     {
         calls_make_entries();

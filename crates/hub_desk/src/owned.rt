@@ -1,5 +1,5 @@
 //! A desk that owns its hub, and keeps the list of its entries.
-ghost use Rattle.std.specs.Prelude.{◌≡◌, ◌+◌, ◌<◌, ◌≤◌, [], ◌∷◌, ◌++◌, length, vec_len, vec_capacity, IfOk};
+ghost use Rattle.std.specs.Prelude.{◌≡◌, ◌+◌, ◌<◌, ◌≤◌, true, [], ◌∷◌, ◌++◌, length, vec_len, vec_capacity, IfOk};
 ghost use Rattle.std.specs.List.{enumerate_from};
 ghost use Rattle.hub_core.specs.HubState.{Represents};
 ghost use Rattle.hub_model.specs.Helps.{match_between};
@@ -105,6 +105,8 @@ impl Desk for Owned {
     ghost mine = { λ o. enumerate_from 0 o.entries };
 
     ghost is_ready = { λ o. length o.entries + most_entries ≤ o.capacity };
+
+    ghost may_be_unready = { true };
 
     fn ready(&mut self) -> Result<(), Memory> {
         self.entries.reserve(MOST_ENTRIES)?;

@@ -2,6 +2,12 @@
 #![tactic(auto)]
 
 #[cfg(test)]
+mod acts;
+#[cfg(test)]
 mod hubs;
 #[cfg(test)]
 mod lives;
+#[cfg(test)]
+mod queries;
+#[cfg(test)]
+mod windows;

@@ -1,5 +1,6 @@
 -- The first rows of a window without skip, and the rows of a window one by one.
-use Rattle.std.proofs.Common.{◌≡◌, ℕ, zero, suc, ◌+◌, ◌<◌, ◌≤◌, min, leb, List, [], ◌∷◌, ◌++◌, length, take, drop, None, slice_get, refl, sym, ap, ◌∙◌, arith, length-take, take-append-drop, take-take, leb-true, leb-false}
+use Rattle.std.proofs.Common.{◌≡◌, ◌⊎◌, inl, inr, Bool, true, false, le-leb, ℕ, zero, suc, ◌+◌, ◌<◌, ◌≤◌, min, leb, List, [], ◌∷◌, ◌++◌, length, take, drop, None, slice_get, refl, sym, ap, ◌∙◌, arith, length-take, take-append-drop, take-take, leb-true, leb-false}
+use Rattle.std.proofs.lemmas.Bool.{cases_Bool, lt-leb}
 use Rattle.std.proofs.lemmas.List.{drop_all}
 use Rattle.query_core.specs.declared.query.Query.{Query}
 use Rattle.query_core.specs.Window.{Row, matches}
@@ -29,6 +30,17 @@ started set all found most limit found_is rows whole = (
 
     rows_are : set.rows ≡ take most all
     rows_are = rows ∙ ap (take most) found_is ∙ take-take most (most + 1) all (omega arith)
+
+-- so the set is whole exactly where all rows are within the most that are kept
+pub started_whole : (all found : List Row) (most : ℕ) (whole : Bool) → found ≡ take (most + 1) all → whole ≡ leb (length found) most → whole ≡ leb (length all) most
+started_whole all found most whole found_is is = is ∙ by (cases_Bool (leb (length all) most))
+  where
+    size : length found ≡ min (most + 1) (length all)
+    size = ap length found_is ∙ length-take (most + 1) all
+
+    by : (leb (length all) most ≡ true) ⊎ (leb (length all) most ≡ false) → leb (length found) most ≡ leb (length all) most
+    by (inl few) = (let le = leb-true (length all) most few in le-leb (length found) most (omega (arith, le, size)) ∙ sym few)
+    by (inr many) = (let lt = leb-false (length all) most many in lt-leb (length found) most (omega (arith, lt, size)) ∙ sym many)
 
 -- ---- the rows of a window
 

@@ -67,6 +67,7 @@ impl MatchSet {
         ensures query { IfOk result (λ set. set.query ≡ query.now) }
         ensures at { IfOk result (λ set. set.at ≡ at) }
         ensures rows { IfOk result (λ set. set.rows ≡ take (most_rows query.now) (matches query.now docs.now)) }
+        ensures whole { IfOk result (λ set. set.whole ≡ nat_le (length (matches query.now docs.now)) (most_rows query.now)) }
         ensures first { IfOk result (λ set. HasFirst set (matches query.now docs.now)) }
         ensures stands { (journal : List AChange) → at ≤ length journal → HasDocuments (document_at journal at query.now.collection) docs.now → IfOk result (λ set. StandsFor set journal) }
     {
@@ -160,6 +161,8 @@ impl MatchSet {
             → IfOk result (λ made. (made.0 ≡ quiet) × (self.new.rows ≡ self.old.rows) × (self.new.whole ≡ self.old.whole)) }
         ensures kept { (journal : List AChange) → StandsFor self.old journal → IsNext self.old journal row.now verdict
             → OnOk result (self.new.rows ≡ take (most_rows self.old.query) (rows_after self.old row.now verdict)) }
+        ensures whole { (journal : List AChange) → StandsFor self.old journal → IsNext self.old journal row.now verdict
+            → OnOk result (self.new.whole ≡ (self.old.whole && nat_le (length (rows_after self.old row.now verdict)) (most_rows self.old.query))) }
         ensures at { OnOk result (self.new.at ≡ row.now.commit) }
         ensures query { self.new.query ≡ self.old.query }
         ensures undo { IfOk result (λ made. IsMade self.old made.1 self.new) }
@@ -311,6 +314,7 @@ impl MatchSet {
             → IfOk result (λ made. (kind : AKind) → ShowsChange kind (window_of self.old) (window_of self.new) made.0) }
         ensures quiet { verdict ≡ record { before = false; after = false } → IfOk result (λ made. made.0 ≡ quiet) }
         ensures kept { OnOk result (self.new.rows ≡ take (most_rows self.old.query) (matches self.old.query docs.now)) }
+        ensures whole { OnOk result (self.new.whole ≡ nat_le (length (matches self.old.query docs.now)) (most_rows self.old.query)) }
         ensures at { OnOk result (self.new.at ≡ row.now.commit) }
         ensures query { self.new.query ≡ self.old.query }
         ensures undo { IfOk result (λ made. IsMade self.old made.1 self.new) }
@@ -335,6 +339,7 @@ impl MatchSet {
     ) -> Result<(MatchStep, Undo), Memory>
         ensures first { OnOk result (HasFirst self.new (matches self.old.query docs.now)) }
         ensures rows { OnOk result (self.new.rows ≡ take (most_rows self.old.query) (matches self.old.query docs.now)) }
+        ensures whole { OnOk result (self.new.whole ≡ nat_le (length (matches self.old.query docs.now)) (most_rows self.old.query)) }
         ensures told { IfOk result (λ made. made.0 ≡ step_in self.old.query self.new.rows (place_where verdict.before row.now.id self.old.rows) (place_where verdict.after row.now.id self.new.rows)) }
         ensures at { OnOk result (self.new.at ≡ row.now.commit) }
         ensures query { self.new.query ≡ self.old.query }

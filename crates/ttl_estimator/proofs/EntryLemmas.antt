@@ -1,12 +1,12 @@
 -- Entries of maps, by their names.
-use Rattle.std.proofs.Common.{◌≡◌, ℕ, Bool, ◌&&◌, List, [], ◌∷◌, ◌++◌, Option, Some, slice_get, unwrap_or, option_and_then, true, cond, bytes_eq, refl, sym, ap, ◌∙◌, subst, inl, inr}
+use Rattle.std.proofs.Common.{◌≡◌, ℕ, Bool, ◌&&◌, List, [], ◌∷◌, ◌++◌, Option, Some, slice_get, unwrap_or, option_and_then, true, false, cond, bytes_eq, refl, sym, ap, ◌∙◌, subst, inl, inr}
 use Rattle.std.specs.Map.{lookup}
 use Rattle.std.proofs.lemmas.Bool.{cases_Bool}
 use Rattle.std.proofs.lemmas.Slice.Eq.{bytes_eq-Decides}
 use Rattle.indexmap.specs.IndexMap.{IndexMap, index_of_by, set_value_at, values}
 use Rattle.ttl_estimator.proofs.PlaceLemmas.{value_of, written_at}
 use Rattle.ttl_estimator.specs.Rates.{last_eight}
-use Rattle.ttl_estimator.specs.Records.{Extends, ExtendsAll, Ids, IsKeptOrNew, Names, clocks_of, clocks_under, entry_of}
+use Rattle.ttl_estimator.specs.Records.{Extends, ExtendsAll, KeepOtherIds, KeepOthers, Ids, IsKeptOrNew, Names, clocks_of, clocks_under, entry_of}
 
 -- a write under an id of one collection is a write of one record
 written_one : (old new : Names) (collection id clocks : List ℕ) (was now : Ids) → lookup (bytes_eq collection) old ≡ Some was → ((other : List ℕ) → lookup (bytes_eq other) new ≡ cond (bytes_eq collection other) (Some now) (lookup (bytes_eq other) old)) →
@@ -61,4 +61,17 @@ module _ {S : Type 0} (old : IndexMap (List ℕ) Ids S) (at : ℕ) (collection :
         | inr miss ↦ inl (
             ap (λ (o : Option Ids). option_and_then (λ ids. lookup (bytes_eq i) ids) o)
             (written_at old at collection place now c ∙ ap (λ (b : Bool). cond b (Some now) (lookup (bytes_eq c) old.entries)) miss))
+      ]
+
+  -- where the entries of the other ids of the collection are as they were, those of the other records are
+  pub others_in : (id : List ℕ) → KeepOtherIds id was now → KeepOthers collection id old.entries (set_value_at old.entries at now)
+  others_in id keep c i other =
+      elim (cases_Bool (bytes_eq collection c)) [
+        | inl hit ↦ (
+            let same : collection ≡ c = (bytes_eq-Decides collection c).0 hit in
+            let apart : bytes_eq id i ≡ false = ap (λ (b : Bool). b && bytes_eq id i) (sym hit) ∙ other in
+            let before : entry_of old.entries collection i ≡ lookup (bytes_eq i) was = ap (λ (o : Option Ids). option_and_then (λ ids. lookup (bytes_eq i) ids) o) (value_of old at collection place was there) in
+            subst (λ (x : List ℕ). entry_of (set_value_at old.entries at now) x i ≡ entry_of old.entries x i) same (entry_in i ∙ keep i apart ∙ sym before))
+        | inr miss ↦ ap (λ (o : Option Ids). option_and_then (λ ids. lookup (bytes_eq i) ids) o)
+            (written_at old at collection place now c ∙ ap (λ (b : Bool). cond b (Some now) (lookup (bytes_eq c) old.entries)) miss)
       ]

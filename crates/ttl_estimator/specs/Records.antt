@@ -1,5 +1,5 @@
 -- Internal. The clocks of the last writes of records, by their names.
-use Rattle.std.specs.Prelude.{◌≡◌, ◌⊎◌, ℕ, List, [], Option, Some, None, unwrap_or, option_and_then, bytes_eq}
+use Rattle.std.specs.Prelude.{◌≡◌, ◌⊎◌, ℕ, false, ◌&&◌, List, [], Option, Some, None, unwrap_or, option_and_then, bytes_eq}
 use Rattle.std.specs.Map.{lookup}
 
 -- the ids of a collection, each with the clocks of its record's writes
@@ -33,3 +33,11 @@ Extends old new = (id : List ℕ) → IsKeptOrNew (lookup (bytes_eq id) old) (lo
 -- each entry is as it was, or is new and has no write
 abbrev pub ExtendsAll : Names → Names → Type 0
 ExtendsAll old new = (collection id : List ℕ) → IsKeptOrNew (entry_of old collection id) (entry_of new collection id)
+
+-- the entries of the other ids are as they were
+abbrev pub KeepOtherIds : List ℕ → Ids → Ids → Type 0
+KeepOtherIds id old new = (other : List ℕ) → bytes_eq id other ≡ false → lookup (bytes_eq other) new ≡ lookup (bytes_eq other) old
+
+-- the entries of the other records are as they were
+abbrev pub KeepOthers : List ℕ → List ℕ → Names → Names → Type 0
+KeepOthers collection id old new = (c i : List ℕ) → (bytes_eq collection c && bytes_eq id i) ≡ false → entry_of new c i ≡ entry_of old c i

@@ -2,7 +2,7 @@
 ghost use Rattle.std.specs.Prelude.{◌≡◌, [], ◌∷◌, ◌++◌, List, ℕ, None, Some, if◌then◌else◌, bytes_eq, is_some, IsTrue, OnOk, OnErr, option_copied};
 ghost use Rattle.std.specs.Map.{lookup};
 ghost use Rattle.ttl_estimator.specs.Rates.{last_eight};
-ghost use Rattle.ttl_estimator.specs.Records.{Extends, clocks_under};
+ghost use Rattle.ttl_estimator.specs.Records.{Extends, KeepOtherIds, clocks_under};
 
 use crate::clocks::Clocks;
 use crate::places::index_of;
@@ -52,6 +52,7 @@ impl Collection {
     pub fn reserve(&mut self, id: &Name) -> Result<(), Memory>
         ensures known { OnOk result (IsTrue (is_some (lookup (bytes_eq id.now) self.new))) }
         ensures extends { Extends self.old self.new }
+        ensures others { KeepOtherIds id.now self.old self.new }
         ensures err { OnErr result (self.new ≡ self.old) }
     {
         match index_of(&self.records, self.last, id) {
@@ -87,6 +88,7 @@ fn add_record(records: &mut IndexMap<Name, Clocks>, id: &Name) -> Result<(), Mem
     requires { lookup (bytes_eq id.now) records.old.entries ≡ None }
     ensures known { OnOk result (IsTrue (is_some (lookup (bytes_eq id.now) records.new.entries))) }
     ensures extends { Extends records.old.entries records.new.entries }
+    ensures others { KeepOtherIds id.now records.old.entries records.new.entries }
     ensures err { OnErr result (records.new.entries ≡ records.old.entries) }
 {
     let id = id.clone()?;

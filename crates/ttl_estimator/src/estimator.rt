@@ -6,7 +6,7 @@ ghost use Rattle.ttl_estimator.specs.Estimates.{Keeps, after_issue, after_purge,
 ghost use Rattle.ttl_estimator.specs.Estimator.{estimate_of, has_record, lifetime, none_noted, rate_of, rates_of};
 ghost use Rattle.ttl_estimator.specs.Lifetime.{is_refused, poisson};
 ghost use Rattle.ttl_estimator.specs.Rates.{last_eight};
-ghost use Rattle.ttl_estimator.specs.Records.{ExtendsAll, clocks_of, entry_of};
+ghost use Rattle.ttl_estimator.specs.Records.{ExtendsAll, KeepOthers, clocks_of, entry_of};
 
 use crate::estimates::Estimates;
 use crate::limits::Limits;
@@ -68,6 +68,7 @@ impl Estimator {
     pub fn reserve_record(&mut self, collection: &Name, id: &Name) -> Result<(), Memory>
         ensures known { OnOk result (IsTrue (has_record self.new collection.now id.now)) }
         ensures extends { ExtendsAll self.old.records self.new.records }
+        ensures others { KeepOthers collection.now id.now self.old.records self.new.records }
         ensures rest { self.new ≡ record self.old { records = self.new.records } }
         ensures err { OnErr result (self.new ≡ self.old) }
     {

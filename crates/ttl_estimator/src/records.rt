@@ -2,7 +2,7 @@
 ghost use Rattle.std.specs.Prelude.{◌≡◌, [], ◌∷◌, ◌++◌, List, ℕ, None, Some, ◌&&◌, if◌then◌else◌, bytes_eq, is_some, IsTrue, OnOk, OnErr};
 ghost use Rattle.std.specs.Map.{lookup};
 ghost use Rattle.ttl_estimator.specs.Rates.{last_eight, rate_at};
-ghost use Rattle.ttl_estimator.specs.Records.{ExtendsAll, entry_of, clocks_of};
+ghost use Rattle.ttl_estimator.specs.Records.{ExtendsAll, KeepOthers, entry_of, clocks_of};
 
 use crate::collection::Collection;
 use crate::places::index_of;
@@ -44,6 +44,7 @@ impl Records {
     pub fn reserve(&mut self, collection: &Name, id: &Name) -> Result<(), Memory>
         ensures known { OnOk result (IsTrue (is_some (entry_of self.new collection.now id.now))) }
         ensures extends { ExtendsAll self.old self.new }
+        ensures others { KeepOthers collection.now id.now self.old self.new }
         ensures err { OnErr result (self.new ≡ self.old) }
     {
         match index_of(&self.collections, self.last, collection) {
@@ -98,6 +99,7 @@ fn add_collection(
     requires { lookup (bytes_eq collection.now) collections.old.entries ≡ None }
     ensures known { OnOk result (IsTrue (is_some (entry_of collections.new.entries collection.now id.now))) }
     ensures extends { ExtendsAll collections.old.entries collections.new.entries }
+    ensures others { KeepOthers collection.now id.now collections.old.entries collections.new.entries }
     ensures err { OnErr result (collections.new.entries ≡ collections.old.entries) }
 {
     let mut records = Collection::new(alloc);

@@ -1,5 +1,5 @@
 //! The calls of a desk, each in one turn.
-ghost use Rattle.std.specs.Prelude.{◌≡◌};
+ghost use Rattle.std.specs.Prelude.{◌≡◌, false};
 ghost use Rattle.turnstile.specs.Seats.{seen, mine, setting_of};
 ghost use Rattle.hub_desk.specs.HubValue.{hub_setting};
 ghost use Rattle.hub_desk.specs.Seated.{turnstile_of, seat_of, anchor_of};
@@ -47,6 +47,8 @@ impl<R: Wait> Desk for Seated<'_, R> {
     ghost mine = { λ desk. mine (seat_of desk) };
 
     ghost is_ready = { λ _. Unit {0} };
+
+    ghost may_be_unready = { false };
 
     fn ready(&mut self) -> Result<(), Memory> {
         Ok(())

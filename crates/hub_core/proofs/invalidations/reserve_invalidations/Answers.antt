@@ -8,23 +8,23 @@ use Rattle.hub_core.proofs.invalidations.reserve_invalidations.Goals as goal
 pub returns-in_err-follow_all-clause-kept : goal.returns-in_err-follow_all-clause-kept
 returns-in_err-follow_all-clause-kept c =
     keeps-followed c.args.book.now.journal c.args.front c.args.copies.now.copies c.args.copies.now.idle c.args.queries.now.entries c.requires.kept c.follow_all.new.self.entries
-    c.follow_all.ensures.begun (c.follow_all.ensures.following c.requires.kept.following) (c.follow_all.ensures.seen c.args.front c.requires.kept.recent)
+    c.follow_all.ensures.begun (c.follow_all.ensures.following c.requires.kept.following) (c.follow_all.ensures.seen c.args.front c.requires.kept.recent) (c.follow_all.ensures.above c.args.front c.requires.kept.recent c.requires.kept.listed)
 
 pub returns-in_err-invalidations-clause-kept : goal.returns-in_err-invalidations-clause-kept
 returns-in_err-invalidations-clause-kept c =
     keeps-followed c.args.book.now.journal c.args.front c.args.copies.now.copies c.args.copies.now.idle c.args.queries.now.entries c.requires.kept c.follow_all.new.self.entries
-    c.follow_all.ensures.begun (c.follow_all.ensures.following c.requires.kept.following) (c.follow_all.ensures.seen c.args.front c.requires.kept.recent)
+    c.follow_all.ensures.begun (c.follow_all.ensures.following c.requires.kept.following) (c.follow_all.ensures.seen c.args.front c.requires.kept.recent) (c.follow_all.ensures.above c.args.front c.requires.kept.recent c.requires.kept.listed)
 
 pub returns-in_err-push_query_invalidations-clause-kept : goal.returns-in_err-push_query_invalidations-clause-kept
 returns-in_err-push_query_invalidations-clause-kept c =
     keeps-followed c.args.book.now.journal c.args.front c.args.copies.now.copies c.args.copies.now.idle c.args.queries.now.entries c.requires.kept c.follow_all.new.self.entries
-    c.follow_all.ensures.begun (c.follow_all.ensures.following c.requires.kept.following) (c.follow_all.ensures.seen c.args.front c.requires.kept.recent)
+    c.follow_all.ensures.begun (c.follow_all.ensures.following c.requires.kept.following) (c.follow_all.ensures.seen c.args.front c.requires.kept.recent) (c.follow_all.ensures.above c.args.front c.requires.kept.recent c.requires.kept.listed)
 
 -- where no key is active, no commit has to invalidate one
 pub returns-then-active_count-eq0-clause-kept : goal.returns-then-active_count-eq0-clause-kept
 returns-then-active_count-eq0-clause-kept c =
     keeps-followed c.args.book.now.journal c.args.front c.args.copies.now.copies c.args.copies.now.idle c.args.queries.now.entries c.requires.kept c.follow_all.new.self.entries
-    c.follow_all.ensures.begun (c.follow_all.ensures.following c.requires.kept.following) (c.follow_all.ensures.seen c.args.front c.requires.kept.recent)
+    c.follow_all.ensures.begun (c.follow_all.ensures.following c.requires.kept.following) (c.follow_all.ensures.seen c.args.front c.requires.kept.recent) (c.follow_all.ensures.above c.args.front c.requires.kept.recent c.requires.kept.listed)
 
 pub returns-then-active_count-eq0-clause-invalidations : goal.returns-then-active_count-eq0-clause-invalidations
 returns-then-active_count-eq0-clause-invalidations c = λ key commit some.
@@ -34,7 +34,7 @@ returns-then-active_count-eq0-clause-invalidations c = λ key commit some.
 pub returns-clause-kept : goal.returns-clause-kept
 returns-clause-kept c =
     keeps-followed c.args.book.now.journal c.args.front c.args.copies.now.copies c.args.copies.now.idle c.args.queries.now.entries c.requires.kept c.follow_all.new.self.entries
-    c.follow_all.ensures.begun (c.follow_all.ensures.following c.requires.kept.following) (c.follow_all.ensures.seen c.args.front c.requires.kept.recent)
+    c.follow_all.ensures.begun (c.follow_all.ensures.following c.requires.kept.following) (c.follow_all.ensures.seen c.args.front c.requires.kept.recent) (c.follow_all.ensures.above c.args.front c.requires.kept.recent c.requires.kept.listed)
 
 pub returns-clause-invalidations : goal.returns-clause-invalidations
 returns-clause-invalidations c =

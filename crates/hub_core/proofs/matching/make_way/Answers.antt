@@ -8,6 +8,7 @@ use Rattle.hub_core.specs.HubState.{IsAt, hub_of}
 use Rattle.hub_core.specs.Lifetimes.{KeepsLifetimes}
 use Rattle.hub_core.proofs.HubLemmas.{at-estimator, help-full, help-none}
 use Rattle.hub_core.proofs.LifeLemmas.{lifetimes-records}
+use Rattle.hub_core.proofs.WrittenLemmas.{entry-made}
 use Rattle.hub_core.proofs.matching.make_way.Goals as goal
 
 pub returns-then-commits-front-lt-MOST_UNMATCHED-clause-matches : goal.returns-then-commits-front-lt-MOST_UNMATCHED-clause-matches
@@ -21,6 +22,9 @@ pub returns-then-commits-front-lt-MOST_UNMATCHED-clause-lifetimes : goal.returns
 returns-then-commits-front-lt-MOST_UNMATCHED-clause-lifetimes c =
     subst (λ (e : Estimated). KeepsLifetimes c.args.book.now.journal c.args.front.now c.args.copies.now (record c.args.life.now { estimator = e })) (sym c.reserve_record.ensures.rest)
     (lifetimes-records c.args.book.now.journal c.args.front.now c.args.copies.now c.args.life.now c.reserve_record.new.self.records c.requires.lifetimes)
+
+pub returns-then-commits-front-lt-MOST_UNMATCHED-clause-entered : goal.returns-then-commits-front-lt-MOST_UNMATCHED-clause-entered
+returns-then-commits-front-lt-MOST_UNMATCHED-clause-entered c = entry-made c.args.change.now c.args.life.now.estimator c.reserve_record.new.self c.in_ok-reserve_record.ensures.known c.reserve_record.ensures.others
 
 pub returns-clause-matches : goal.returns-clause-matches
 returns-clause-matches c = λ s at.

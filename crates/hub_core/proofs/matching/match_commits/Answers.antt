@@ -12,14 +12,14 @@ use Rattle.hub_model.specs.Purge.{is_purged}
 use Rattle.hub_model.specs.State.{at_moment}
 use Rattle.hub_model.specs.Step.{has_matched}
 use Rattle.active_queries.specs.Following.{Following, AreFollowing}
-use Rattle.active_queries.specs.Queries.{HaveSeen}
+use Rattle.active_queries.specs.Queries.{HaveSeen, ListAbove}
 use Rattle.hub_core.specs.declared.invalidations.Invalidation.{Invalidation}
 use Rattle.hub_core.specs.declared.lifetimes.Lifetimes.{Lifetimes}
 use Rattle.hub_core.specs.Invalidations.{AreInvalidationsOf, HaveEntries, invalidated_until, purges_at, raised_by}
 use Rattle.hub_core.specs.ActiveQueries.{KeepsQueries}
 use Rattle.hub_core.specs.CopiesView.{CopiesView, CanInvalidate, until_in}
 use Rattle.hub_core.specs.HubState.{IsAt, hub_of}
-use Rattle.hub_core.specs.Lifetimes.{HaveLastChanges, KeepsLifetimes}
+use Rattle.hub_core.specs.Lifetimes.{HaveLastChanges, KeepsLifetimes, has_entry}
 use Rattle.hub_core.proofs.HubLemmas.{at-invalidatable, at-estimator, hub-passed, hub-matched, reserved-later}
 use Rattle.hub_core.proofs.KeepLemmas.{keeps-matched}
 use Rattle.hub_core.proofs.MatchLemmas.{invalidations-later}
@@ -109,12 +109,19 @@ returns-in-Ok-clause-kept c =
     subst (λ (es : List (KeyShape × Following)). KeepsQueries journal c.args.to copies.copies copies.idle es) (sym c.forget.ensures.entries)
     (keeps-matched journal c.args.front copies.copies copies.idle entries keeps c.args.to c.requires.forward
     (subst (AreFollowing journal) c.forget.ensures.entries (c.forget.ensures.following journal c.in-Ok.ensures.seen keeps.following))
-    (subst (HaveSeen c.args.to) c.forget.ensures.entries (c.forget.ensures.seen c.args.to c.in-Ok.ensures.seen))) in
+    (subst (HaveSeen c.args.to) c.forget.ensures.entries (c.forget.ensures.seen c.args.to c.in-Ok.ensures.seen)) (subst (ListAbove c.args.to) c.forget.ensures.entries c.forget.ensures.above)) in
     let still = kept-alike journal c.args.to copies reserved c.forget.new.self.entries (ap (λ (h : CopiesView). h.copies) c.in-Ok.ensures.rest) (ap (λ (h : CopiesView). h.idle) c.in-Ok.ensures.rest) matched in
     kept-alike journal c.args.to passed c.forget_invalidations.new.self c.pass.new.queries.entries
     (ap (λ (h : CopiesView). h.copies) c.forget_invalidations.ensures ∙ ap (λ (h : CopiesView). h.copies) c.invalidate_all.ensures.rest)
     (ap (λ (h : CopiesView). h.idle) c.forget_invalidations.ensures ∙ ap (λ (h : CopiesView). h.idle) c.invalidate_all.ensures.rest)
     (c.pass.ensures.kept journal c.args.to still)
+
+-- the entry for the writes of the change's record is there still
+pub returns-in-Ok-clause-entered : goal.returns-in-Ok-clause-entered
+returns-in-Ok-clause-entered c = λ collection id.
+    ap (λ (l : Lifetimes). has_entry l.estimator.records collection id) c.note_purges.ensures.rest
+    ∙ ap (λ (l : Lifetimes). has_entry l.estimator.records collection id) c.pass.ensures.dropped.rest
+    ∙ c.in-Ok.ensures.entered collection id
 
 -- ---- where there is none
 

@@ -7,11 +7,11 @@ use Rattle.hub_core.proofs.reading.follow_or_start.Goals as goal
 
 pub returns-in_err-follow-in-Query-clause-kept : goal.returns-in_err-follow-in-Query-clause-kept
 returns-in_err-follow-in-Query-clause-kept c = λ front copies idle keeps.
-    keeps-followed c.args.book.now.journal front copies idle c.args.queries.now.entries keeps c.follow.new.self.entries c.follow.ensures.begun (c.follow.ensures.following keeps.following) (c.follow.ensures.seen front keeps.recent)
+    keeps-followed c.args.book.now.journal front copies idle c.args.queries.now.entries keeps c.follow.new.self.entries c.follow.ensures.begun (c.follow.ensures.following keeps.following) (c.follow.ensures.seen front keeps.recent) (c.follow.ensures.above front keeps.recent keeps.listed)
 
 pub returns-in_ok-follow-in-Query-clause-kept : goal.returns-in_ok-follow-in-Query-clause-kept
 returns-in_ok-follow-in-Query-clause-kept c = λ front copies idle keeps.
-    keeps-followed c.args.book.now.journal front copies idle c.args.queries.now.entries keeps c.follow.new.self.entries c.follow.ensures.begun (c.follow.ensures.following keeps.following) (c.follow.ensures.seen front keeps.recent)
+    keeps-followed c.args.book.now.journal front copies idle c.args.queries.now.entries keeps c.follow.new.self.entries c.follow.ensures.begun (c.follow.ensures.following keeps.following) (c.follow.ensures.seen front keeps.recent) (c.follow.ensures.above front keeps.recent keeps.listed)
 
 pub returns-in_ok-follow-in-Query-clause-at_hand : goal.returns-in_ok-follow-in-Query-clause-at_hand
 returns-in_ok-follow-in-Query-clause-at_hand c =

@@ -57,6 +57,9 @@ returns-clause-issued c = λ front s within idle at.
     (ap (λ (l : Lifetimes). l.purges.texts) c.drop_idle.ensures.dropped.rest)
     (estimates c front s idle at)
 
+pub returns-clause-writes : goal.returns-clause-writes
+returns-clause-writes c = ap (λ (l : Lifetimes). l.estimator.records) c.drop_idle.ensures.dropped.rest ∙ ap (λ (e : Estimated). e.records) c.note_read.ensures.rest
+
 pub returns-clause-lifetimes : goal.returns-clause-lifetimes
 returns-clause-lifetimes c = λ front within idle keeps.
     lifetimes-read c.args.copies.now c.advance.new.self c.issue.new.self c.drop_idle.new.copies c.args.moment c.advance.ensures.passes idle c.args.key.now (length c.args.book.now.journal) c.lifetime-ttl.result c.advance.ensures.idle c.issue.ensures.idle

@@ -1,7 +1,7 @@
 use Rattle.std.proofs.Common.{◌≤◌, sym, subst, Option, arith}
 use Rattle.std.specs.Prelude.{IfSome}
 use Rattle.active_queries.specs.Following.{Following, FollowsKey}
-use Rattle.active_queries.proofs.EntryLemmas.{All-written, begun-written, lookup-written, lookup-others, on-ok}
+use Rattle.active_queries.proofs.EntryLemmas.{All-written, begun-written, lookup-written, lookup-others, on-ok, above-on}
 use Rattle.active_queries.proofs.queries.ActiveQueries.follow.Goals as goal
 
 pub returns-in-Some-clause-following : goal.returns-in-Some-clause-following
@@ -16,6 +16,10 @@ pub returns-in-Some-clause-seen : goal.returns-in-Some-clause-seen
 returns-in-Some-clause-seen c = λ n all.
     All-written (λ e. n ≤ e.1.seen) c.self.inside.held.entries c.in-Some.index c.index_mut.result.now c.follow_to.new.self c.index_mut.ensures.value
     (λ key low. omega (arith, low, c.follow_to.ensures.seen)) (rw (← c.self.view_is) at all)
+
+pub returns-in-Some-clause-above : goal.returns-in-Some-clause-above
+returns-in-Some-clause-above c = λ n seen all.
+    above-on n c.self.inside.held.entries c.in-Some.index c.index_mut.result.now c.follow_to.new.self c.index_mut.ensures.value (c.follow_to.ensures.above n) (rw (← c.self.view_is) at seen) (rw (← c.self.view_is) at all)
 
 -- the query of the key is the one that was written
 pub returns-in-Some-clause-reached : goal.returns-in-Some-clause-reached

@@ -3,8 +3,8 @@ use Rattle.std.specs.Map.{keys_of}
 use Rattle.indexmap.specs.IndexMap.{set_value_at}
 use Rattle.query_normal.specs.declared.key.KeyShape.{KeyShape}
 use Rattle.active_queries.specs.Following.{Following, FollowsKey, AreFollowing, forgotten}
-use Rattle.active_queries.specs.Queries.{HaveSeen, all_forgotten}
-use Rattle.active_queries.proofs.EntryLemmas.{All-and, All-forgotten, forgotten-whole, forgotten-written, keys-forgotten}
+use Rattle.active_queries.specs.Queries.{HaveSeen, ListAbove, all_forgotten}
+use Rattle.active_queries.proofs.EntryLemmas.{All-and, All-forgotten, all-above, forgotten-whole, forgotten-written, keys-forgotten}
 use Rattle.active_queries.proofs.FollowLemmas.{entry-forgotten}
 use Rattle.active_queries.proofs.queries.ActiveQueries.forget.Goals as goal
 
@@ -44,3 +44,6 @@ returns-clause-seen c = λ n seen.
 
 pub returns-clause-keys : goal.returns-clause-keys
 returns-clause-keys c = ap keys_of (returns-clause-entries c) ∙ keys-forgotten c.args.to c.args.self.now.entries
+
+pub returns-clause-above : goal.returns-clause-above
+returns-clause-above c = subst (ListAbove c.args.to) (sym (returns-clause-entries c)) (all-above c.args.to c.args.self.now.entries)

@@ -31,7 +31,11 @@ loop-self-preserved c = record {
   follows = λ kind query follows. c.see.ensures.follows kind query (c.loop-self.invariant.follows kind query follows);
   from = c.see.ensures.from ∙ c.loop-self.invariant.from;
   seen = omega (arith, c.see.ensures.seen, c.loop-self.invariant.seen);
+  above = λ n low above. c.see.ensures.above n (omega (arith, low, c.loop-self.invariant.seen)) (c.loop-self.invariant.above n low above);
 }
+
+pub returns-in_err-see-clause-above : goal.returns-in_err-see-clause-above
+returns-in_err-see-clause-above c = λ n low above. c.see.ensures.above n (omega (arith, low, c.loop-self.invariant.seen)) (c.loop-self.invariant.above n low above)
 
 pub returns-in_err-see-clause-follows : goal.returns-in_err-see-clause-follows
 returns-in_err-see-clause-follows c = λ kind query follows. c.see.ensures.follows kind query (c.loop-self.invariant.follows kind query follows)

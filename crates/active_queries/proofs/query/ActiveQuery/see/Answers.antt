@@ -3,8 +3,8 @@ use Rattle.std.proofs.lemmas.Option.{slice_get_within}
 use Rattle.commit_book.specs.declared.change.CommitRow.{CommitRow}
 use Rattle.match_sets.specs.Follow.{verdict_on}
 use Rattle.match_sets.specs.Windows.{has_changed}
-use Rattle.active_queries.specs.Following.{Follows}
-use Rattle.active_queries.proofs.FollowLemmas.{is-next, seen-passing, seen-stepping, noted}
+use Rattle.active_queries.specs.Following.{Follows, AreAbove}
+use Rattle.active_queries.proofs.FollowLemmas.{is-next, seen-passing, seen-stepping, noted, noted-above}
 use Rattle.active_queries.proofs.query.ActiveQuery.see.Goals as goal
 
 -- a commit that passes by is seen
@@ -37,3 +37,12 @@ returns-clause-follows c = λ kind query follows.
     let listed : c.note.new.changed.items ≡ noted changed c.self.inside.changed.items c.args.row.now.commit = c.note.ensures ∙ ap (λ (ns : List ℕ). noted changed ns c.args.row.now.commit) c.reserve.ensures.items in
     subst (λ (ns : List ℕ). Follows kind query (record { kind = c.self.inside.kind; set = c.take_step.new.set; seen = c.args.row.now.commit; from = c.self.inside.from; changed = ns }) journal) (sym listed)
     (seen-stepping c.equal_results_are_tested.ensures c.windows_stay_while_commits_pass_by.ensures _ c.take_step.new.set journal c.args.row.now changed next stands c.in_ok-step.ensures.at c.in_ok-step.ensures.query shows.results kind query before)
+
+-- it is above those that were seen
+pub returns-clause-above : goal.returns-clause-above
+returns-clause-above c = λ n low above.
+    let changed = has_changed c.self.inside.kind c.in_ok-step.step in
+    let next : c.args.row.now.commit ≡ suc c.args.self.now.seen = ap (λ (r : CommitRow). r.commit) c.requires.next.2 in
+    let listed : c.note.new.changed.items ≡ noted changed c.args.self.now.changed c.args.row.now.commit =
+    rw (← c.self.view_is) (c.note.ensures ∙ ap (λ (ns : List ℕ). noted changed ns c.args.row.now.commit) c.reserve.ensures.items) in
+    subst (AreAbove n) (sym listed) (noted-above changed c.args.self.now.changed n c.args.self.now.seen c.args.row.now.commit low next above)

@@ -1,11 +1,11 @@
 -- the page is that of one moment
-use Rattle.std.proofs.Common.{◌≡◌, Some, option_map, ap, sym, ◌∙◌, subst}
+use Rattle.std.proofs.Common.{◌≡◌, Some, option_map, refl, ap, ◌∙◌}
 use Rattle.query_normal.specs.Pages.{Page}
 use Rattle.hub_model.specs.Reply.{fetched}
 use Rattle.hub_model.specs.State.{at_moment}
 use Rattle.hub_core.specs.PageRoom.{PageRoomView}
-use Rattle.hub_core.specs.HubState.{HubView, IsAt}
-use Rattle.hub_core.proofs.HubLemmas.{hub-passed, setting-passed, sound-passed, page-at}
+use Rattle.hub_core.specs.HubState.{HubView}
+use Rattle.hub_core.proofs.HubLemmas.{at-with, hub-passed, parts-at, setting-passed, sound-passed, page-at}
 use Rattle.hub_core.proofs.hub.Hub.fetch.Goals as goal
 
 pub invariant_of-self : goal.invariant_of-self
@@ -15,11 +15,12 @@ invariant_of-self c =
 -- the hub when its clock has moved
 pub returns-clause-after : goal.returns-clause-after
 returns-clause-after c = λ s at.
-    hub-passed c.self.inside.book c.self.inside.front c.self.inside.copies c.self.inside.life s (subst (λ (h : HubView). IsAt h s) (sym c.self.view_is) at) c.pass.new.copies c.pass.new.life c.args.moment c.self.invariant.lean.idle c.pass.ensures.passes c.pass.ensures.dropped
+    at-with c.self.inside.book c.self.inside.front c.pass.new.copies c.pass.new.queries.entries c.pass.new.life _
+    (hub-passed c.self.inside.book c.self.inside.front c.self.inside.copies c.self.inside.life s (parts-at c.self.inside.book c.self.inside.front c.self.inside.copies c.self.inside.queries.entries c.self.inside.life c.args.self.now s c.self.view_is at) c.pass.new.copies c.pass.new.life c.args.moment c.self.invariant.lean.idle c.pass.ensures.passes c.pass.ensures.dropped)
 
 pub returns-clause-page : goal.returns-clause-page
 returns-clause-page c = λ s at.
-    let is = returns-clause-after c s at in
+    let is = parts-at c.self.inside.book c.self.inside.front c.pass.new.copies c.pass.new.queries.entries c.pass.new.life _ _ refl (returns-clause-after c s at) in
     let setting : c.pass.new.copies.setting ≡ c.args.self.now.setting = setting-passed c.self.inside.copies c.pass.new.copies c.args.moment c.pass.ensures.passes ∙ ap (λ (h : HubView). h.setting) c.self.view_is in
     ap (λ (r : PageRoomView). r.page) c.write.ensures
     ∙ ap Some (page-at c.self.inside.book c.self.inside.front c.pass.new.copies c.pass.new.life (at_moment s c.args.moment) is c.args.self.now.setting _ _ c.count-commits.result c.clock-moment.result c.bits.result.now c.bits.ensures.keys

@@ -12,7 +12,7 @@ use Rattle.hub_model.specs.declared.entry.Entry.TheVariants.{Read}
 use Rattle.hub_core.specs.ActiveQueries.{KeepsQueries}
 use Rattle.hub_core.specs.CopiesView.{CopiesView}
 use Rattle.hub_core.specs.HubState.{HubView, IsAt, hub_of}
-use Rattle.hub_core.proofs.HubLemmas.{at-ready, sound-read}
+use Rattle.hub_core.proofs.HubLemmas.{at-ready, at-with, parts-at, sound-read}
 use Rattle.hub_core.proofs.LifeLemmas.{lifetimes-reserved}
 use Rattle.hub_core.proofs.ReadLemmas.{kept-alike}
 use Rattle.hub_core.proofs.hub.Hub.issue_record.Goals as goal
@@ -21,7 +21,7 @@ use Rattle.hub_core.proofs.hub.Hub.issue_record.Goals as goal
 
 -- the hub with its memory ready
 ready : (c : goal.After-clock) (s : State) → IsAt c.args.self.now s → IsAt (hub_of c.self.inside.book c.self.inside.front c.reserve.new.self c.self.inside.life) s
-ready c s at = at-ready c.self.inside.book c.self.inside.front c.self.inside.copies c.self.inside.life s (subst (λ (h : HubView). IsAt h s) (sym c.self.view_is) at) c.reserve.new.self c.in_ok-reserve.ensures.rest
+ready c s at = at-ready c.self.inside.book c.self.inside.front c.self.inside.copies c.self.inside.life s (parts-at c.self.inside.book c.self.inside.front c.self.inside.copies c.self.inside.queries.entries c.self.inside.life c.args.self.now s c.self.view_is at) c.reserve.new.self c.in_ok-reserve.ensures.rest
 
 setting : (c : goal.After-clock) → c.reserve.new.self.setting ≡ c.args.self.now.setting
 setting c = ap (λ (h : CopiesView). h.setting) c.in_ok-reserve.ensures.rest ∙ ap (λ (h : HubView). h.setting) c.self.view_is
@@ -49,7 +49,7 @@ pub returns-clause-answers : goal.returns-clause-answers
 returns-clause-answers c = record {
   last = c.count.ensures.count ∙ ap (λ (h : HubView). h.commits) c.self.view_is;
   told = told c;
-  stands = stands c;
+  stands = λ s at. at-with c.self.inside.book c.self.inside.front c.issue_copy-ttl.new.copies c.issue_copy-ttl.new.queries.entries c.issue_copy-ttl.new.life _ (stands c s at);
 }
 
 -- ---- what the copy needs
@@ -81,7 +81,7 @@ invariant_of-self-2 c =
     (lifetimes-reserved book.journal front c.self.inside.copies c.reserve.new.self c.self.inside.life c.self.inside.life.estimator c.args.key.now c.self.invariant.lifetimes rest c.self.invariant.lean.ready c.in_ok-reserve.ensures.ok.own c.in_ok-reserve.ensures.ok.alone
     refl (λ other. refl) (λ query. absurd (let e : true ≡ false = sym query ∙ c.requires.kind in cc)) (λ other apart. refl)))
     (c.issue_copy-ttl.ensures.setting ∙ ap (λ (h : CopiesView). h.setting) rest) c.issue_copy-ttl.ensures.idle c.issue_copy-ttl.ensures.ready
-    (c.issue_copy-ttl.ensures.invalidatable ∙ ap (λ (h : CopiesView). h.invalidatable) rest)
+    (c.issue_copy-ttl.ensures.invalidatable ∙ ap (λ (h : CopiesView). h.invalidatable) rest) c.issue_copy-ttl.ensures.writes
 
 pub returns-clause-lean : goal.returns-clause-lean
 returns-clause-lean c = (invariant_of-self-2 c).lean

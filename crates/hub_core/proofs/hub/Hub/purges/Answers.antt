@@ -3,7 +3,7 @@ use Rattle.std.proofs.Common.{ℕ, List, length, take, drop, ◌-◌, ap, sym, �
 use Rattle.hub_model.specs.Reply.{purged}
 use Rattle.hub_core.specs.declared.lifetimes.Lifetimes.{Lifetimes}
 use Rattle.hub_core.specs.HubState.{HubView, IsAt}
-use Rattle.hub_core.proofs.HubLemmas.{hub-passed, sound-passed}
+use Rattle.hub_core.proofs.HubLemmas.{at-with, hub-passed, parts-at, sound-passed}
 use Rattle.hub_core.proofs.hub.Hub.purges.Goals as goal
 
 pub invariant_of-self : goal.invariant_of-self
@@ -16,7 +16,8 @@ returns-clause-lean c = (invariant_of-self c).lean
 -- the hub when its clock has moved
 pub returns-clause-after : goal.returns-clause-after
 returns-clause-after c = λ s at.
-    hub-passed c.self.inside.book c.self.inside.front c.self.inside.copies c.self.inside.life s (subst (λ (h : HubView). IsAt h s) (sym c.self.view_is) at) c.pass.new.copies c.pass.new.life c.args.moment c.self.invariant.lean.idle c.pass.ensures.passes c.pass.ensures.dropped
+    at-with c.self.inside.book c.self.inside.front c.pass.new.copies c.pass.new.queries.entries c.pass.new.life _
+    (hub-passed c.self.inside.book c.self.inside.front c.self.inside.copies c.self.inside.life s (parts-at c.self.inside.book c.self.inside.front c.self.inside.copies c.self.inside.queries.entries c.self.inside.life c.args.self.now s c.self.view_is at) c.pass.new.copies c.pass.new.life c.args.moment c.self.invariant.lean.idle c.pass.ensures.passes c.pass.ensures.dropped)
 
 pub returns-clause-told : goal.returns-clause-told
 returns-clause-told c = λ s at.

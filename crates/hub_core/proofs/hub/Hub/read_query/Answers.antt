@@ -1,5 +1,5 @@
 -- the answer is that of the moment's clock, and its copy is issued
-use Rattle.std.proofs.Common.{◌≡◌, ℕ, List, length, max, ap, sym, ◌∙◌, subst}
+use Rattle.std.proofs.Common.{◌≡◌, ℕ, List, length, max, refl, ap, sym, ◌∙◌, subst}
 use Rattle.commit_book.specs.declared.change.Change.{Change}
 use Rattle.hub_model.specs.Journal.{result_at}
 use Rattle.hub_model.specs.Known.{known_at}
@@ -13,7 +13,7 @@ use Rattle.hub_model.specs.Lifetime.{limits_of, ttl_of}
 use Rattle.hub_core.specs.ActiveQueries.{KeepsQueries}
 use Rattle.hub_core.specs.HubState.{HubView, IsAt, IsSoundHub, hub_of}
 use Rattle.hub_core.specs.CopiesView.{CopiesView}
-use Rattle.hub_core.proofs.HubLemmas.{at-estimates, at-ready, sound-followed, sound-read}
+use Rattle.hub_core.proofs.HubLemmas.{alike-before, as-before, at-estimates, at-ready, at-with, on_err_all, parts-at, sound-followed, sound-read}
 use Rattle.hub_core.proofs.LifeLemmas.{lifetimes-reserved}
 use Rattle.hub_core.proofs.ReadLemmas.{kept-alike}
 use Rattle.hub_core.proofs.hub.Hub.read_query.Goals as goal
@@ -51,7 +51,7 @@ outcome_at-requires-clause-following c = (c.follow_or_start.ensures.kept c.self.
 ready : (c : goal.After-clock) (s : State) → IsAt c.args.self.now s → IsAt (hub_of c.self.inside.book c.self.inside.front c.reserve_copy.new.copies (record c.self.inside.life { estimator = c.reserve_copy.new.estimator })) s
 ready c s at =
     at-estimates c.self.inside.book c.self.inside.front c.reserve_copy.new.copies c.self.inside.life s
-    (at-ready c.self.inside.book c.self.inside.front c.self.inside.copies c.self.inside.life s (subst (λ (h : HubView). IsAt h s) (sym c.self.view_is) at) c.reserve_copy.new.copies c.in_ok-reserve_copy.ensures.rest)
+    (at-ready c.self.inside.book c.self.inside.front c.self.inside.copies c.self.inside.life s (parts-at c.self.inside.book c.self.inside.front c.self.inside.copies c.self.inside.queries.entries c.self.inside.life c.args.self.now s c.self.view_is at) c.reserve_copy.new.copies c.in_ok-reserve_copy.ensures.rest)
     c.reserve_copy.new.estimator c.in_ok-reserve_copy.ensures.estimates c.in_ok-reserve_copy.ensures.kept
 
 setting : (c : goal.After-clock) → c.reserve_copy.new.copies.setting ≡ c.args.self.now.setting
@@ -79,7 +79,7 @@ pub returns-clause-answers : goal.returns-clause-answers
 returns-clause-answers c = record {
   last = c.count.ensures.count ∙ ap (λ (h : HubView). h.commits) c.self.view_is;
   told = told c;
-  stands = stands c;
+  stands = λ s at. at-with c.self.inside.book c.self.inside.front c.issue_copy-ttl.new.copies c.issue_copy-ttl.new.queries.entries c.issue_copy-ttl.new.life _ (stands c s at);
 }
 
 -- ---- what the copy needs of the estimator
@@ -106,8 +106,36 @@ invariant_of-self-2 c =
     c.in_ok-reserve_copy.ensures.estimates c.in_ok-reserve_copy.ensures.kept c.in_ok-reserve_copy.ensures.known c.in_ok-reserve_copy.ensures.others))
     (c.issue_copy-ttl.ensures.setting ∙ ap (λ (h : CopiesView). h.setting) rest) c.issue_copy-ttl.ensures.idle c.issue_copy-ttl.ensures.ready
     (c.issue_copy-ttl.ensures.invalidatable ∙ ap (λ (h : CopiesView). h.invalidatable) rest)
+    (c.issue_copy-ttl.ensures.writes ∙ ap (λ (e : Estimated). e.records) c.in_ok-reserve_copy.ensures.estimates)
 
 -- ---- nothing is kept but what the history needs
 
 pub returns-clause-lean : goal.returns-clause-lean
 returns-clause-lean c = (invariant_of-self-2 c).lean
+
+-- ---- where memory ran out the sets have gone on, and all else is as before
+
+pub returns-in_err-started-clause-memory : goal.returns-in_err-started-clause-memory
+returns-in_err-started-clause-memory c =
+    on_err_all c.from_residual.result _
+    (as-before c.self.inside.book c.self.inside.front c.self.inside.copies c.self.inside.queries.entries c.self.inside.life c.args.self.now c.follow_or_start.new.queries.entries c.self.view_is c.follow_or_start.ensures.gone_on)
+
+pub returns-in_err-result-clause-memory : goal.returns-in_err-result-clause-memory
+returns-in_err-result-clause-memory c =
+    on_err_all c.from_residual-in_err-result.result _
+    (as-before c.self.inside.book c.self.inside.front c.self.inside.copies c.self.inside.queries.entries c.self.inside.life c.args.self.now c.follow_or_start.new.queries.entries c.self.view_is c.follow_or_start.ensures.gone_on)
+
+pub returns-in_err-reserve_copy-clause-memory : goal.returns-in_err-reserve_copy-clause-memory
+returns-in_err-reserve_copy-clause-memory c =
+    on_err_all c.from_residual-in_err-reserve_copy.result _
+    (alike-before c.self.inside.book c.self.inside.front c.self.inside.copies c.self.inside.queries.entries c.self.inside.life c.self.inside.book c.self.inside.front c.reserve_copy.new.copies c.follow_or_start.new.queries.entries (record c.self.inside.life { estimator = c.reserve_copy.new.estimator }) c.args.self.now c.self.view_is refl refl c.in_err-reserve_copy.ensures.err
+    (record { estimator = c.in_err-reserve_copy.ensures.estimator; texts = refl }) c.follow_or_start.ensures.gone_on)
+
+pub returns-in_err-started-clause-lean : goal.returns-in_err-started-clause-lean
+returns-in_err-started-clause-lean c = (invariant_of-self c).lean
+
+pub returns-in_err-result-clause-lean : goal.returns-in_err-result-clause-lean
+returns-in_err-result-clause-lean c = (invariant_of-self-in_err-result c).lean
+
+pub returns-in_err-reserve_copy-clause-lean : goal.returns-in_err-reserve_copy-clause-lean
+returns-in_err-reserve_copy-clause-lean c = (invariant_of-self-in_err-reserve_copy c).lean

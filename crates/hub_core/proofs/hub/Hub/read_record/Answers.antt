@@ -12,7 +12,7 @@ use Rattle.hub_model.specs.Step.{has_read}
 use Rattle.hub_model.specs.declared.entry.Entry.TheVariants.{Read}
 use Rattle.hub_core.specs.ActiveQueries.{is_query}
 use Rattle.hub_core.specs.HubState.{HubView, IsAt, hub_of}
-use Rattle.hub_core.proofs.HubLemmas.{hub-known, ttl-known}
+use Rattle.hub_core.proofs.HubLemmas.{at-with, hub-known, parts-at, ttl-known}
 use Rattle.hub_core.proofs.hub.Hub.read_record.Goals.{After-known_lifetime}
 use Rattle.hub_core.proofs.hub.Hub.read_record.Goals as goal
 
@@ -36,14 +36,15 @@ issue_record-requires-clause-outcome c = outcome c.before.before
 -- ---- where a copy is known that may be kept as long
 
 at-parts : (c : goal.After-clock) (s : State) → IsAt c.args.self.now s → IsAt (hub_of c.self.inside.book c.self.inside.front c.self.inside.copies c.self.inside.life) s
-at-parts c s at = subst (λ (h : HubView). IsAt h s) (sym c.self.view_is) at
+at-parts c s at = parts-at c.self.inside.book c.self.inside.front c.self.inside.copies c.self.inside.queries.entries c.self.inside.life c.args.self.now s c.self.view_is at
 
 stands : (c : goal.After-clock) (s : State) → IsAt c.args.self.now s → IsAt c.args.self.now (has_read c.args.self.now.setting c.args.key.now c.count-commit.result (at_moment s c.args.moment))
 stands c s at =
     subst (λ (h : HubView). IsAt h (has_read h.setting c.args.key.now c.count-commit.result (at_moment s c.args.moment))) c.self.view_is
+    (at-with c.self.inside.book c.self.inside.front c.self.inside.copies c.self.inside.queries.entries c.self.inside.life _
     (subst (λ (n : ℕ). IsAt (hub_of c.self.inside.book c.self.inside.front c.self.inside.copies c.self.inside.life) (has_read c.self.inside.copies.setting c.args.key.now n (at_moment s c.args.moment))) (sym c.count-commit.ensures.count)
     (hub-known c.self.inside.book c.self.inside.front c.self.inside.copies c.self.inside.life s (at-parts c s at) c.args.key.now c.self.inside.copies.setting c.in-Some.ttl c.args.moment c.in-Some.ensures.passes c.self.invariant.lifetimes.limits c.in-Some.ensures.ttl
-    (ap is_query c.requires) c.self.invariant.lean.idle c.self.invariant.within c.in-Some.ensures.same))
+    (ap is_query c.requires) c.self.invariant.lean.idle c.self.invariant.within c.in-Some.ensures.same)))
 
 told : (c : goal.After-clock) (s : State) → IsAt c.args.self.now s → read (record { commit = c.count-commit.result; clock = c.clock.result; ttl = c.in-Some.ttl; result = c.in_ok-result.result }) ≡ reply_in c.args.self.now.setting s (Read c.args.moment c.args.key.now c.args.tags.now c.count-commit.result)
 told c s at =

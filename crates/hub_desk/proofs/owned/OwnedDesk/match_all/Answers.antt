@@ -2,8 +2,12 @@
 use Rattle.std.proofs.Common.{ap, sym}
 use Rattle.hub_model.specs.declared.entry.Entry.TheVariants.{Match, Tick}
 use Rattle.hub_desk.specs.Desk.{OwnedView}
-use Rattle.hub_desk.proofs.HistoryLemmas.{represents-more, may_match, matched_all, ticked_all}
+use Rattle.hub_desk.proofs.HistoryLemmas.{represents-more, represents-still, may_match, matched_all, ticked_all}
 use Rattle.hub_desk.proofs.owned.OwnedDesk.match_all.Goals as goal
+
+-- where memory ran out the hub represents the same history
+pub invariant_of-self : goal.invariant_of-self
+invariant_of-self c = represents-still _ _ c.self.invariant _ c.match_to.ensures.setting c.in_err-matched.ensures.still
 
 pub invariant_of-self-then-front-to : goal.invariant_of-self-then-front-to
 invariant_of-self-then-front-to c =

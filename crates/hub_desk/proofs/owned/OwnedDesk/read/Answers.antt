@@ -2,8 +2,12 @@
 use Rattle.std.proofs.Common.{ap, sym}
 use Rattle.hub_model.specs.declared.entry.Entry.TheVariants.{Read}
 use Rattle.hub_desk.specs.Desk.{OwnedView}
-use Rattle.hub_desk.proofs.HistoryLemmas.{represents-more, made, may_read}
+use Rattle.hub_desk.proofs.HistoryLemmas.{represents-more, represents-still, made, may_read}
 use Rattle.hub_desk.proofs.owned.OwnedDesk.read.Goals as goal
+
+-- where memory ran out the hub represents the same history
+pub invariant_of-self : goal.invariant_of-self
+invariant_of-self c = represents-still _ _ c.self.invariant _ c.read.ensures.setting c.in_err-answer.ensures.still
 
 pub invariant_of-self-2 : goal.invariant_of-self-2
 invariant_of-self-2 c =

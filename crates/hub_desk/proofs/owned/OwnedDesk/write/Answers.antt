@@ -2,8 +2,12 @@
 use Rattle.std.proofs.Common.{ap, sym}
 use Rattle.hub_model.specs.declared.entry.Entry.TheVariants.{Write}
 use Rattle.hub_desk.specs.Desk.{OwnedView}
-use Rattle.hub_desk.proofs.HistoryLemmas.{represents-more, made, written-stored}
+use Rattle.hub_desk.proofs.HistoryLemmas.{represents-more, represents-still, made, written-stored}
 use Rattle.hub_desk.proofs.owned.OwnedDesk.write.Goals as goal
+
+-- where memory ran out the hub represents the same history
+pub invariant_of-self : goal.invariant_of-self
+invariant_of-self c = represents-still _ _ c.self.invariant _ c.write.ensures.setting c.in_err-written.ensures.still
 
 pub invariant_of-self-2 : goal.invariant_of-self-2
 invariant_of-self-2 c =

@@ -40,3 +40,6 @@ pub returns-clause-kept : goal.returns-clause-kept
 returns-clause-kept c = λ journal stands next.
     let old = c.args.self.now in let row = c.args.row.now in
     c.in_ok-made.ensures.rows (ready c.rows_follow_the_journal.ensures old journal row c.args.verdict stands next) stands.first.most
+
+pub returns-clause-whole : goal.returns-clause-whole
+returns-clause-whole c = λ journal stands next. c.in_ok-made.ensures.whole (ready c.rows_follow_the_journal.ensures c.args.self.now journal c.args.row.now c.args.verdict stands next)
