@@ -1,4 +1,4 @@
--- Internal. Answers that take no memory.
+-- Believed. Answers that take no memory.
 use Rattle.std.specs.Prelude.{ℕ, Bool, true, false, not, List, Option, Some, None, Result, Ok, Err}
 use Rattle.http_message.specs.Message.{Message}
 use Rattle.http_front.specs.Asks.{ask_of}

@@ -24,6 +24,8 @@ mod tagged;
 #[cfg(test)]
 mod texts;
 #[cfg(test)]
+mod versions;
+#[cfg(test)]
 mod words;
 #[cfg(test)]
 mod worked;

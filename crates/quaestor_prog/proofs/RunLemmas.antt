@@ -1,5 +1,5 @@
 -- A run of the program, of what serving its connection did.
-use Rattle.std.proofs.Common.{◌≡◌, ℕ, min, List, [], ◌∷◌, Option, Some, refl, sym, ap, ◌∙◌, subst, inl, inr}
+use Rattle.std.proofs.Common.{◌≡◌, ℕ, true, min, List, [], ◌∷◌, Option, Some, refl, sym, ap, ◌∙◌, subst, inl, inr}
 use Rattle.std.specs.List.{enumerate_from}
 use Rattle.dialogue.specs.Dialogue.{Sides}
 use Rattle.hub_model.specs.declared.entry.Entry.{Entry}
@@ -26,15 +26,15 @@ use Rattle.quaestor_prog.specs.declared.status.Status.{Status}
 use Rattle.quaestor_server.specs.Conversation.{Conversation}
 
 -- over a desk that was new, the run is the connection, and the sink was ended behind it
-pub piped : (g k : Setting) (es es' : List Entry) (a : Sides) (source sink ended : End) (last : LastEnd) (tells : List ℕ → Type 0) (served : Served) (status : Status) → g ≡ k → es ≡ [] → ended ≡ sink → HasEnded last ended.bytes → IsLegal g es' → Conversation g tells es es' (enumerate_from 0 es) (enumerate_from 0 es') a (record { source = source; sink = sink }) served → status ≡ status_of served.why → IsRun k a (record { source = source; sink = ended }) last tells status
+pub piped : (g k : Setting) (es es' : List Entry) (a : Sides) (source sink ended : End) (last : LastEnd) (tells : List ℕ → Type 0) (served : Served) (status : Status) → g ≡ k → es ≡ [] → ended ≡ sink → HasEnded last ended.bytes → IsLegal g es' → Conversation g true tells es es' (enumerate_from 0 es) (enumerate_from 0 es') a (record { source = source; sink = sink }) served → status ≡ status_of served.why → IsRun k a (record { source = source; sink = ended }) last tells status
 piped g k es es' a source sink ended last tells served status g_is none same is_ended legal dialogue status_is =
     inl (record {
       entries = es';
       legal = subst (λ (x : Setting). IsLegal x es') g_is legal;
       served = served;
-      conversation = subst (λ (o : End). Conversation k tells [] es' [] (enumerate_from 0 es') a (record { source = source; sink = o }) served) (sym same)
-          (subst (λ (l : List Entry). Conversation k tells l es' (enumerate_from 0 l) (enumerate_from 0 es') a (record { source = source; sink = sink }) served) none
-          (subst (λ (x : Setting). Conversation x tells es es' (enumerate_from 0 es) (enumerate_from 0 es') a (record { source = source; sink = sink }) served) g_is dialogue));
+      conversation = subst (λ (o : End). Conversation k true tells [] es' [] (enumerate_from 0 es') a (record { source = source; sink = o }) served) (sym same)
+          (subst (λ (l : List Entry). Conversation k true tells l es' (enumerate_from 0 l) (enumerate_from 0 es') a (record { source = source; sink = sink }) served) none
+          (subst (λ (x : Setting). Conversation x true tells es es' (enumerate_from 0 es) (enumerate_from 0 es') a (record { source = source; sink = sink }) served) g_is dialogue));
       status_is = status_is;
       is_ended = is_ended;
     })

@@ -1,5 +1,5 @@
 -- Believed. What a run of the program does.
-use Rattle.std.specs.Prelude.{◌≡◌, ◌⊎◌, ℕ, min, List, [], ◌∷◌, Option, Some, None, codes}
+use Rattle.std.specs.Prelude.{◌≡◌, ◌⊎◌, ℕ, true, min, List, [], ◌∷◌, Option, Some, None, codes}
 use Rattle.std.specs.List.{enumerate_from}
 use Rattle.dialogue.specs.Dialogue.{Sides}
 use Rattle.hub_model.specs.declared.entry.Entry.{Entry}
@@ -32,7 +32,8 @@ pub record Pipes (g : Setting) (a b : Sides) (ended : LastEnd) (tells : List ℕ
   pub entries : List Entry
   pub legal : IsLegal g entries
   pub served : Served
-  pub conversation : Conversation g tells [] entries [] (enumerate_from 0 entries) a b served
+  -- the desk stores its entries, so memory for those of a request may run out, whatever it asks
+  pub conversation : Conversation g true tells [] entries [] (enumerate_from 0 entries) a b served
   pub status_is : status ≡ status_of served.why
   pub is_ended : HasEnded ended b.sink.bytes
 

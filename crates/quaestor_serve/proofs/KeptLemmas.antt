@@ -1,5 +1,5 @@
 -- What a thread that served a connection leaves.
-use Rattle.std.proofs.Common.{◌≡◌, ℕ, List, [], ◌∷◌, refl, sym, ap, ◌∙◌, subst}
+use Rattle.std.proofs.Common.{◌≡◌, ℕ, false, List, [], ◌∷◌, refl, sym, ap, ◌∙◌, subst}
 use Rattle.hub_desk.specs.HubValue.{hub_setting}
 use Rattle.hub_model.specs.declared.entry.Entry.{Entry}
 use Rattle.q_outside.specs.Ends.{End, HasEnded, LastEnd, Ticks}
@@ -19,15 +19,15 @@ pub part_stays : (old new : HubSeat) → parts new ≡ parts old → IsPart old 
 part_stays old new same part = subst (λ (p : List ℕ × List ℕ). (p.0 ≡ 1 ∷ []) × (p.1 ≡ [])) (sym same) part
 
 -- a conversation at a fresh seat was well served; `turn_before` and `before` are the turnstile and the seat of the desk at first, `turn_after` and `after` at last
-pub kept_after : {S K C : Type 0} (source_at : S → End) (sink_at : K → End) (ended_at : K → LastEnd) (tick : C → ℕ → C → Type 0) (turnstile turn_before turn_after : HubTurnstile) (seat before after last : HubSeat) (source source_left : S) (sink sink_left sink_last : K) (clock late : C) (served : Served) → turn_before ≡ turnstile → before ≡ seat → turn_after ≡ turn_before → met after ≡ met before → parts after ≡ parts before → last ≡ after → IsSeatOf hub_setting turn_after last → IsIdle last → IsFreshAt turnstile seat → sink_at sink_last ≡ sink_at sink_left → HasEnded (ended_at sink_last) (sink_at sink_last).bytes → Conversation (setting_at turn_before) (λ moments. Ticks tick clock moments late) (seen before) (seen after) (mine before) (mine after) (sides_of source_at sink_at source sink) (sides_of source_at sink_at source_left sink_left) served → Kept source_at sink_at ended_at tick turnstile seat source sink clock (record { seat = last; source = source_left; sink = sink_last; served = served })
+pub kept_after : {S K C : Type 0} (source_at : S → End) (sink_at : K → End) (ended_at : K → LastEnd) (tick : C → ℕ → C → Type 0) (turnstile turn_before turn_after : HubTurnstile) (seat before after last : HubSeat) (source source_left : S) (sink sink_left sink_last : K) (clock late : C) (served : Served) → turn_before ≡ turnstile → before ≡ seat → turn_after ≡ turn_before → met after ≡ met before → parts after ≡ parts before → last ≡ after → IsSeatOf hub_setting turn_after last → IsIdle last → IsFreshAt turnstile seat → sink_at sink_last ≡ sink_at sink_left → HasEnded (ended_at sink_last) (sink_at sink_last).bytes → Conversation (setting_at turn_before) false (λ moments. Ticks tick clock moments late) (seen before) (seen after) (mine before) (mine after) (sides_of source_at sink_at source sink) (sides_of source_at sink_at source_left sink_left) served → Kept source_at sink_at ended_at tick turnstile seat source sink clock (record { seat = last; source = source_left; sink = sink_last; served = served })
 kept_after source_at sink_at ended_at tick turnstile turn_before turn_after seat before after last source source_left sink sink_left sink_last clock late served at here same met_same parts_same last_is own idle fresh ended is_ended talk =
     let timed : List ℕ → Type 0 = λ moments. Ticks tick clock moments late in
     let first = sides_of source_at sink_at source sink in
     let none : mine before ≡ [] = ap mine here ∙ fresh.mine in
-    let set = subst (λ (t : HubTurnstile). Conversation (setting_at t) timed (seen before) (seen after) (mine before) (mine after) first (sides_of source_at sink_at source_left sink_left) served) at talk in
-    let begun = subst (λ (m : List (ℕ × Entry)). Conversation (setting_at turnstile) timed (seen before) (seen after) m (mine after) first (sides_of source_at sink_at source_left sink_left) served) none set in
-    let seated = subst (λ (s : HubSeat). Conversation (setting_at turnstile) timed (seen before) (seen s) [] (mine s) first (sides_of source_at sink_at source_left sink_left) served) (sym last_is) begun in
-    let whole = subst (λ (k : End). Conversation (setting_at turnstile) timed (seen before) (seen last) [] (mine last) first (record { source = source_at source_left; sink = k }) served) (sym ended) seated in
+    let set = subst (λ (t : HubTurnstile). Conversation (setting_at t) false timed (seen before) (seen after) (mine before) (mine after) first (sides_of source_at sink_at source_left sink_left) served) at talk in
+    let begun = subst (λ (m : List (ℕ × Entry)). Conversation (setting_at turnstile) false timed (seen before) (seen after) m (mine after) first (sides_of source_at sink_at source_left sink_left) served) none set in
+    let seated = subst (λ (s : HubSeat). Conversation (setting_at turnstile) false timed (seen before) (seen s) [] (mine s) first (sides_of source_at sink_at source_left sink_left) served) (sym last_is) begun in
+    let whole = subst (λ (k : End). Conversation (setting_at turnstile) false timed (seen before) (seen last) [] (mine last) first (record { source = source_at source_left; sink = k }) served) (sym ended) seated in
     record {
       own = subst (λ (t : HubTurnstile). IsSeatOf hub_setting t last) (same ∙ at) own;
       idle = idle;

@@ -1,5 +1,5 @@
 -- Believed. That a connection was well served, at moments of a clock of its own.
-use Rattle.std.specs.Prelude.{◌≡◌, ℕ, Bool, List}
+use Rattle.std.specs.Prelude.{◌≡◌, ℕ, Bool, false, List}
 use Rattle.dialogue.specs.Dialogue.{Sides}
 use Rattle.hub_model.specs.declared.entry.Entry.{Entry}
 use Rattle.hub_model.specs.Setting.{Setting}
@@ -18,6 +18,7 @@ pub record IsServed {C : Type 0} (tick : C → ℕ → C → Type 0) (g : Settin
   -- the clock as it is at the end
   pub late : C
   pub ticks : Ticks tick clock moments late
-  pub well : WellServed g history moments entered before after own served
+  -- its desk stored no entries, so it was never unready
+  pub well : WellServed g false history moments entered before after own served
   pub begins : well.begins ≡ began
   pub ends : well.ends ≡ ended

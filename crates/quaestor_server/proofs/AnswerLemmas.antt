@@ -1,7 +1,8 @@
 -- A desk is made ready, and then answers.
-use Rattle.std.proofs.Common.{◌≡◌, ℕ, Bool, List, ◌++◌, length, nat_lt, Result, Ok, IfOk, refl, sym, ap, ◌∙◌, subst, inl, inr}
+use Rattle.std.proofs.Common.{◌≡◌, ℕ, Bool, true, false, List, ◌++◌, length, nat_lt, Result, Ok, Err, IfOk, IsOk, refl, sym, ap, ◌∙◌, subst, inl, inr}
 use Rattle.std.proofs.lemmas.Bool.{cases_Bool}
 use Rattle.http_front.specs.Asks.{ask_of}
+use Rattle.http_front.specs.Early.{is_early}
 use Rattle.http_front.specs.Routes.{all_routes}
 use Rattle.http_front.specs.declared.ask.Ask.{Ask}
 use Rattle.http_front.specs.declared.ask.Ask.TheVariants as asks
@@ -23,13 +24,19 @@ use Rattle.hub_model.specs.Setting.{Setting}
 use Rattle.hub_model.specs.State.{State}
 use Rattle.hub_model.specs.Step.{state_of}
 use Rattle.q_base.specs.declared.memory.Memory.{Memory as NoMemory}
-use Rattle.quaestor_server.specs.Answer.{IsMade, made, ran_out, IsAnswer, serves, fails}
+use Rattle.quaestor_server.specs.Answer.{MayFail, unread, not_ready, ran_out, IsAnswer, serves, fails}
 use Rattle.quaestor_server.specs.Ask.{IsFresh}
 use Rattle.quaestor_server.proofs.PrefixLemmas.{learns-makes, learns-learns, fresh_before}
 
+-- a ready desk that has read what is asked may fail at the entry alone
+entry_fails : (g : Setting) (unready : Bool) (known : List Entry) (early : Bool) (asked : Result Ask Refused) → MayFail g false known true asked → MayFail g unready known early asked
+entry_fails g unready known early asked (unread never) = absurd (cc)
+entry_fails g unready known early asked (not_ready never) = absurd (cc)
+entry_fails g unready known early asked (ran_out may) = ran_out may
+
 -- what a ready desk answered is answered
-answered_ready : (g : Setting) (old mid new : List Entry) (mine mine_mid mine_new : List (ℕ × Entry)) (moment : ℕ) (asked : Result Ask Refused) (told : Told) (page : List ℕ) → Learns g old mid mine mine_mid → IsMade g mid new mine_mid mine_new moment asked told page → IsAnswer g old new mine mine_new moment asked told page
-answered_ready g old mid new mine mine_mid mine_new moment asked told page l (made s) =
+answered_ready : (g : Setting) (unready : Bool) (old mid new : List Entry) (mine mine_mid mine_new : List (ℕ × Entry)) (moment : ℕ) (early : Bool) (asked : Result Ask Refused) (told : Told) (page : List ℕ) → Learns g old mid mine mine_mid → IsAnswer g false mid new mine_mid mine_new moment true asked told page → IsAnswer g unready old new mine mine_new moment early asked told page
+answered_ready g unready old mid new mine mine_mid mine_new moment early asked told page l (serves s) =
     serves (record {
       entry = s.entry;
       replied = s.replied;
@@ -38,21 +45,30 @@ answered_ready g old mid new mine mine_mid mine_new moment asked told page l (ma
       fresh = fresh_before g old mid s.entry l.grew s.fresh;
       told_is = s.told_is;
     })
-answered_ready g old mid new mine mine_mid mine_new moment asked told page l (ran_out w f) =
-    fails (record { learns = learns-learns g old mid new mine mine_mid mine_new l f.learns; told_is = f.told_is })
+answered_ready g unready old mid new mine mine_mid mine_new moment early asked told page l (fails why f) =
+    fails (entry_fails g unready new early asked why) (record { learns = learns-learns g old mid new mine mine_mid mine_new l f.learns; told_is = f.told_is })
 
 -- a desk that is made ready keeps its configuration, and then answers what was read
-pub answered_then : (g g' : Setting) (old mid new : List Entry) (mine mine_mid mine_new : List (ℕ × Entry)) (moment : ℕ) (read : Result (Result Ask Refused) NoMemory) (known asked : Result Ask Refused) (told : Told) (page : List ℕ) → read ≡ Ok known → IfOk read (λ k. k ≡ asked) → g' ≡ g → Learns g old mid mine mine_mid → IsMade g' mid new mine_mid mine_new moment known told page → IsAnswer g old new mine mine_new moment asked told page
-answered_then g g' old mid new mine mine_mid mine_new moment read known asked told page read_is asks same l m =
+pub answered_then : (g g' : Setting) (unready : Bool) (old mid new : List Entry) (mine mine_mid mine_new : List (ℕ × Entry)) (moment : ℕ) (early : Bool) (read : Result (Result Ask Refused) NoMemory) (known asked : Result Ask Refused) (told : Told) (page : List ℕ) → read ≡ Ok known → IfOk read (λ k. k ≡ asked) → g' ≡ g → Learns g old mid mine mine_mid → IsAnswer g' false mid new mine_mid mine_new moment true known told page → IsAnswer g unready old new mine mine_new moment early asked told page
+answered_then g g' unready old mid new mine mine_mid mine_new moment early read known asked told page read_is asks same l m =
     let known_is : known ≡ asked = subst (λ (r : Result (Result Ask Refused) NoMemory). IfOk r (λ k. k ≡ asked)) read_is asks in
-    answered_ready g old mid new mine mine_mid mine_new moment asked told page l
-    (subst (λ (x : Setting). IsMade x mid new mine_mid mine_new moment asked told page) same
-    (subst (λ (a : Result Ask Refused). IsMade g' mid new mine_mid mine_new moment a told page) known_is m))
+    answered_ready g unready old mid new mine mine_mid mine_new moment early asked told page l
+    (subst (λ (x : Setting). IsAnswer x false mid new mine_mid mine_new moment true asked told page) same
+    (subst (λ (a : Result Ask Refused). IsAnswer g' false mid new mine_mid mine_new moment true a told page) known_is m))
+
+-- what could not be read is not known early
+pub not_early : (early : Bool) (read : Result (Result Ask Refused) NoMemory) (lacking : NoMemory) → read ≡ Err lacking → (early ≡ true → IsOk read) → early ≡ false
+not_early true read lacking is is_read = let none : IsOk {T = Result Ask Refused} {E = NoMemory} (Err lacking) = subst (λ (r : Result (Result Ask Refused) NoMemory). IsOk r) is (is_read refl) in absurd (cc)
+not_early false read lacking is is_read = refl
+
+-- what is known early is read, by all routes
+pub early_all : (routes : Served) (m : Message) (read : Result (Result Ask Refused) NoMemory) → routes ≡ all_routes → (is_early routes m ≡ true → IsOk read) → is_early all_routes m ≡ true → IsOk read
+early_all routes m read same is_read = subst (λ (r : Served). is_early r m ≡ true → IsOk read) same is_read
 
 -- an answer leaves a legal history, and the page buffer as it was made
-pub can_still : (g g' : Setting) (old new : List Entry) (mine mine_new : List (ℕ × Entry)) (moment : ℕ) (asked : Result Ask Refused) (told : Told) (page : List ℕ) (room : PageRoomView) → g' ≡ g → IsLegal g old → IsAnswer g old new mine mine_new moment asked told page → IsRoomFor g room → IsLegal g' new × IsRoomFor g' room
-can_still g g' old new mine mine_new moment asked told page room same legal answer fits =
-    let left : IsLegal g new = elim answer [ serves s ↦ s.made.legal | fails f ↦ f.learns.legal legal ] in
+pub can_still : (g g' : Setting) (unready : Bool) (old new : List Entry) (mine mine_new : List (ℕ × Entry)) (moment : ℕ) (early : Bool) (asked : Result Ask Refused) (told : Told) (page : List ℕ) (room : PageRoomView) → g' ≡ g → IsLegal g old → IsAnswer g unready old new mine mine_new moment early asked told page → IsRoomFor g room → IsLegal g' new × IsRoomFor g' room
+can_still g g' unready old new mine mine_new moment early asked told page room same legal answer fits =
+    let left : IsLegal g new = elim answer [ serves s ↦ s.made.legal | fails why f ↦ f.learns.legal legal ] in
     subst (λ (x : Setting). IsLegal x new × IsRoomFor x room) (sym same) (left, fits)
 
 -- the origins that are known are still those of the configuration
@@ -71,9 +87,9 @@ fresh_matching g old s moment e is = subst (λ (x : Entry). IsFresh g old x) (sy
 ])
 
 -- a desk that matched all commits served that ask
-pub made_match : (g : Setting) (old new : List Entry) (mine mine_new : List (ℕ × Entry)) (moment : ℕ) (asked : Result Ask Refused) (match : Matched) (page : List ℕ) → asked ≡ Ok asks.MatchAll → MatchesAll g old new mine mine_new moment match → IsMade g old new mine mine_new moment asked (answers.Match match) page
+pub made_match : (g : Setting) (old new : List Entry) (mine mine_new : List (ℕ × Entry)) (moment : ℕ) (asked : Result Ask Refused) (match : Matched) (page : List ℕ) → asked ≡ Ok asks.MatchAll → MatchesAll g old new mine mine_new moment match → IsAnswer g false old new mine mine_new moment true asked (answers.Match match) page
 made_match g old new mine mine_new moment asked match page asked_is m =
-    subst (λ (a : Result Ask Refused). IsMade g old new mine mine_new moment a (answers.Match match) page) (sym asked_is) (made (record {
+    subst (λ (a : Result Ask Refused). IsAnswer g false old new mine mine_new moment true a (answers.Match match) page) (sym asked_is) (serves (record {
       entry = m.entry;
       replied = m.replied;
       made = m.made;
@@ -83,9 +99,9 @@ made_match g old new mine mine_new moment asked match page asked_is m =
     }))
 
 -- a desk that told purges served that ask
-pub made_purges : (g : Setting) (old new : List Entry) (mine mine_new : List (ℕ × Entry)) (moment from : ℕ) (head : Bool) (asked : Result Ask Refused) (reply : PurgeReply) (page : List ℕ) → asked ≡ Ok (asks.Purges from head) → Makes g old new mine mine_new (Purges moment from) (purged (told_of reply)) → IsMade g old new mine mine_new moment asked (answers.Purges reply) page
+pub made_purges : (g : Setting) (old new : List Entry) (mine mine_new : List (ℕ × Entry)) (moment from : ℕ) (head : Bool) (asked : Result Ask Refused) (reply : PurgeReply) (page : List ℕ) → asked ≡ Ok (asks.Purges from head) → Makes g old new mine mine_new (Purges moment from) (purged (told_of reply)) → IsAnswer g false old new mine mine_new moment true asked (answers.Purges reply) page
 made_purges g old new mine mine_new moment from head asked reply page asked_is m =
-    subst (λ (a : Result Ask Refused). IsMade g old new mine mine_new moment a (answers.Purges reply) page) (sym asked_is) (made (record {
+    subst (λ (a : Result Ask Refused). IsAnswer g false old new mine mine_new moment true a (answers.Purges reply) page) (sym asked_is) (serves (record {
       entry = Purges moment from;
       replied = purged (told_of reply);
       made = m;

@@ -27,7 +27,7 @@ use Rattle.hub_model.specs.Step.{after, after_all, state_of}
 use Rattle.q_outside.specs.declared.served.Served.{Served}
 use Rattle.query_normal.specs.declared.key.KeyShape.{KeyShape}
 use Rattle.quaestor_server.specs.Answer.{Serves, Fails, IsAnswer, serves, fails, has_entry}
-use Rattle.quaestor_server.specs.Ask.{asked_by, shape_by, IsEntryOf, IsToldOf, IsFresh}
+use Rattle.quaestor_server.specs.Ask.{asked_by, is_known_early, shape_by, IsEntryOf, IsToldOf, IsFresh}
 use Rattle.quaestor_server.specs.Conversation.{RepliesAt, ConnectionState, Replies}
 use Rattle.quaestor_server.specs.TextsAreDetermined.{IsAlone, StopAlike}
 use Rattle.quaestor_server.proofs.TextLemmas.{AreAlike, alike, purges_alike, same_text}
@@ -75,17 +75,17 @@ learns_more g old new mine mine_new l =
 record Grows (a b : ConnectionState) : Type 0 where
   least : length a.seen + length b.mine ≤ length b.seen + length a.mine
 
-replies_grow : (g : Setting) (a b : ConnectionState) (item : Item) (close : Bool) (text : List ℕ) → Replies g a item close text b → Grows a b
-replies_grow g a b item close text r = elim r.at.answer [
+replies_grow : (g : Setting) (unready : Bool) (a b : ConnectionState) (item : Item) (close : Bool) (text : List ℕ) → Replies g unready a item close text b → Grows a b
+replies_grow g unready a b item close text r = elim r.at.answer [
   | serves s ↦ let m = makes_more g a.seen b.seen a.mine b.mine s.entry s.replied s.made in record { least = omega (arith, m.seen_is, m.mine_is) }
-  | fails f ↦ let m = learns_more g a.seen b.seen a.mine b.mine f.learns in record { least = omega (arith, m.seen_is, m.mine_is) }
+  | fails why f ↦ let m = learns_more g a.seen b.seen a.mine b.mine f.learns in record { least = omega (arith, m.seen_is, m.mine_is) }
 ]
 
-answered_grow : (g : Setting) (count : ℕ) (first last : ConnectionState) (xs : List Exchange) → Answered (Replies g) count first xs last → Grows first last
-answered_grow g count first last [] t = subst (λ (s : ConnectionState). Grows first s) t (record { least = omega arith })
-answered_grow g count first last (x ∷ xs) t =
-    let here = replies_grow g first t.0 x.item (is_last count x) x.answer t.1 in
-    let rest = answered_grow g (count + 1) t.0 last xs t.2 in
+answered_grow : (g : Setting) (unready : Bool) (count : ℕ) (first last : ConnectionState) (xs : List Exchange) → Answered (Replies g unready) count first xs last → Grows first last
+answered_grow g unready count first last [] t = subst (λ (s : ConnectionState). Grows first s) t (record { least = omega arith })
+answered_grow g unready count first last (x ∷ xs) t =
+    let here = replies_grow g unready first t.0 x.item (is_last count x) x.answer t.1 in
+    let rest = answered_grow g unready (count + 1) t.0 last xs t.2 in
     record { least = omega (arith, here.least, rest.least) }
 
 -- an entry that is last in a legal history may follow the others
@@ -186,7 +186,7 @@ record IsOne (new other : List Entry) (mine again : List (ℕ × Entry)) (told o
   told_alike : AreAlike told once page pages
 
 -- Two calls at the same desk and the same moment, among no others' entries.
-module _ (g : Setting) (old new other : List Entry) (mine mine_new again : List (ℕ × Entry)) (moment : ℕ) (asked : Result Ask Refused) (told once : Told) (page pages : List ℕ) (alone : length new + length mine ≡ length old + length mine_new) (lone : length other + length mine ≡ length old + length again) where
+module _ (g : Setting) (unready : Bool) (old new other : List Entry) (mine mine_new again : List (ℕ × Entry)) (moment : ℕ) (early : Bool) (asked : Result Ask Refused) (told once : Told) (page pages : List ℕ) (alone : length new + length mine ≡ length old + length mine_new) (lone : length other + length mine ≡ length old + length again) where
   -- they served alike
   same_served : (s : Serves g old new mine mine_new moment asked told page) (t : Serves g old other mine again moment asked once pages) → IsOne new other mine_new again told once page pages
   same_served s t =
@@ -214,11 +214,11 @@ module _ (g : Setting) (old new other : List Entry) (mine mine_new again : List 
       }
 
   -- so they answered alike
-  same_answer : (x : IsAnswer g old new mine mine_new moment asked told page) (y : IsAnswer g old other mine again moment asked once pages) → has_entry x ≡ has_entry y → IsOne new other mine_new again told once page pages
+  same_answer : (x : IsAnswer g unready old new mine mine_new moment early asked told page) (y : IsAnswer g unready old other mine again moment early asked once pages) → has_entry x ≡ has_entry y → IsOne new other mine_new again told once page pages
   same_answer (serves s) (serves t) same = same_served s t
-  same_answer (serves s) (fails h) same = absurd (cc)
-  same_answer (fails f) (serves t) same = absurd (cc)
-  same_answer (fails f) (fails h) same = same_failed f h
+  same_answer (serves s) (fails how h) same = absurd (cc)
+  same_answer (fails why f) (serves t) same = absurd (cc)
+  same_answer (fails why f) (fails how h) same = same_failed f h
 
 -- two connection states with the same parts are equal
 connection_state_is : (b c : ConnectionState) → b.seen ≡ c.seen → b.mine ≡ c.mine → b.moments ≡ c.moments → b.entered ≡ c.entered → b ≡ c
@@ -244,11 +244,11 @@ record IsOneReply (b c : ConnectionState) (text more : List ℕ) : Type 0 where
   mine_is : b.mine ≡ c.mine
   text_is : text ≡ more
 
-same_at : RepliesHaveOneText → (g : Setting) (a b c : ConnectionState) (item : Item) (close : Bool) (text more : List ℕ) (m n : ℕ) → m ≡ n → IsAlone a b → IsAlone a c → (x : RepliesAt g a.seen b.seen a.mine b.mine m item close text) (y : RepliesAt g a.seen c.seen a.mine c.mine n item close more) → has_entry x.answer ≡ has_entry y.answer → IsOneReply b c text more
-same_at texts g a b c item close text more m n e alone lone x y h =
-    let P : ℕ → Type 0 = λ k. (z : RepliesAt g a.seen c.seen a.mine c.mine k item close more) → has_entry x.answer ≡ has_entry z.answer → IsOneReply b c text more in
+same_at : RepliesHaveOneText → (g : Setting) (unready : Bool) (a b c : ConnectionState) (item : Item) (close : Bool) (text more : List ℕ) (m n : ℕ) → m ≡ n → IsAlone a b → IsAlone a c → (x : RepliesAt g unready a.seen b.seen a.mine b.mine m item close text) (y : RepliesAt g unready a.seen c.seen a.mine c.mine n item close more) → has_entry x.answer ≡ has_entry y.answer → IsOneReply b c text more
+same_at texts g unready a b c item close text more m n e alone lone x y h =
+    let P : ℕ → Type 0 = λ k. (z : RepliesAt g unready a.seen c.seen a.mine c.mine k item close more) → has_entry x.answer ≡ has_entry z.answer → IsOneReply b c text more in
     let here : P m = λ z same.
-    let one = same_answer g a.seen b.seen c.seen a.mine b.mine c.mine m (asked_by item) x.told z.told x.page z.page alone lone x.answer z.answer same in
+    let one = same_answer g unready a.seen b.seen c.seen a.mine b.mine c.mine m (is_known_early item) (asked_by item) x.told z.told x.page z.page alone lone x.answer z.answer same in
     record {
       seen_is = one.seen_is;
       mine_is = one.mine_is;
@@ -261,9 +261,9 @@ record IsOneStep (b c : ConnectionState) (text more : List ℕ) : Type 0 where
   connection_state : b ≡ c
   text_is : text ≡ more
 
-same_replies : RepliesHaveOneText → (g : Setting) (a b c : ConnectionState) (item : Item) (close : Bool) (text more : List ℕ) (p : Replies g a item close text b) (q : Replies g a item close more c) → IsAlone a b → IsAlone a c → p.moment ≡ q.moment → has_entry p.at.answer ≡ has_entry q.at.answer → IsOneStep b c text more
-same_replies texts g a b c item close text more p q alone lone moments entries =
-    let one = same_at texts g a b c item close text more p.moment q.moment moments alone lone p.at q.at entries in
+same_replies : RepliesHaveOneText → (g : Setting) (unready : Bool) (a b c : ConnectionState) (item : Item) (close : Bool) (text more : List ℕ) (p : Replies g unready a item close text b) (q : Replies g unready a item close more c) → IsAlone a b → IsAlone a c → p.moment ≡ q.moment → has_entry p.at.answer ≡ has_entry q.at.answer → IsOneStep b c text more
+same_replies texts g unready a b c item close text more p q alone lone moments entries =
+    let one = same_at texts g unready a b c item close text more p.moment q.moment moments alone lone p.at q.at entries in
     record {
       connection_state = connection_state_is b c one.seen_is one.mine_is
           (p.moments_are ∙ ap (λ (m : ℕ). a.moments ++ m ∷ []) moments ∙ sym q.moments_are)
@@ -278,11 +278,11 @@ record IsAppended (first last : ConnectionState) : Type 0 where
   entered : List Bool
   entered_are : last.entered ≡ first.entered ++ entered
 
-appended : (g : Setting) (count : ℕ) (first last : ConnectionState) (xs : List Exchange) → Answered (Replies g) count first xs last → IsAppended first last
-appended g count first last [] t = subst (λ (s : ConnectionState). IsAppended first s) t (record { moments = []; moments_are = sym (append-nil first.moments); entered = []; entered_are = sym (append-nil first.entered) })
-appended g count first last (x ∷ xs) t =
+appended : (g : Setting) (unready : Bool) (count : ℕ) (first last : ConnectionState) (xs : List Exchange) → Answered (Replies g unready) count first xs last → IsAppended first last
+appended g unready count first last [] t = subst (λ (s : ConnectionState). IsAppended first s) t (record { moments = []; moments_are = sym (append-nil first.moments); entered = []; entered_are = sym (append-nil first.entered) })
+appended g unready count first last (x ∷ xs) t =
     let r = t.1 in
-    let rest = appended g (count + 1) t.0 last xs t.2 in
+    let rest = appended g unready (count + 1) t.0 last xs t.2 in
     record {
       moments = r.moment ∷ rest.moments;
       moments_are = rest.moments_are ∙ ap (λ (l : List ℕ). l ++ rest.moments) r.moments_are ∙ append_assoc first.moments (r.moment ∷ []) rest.moments;
@@ -303,11 +303,11 @@ record IsSameConversation (last other : ConnectionState) (xs ys : List Exchange)
   connection_state : last ≡ other
   exchanges : xs ≡ ys
 
-one_by : RepliesHaveOneText → (g : Setting) (count : ℕ) (first last other : ConnectionState) (xs ys : List Exchange) → Answered (Replies g) count first xs last → Answered (Replies g) count first ys other → map (λ (x : Exchange). x.piece) xs ≡ map (λ (y : Exchange). y.piece) ys → map (λ (x : Exchange). x.item) xs ≡ map (λ (y : Exchange). y.item) ys → StopAlike xs ys → IsAlone first last → IsAlone first other → last.moments ≡ other.moments → last.entered ≡ other.entered → IsSameConversation last other xs ys
-one_by texts g count first last other [] [] t u ps is stop alone lone moments entered = record { connection_state = sym t ∙ u; exchanges = refl }
-one_by texts g count first last other [] (y ∷ ys) t u ps is stop alone lone moments entered = absurd (cc)
-one_by texts g count first last other (x ∷ xs) [] t u ps is stop alone lone moments entered = absurd (cc)
-one_by texts g count first last other (x ∷ xs) (y ∷ ys) t u ps is stop alone lone moments entered =
+one_by : RepliesHaveOneText → (g : Setting) (unready : Bool) (count : ℕ) (first last other : ConnectionState) (xs ys : List Exchange) → Answered (Replies g unready) count first xs last → Answered (Replies g unready) count first ys other → map (λ (x : Exchange). x.piece) xs ≡ map (λ (y : Exchange). y.piece) ys → map (λ (x : Exchange). x.item) xs ≡ map (λ (y : Exchange). y.item) ys → StopAlike xs ys → IsAlone first last → IsAlone first other → last.moments ≡ other.moments → last.entered ≡ other.entered → IsSameConversation last other xs ys
+one_by texts g unready count first last other [] [] t u ps is stop alone lone moments entered = record { connection_state = sym t ∙ u; exchanges = refl }
+one_by texts g unready count first last other [] (y ∷ ys) t u ps is stop alone lone moments entered = absurd (cc)
+one_by texts g unready count first last other (x ∷ xs) [] t u ps is stop alone lone moments entered = absurd (cc)
+one_by texts g unready count first last other (x ∷ xs) (y ∷ ys) t u ps is stop alone lone moments entered =
     let piece_is : x.piece ≡ y.piece = cc in
     let item_is : x.item ≡ y.item = cc in
     let stops_is : x.stops ≡ y.stops = cc in
@@ -315,41 +315,41 @@ one_by texts g count first last other (x ∷ xs) (y ∷ ys) t u ps is stop alone
     let items_are : map (λ (x : Exchange). x.item) xs ≡ map (λ (y : Exchange). y.item) ys = cc in
     let stops_are : StopAlike xs ys = cc in
     let p = t.1 in
-    let by_item : Replies g first x.item (is_last count (record { piece = []; item = x.item; answer = []; stops = y.stops })) y.answer u.0 = subst (λ (i : Item). Replies g first i (is_last count (record { piece = []; item = i; answer = []; stops = y.stops })) y.answer u.0) (sym item_is) u.1 in
-    let q : Replies g first x.item (is_last count x) y.answer u.0 = subst (λ (v : Bool). Replies g first x.item (is_last count (record { piece = []; item = x.item; answer = []; stops = v })) y.answer u.0) (sym stops_is) by_item in
-    let after_p = appended g (count + 1) t.0 last xs t.2 in
-    let after_q = appended g (count + 1) u.0 other ys u.2 in
+    let by_item : Replies g unready first x.item (is_last count (record { piece = []; item = x.item; answer = []; stops = y.stops })) y.answer u.0 = subst (λ (i : Item). Replies g unready first i (is_last count (record { piece = []; item = i; answer = []; stops = y.stops })) y.answer u.0) (sym item_is) u.1 in
+    let q : Replies g unready first x.item (is_last count x) y.answer u.0 = subst (λ (v : Bool). Replies g unready first x.item (is_last count (record { piece = []; item = x.item; answer = []; stops = v })) y.answer u.0) (sym stops_is) by_item in
+    let after_p = appended g unready (count + 1) t.0 last xs t.2 in
+    let after_q = appended g unready (count + 1) u.0 other ys u.2 in
     let moment : p.moment ≡ q.moment = same_next first.moments p.moment q.moment after_p.moments after_q.moments last.moments other.moments t.0.moments u.0.moments after_p.moments_are p.moments_are after_q.moments_are q.moments_are moments in
     let entry : has_entry p.at.answer ≡ has_entry q.at.answer = same_next first.entered (has_entry p.at.answer) (has_entry q.at.answer) after_p.entered after_q.entered last.entered other.entered t.0.entered u.0.entered after_p.entered_are p.entered_are after_q.entered_are q.entered_are entered in
-    let grows_p = replies_grow g first t.0 x.item (is_last count x) x.answer p in
-    let grows_q = replies_grow g first u.0 x.item (is_last count x) y.answer q in
-    let rest_p = answered_grow g (count + 1) t.0 last xs t.2 in
-    let rest_q = answered_grow g (count + 1) u.0 other ys u.2 in
-    let here = same_replies texts g first t.0 u.0 x.item (is_last count x) x.answer y.answer p q (omega (arith, alone, grows_p.least, rest_p.least)) (omega (arith, lone, grows_q.least, rest_q.least)) moment entry in
-    let behind_q : Answered (Replies g) (count + 1) t.0 ys other = subst (λ (s : ConnectionState). Answered (Replies g) (count + 1) s ys other) (sym here.connection_state) u.2 in
+    let grows_p = replies_grow g unready first t.0 x.item (is_last count x) x.answer p in
+    let grows_q = replies_grow g unready first u.0 x.item (is_last count x) y.answer q in
+    let rest_p = answered_grow g unready (count + 1) t.0 last xs t.2 in
+    let rest_q = answered_grow g unready (count + 1) u.0 other ys u.2 in
+    let here = same_replies texts g unready first t.0 u.0 x.item (is_last count x) x.answer y.answer p q (omega (arith, alone, grows_p.least, rest_p.least)) (omega (arith, lone, grows_q.least, rest_q.least)) moment entry in
+    let behind_q : Answered (Replies g unready) (count + 1) t.0 ys other = subst (λ (s : ConnectionState). Answered (Replies g unready) (count + 1) s ys other) (sym here.connection_state) u.2 in
     let lone_behind : IsAlone u.0 other = omega (arith, lone, grows_q.least, rest_q.least) in
-    let rest = one_by texts g (count + 1) t.0 last other xs ys t.2 behind_q pieces_are items_are stops_are (omega (arith, alone, grows_p.least, rest_p.least)) (subst (λ (s : ConnectionState). IsAlone s other) (sym here.connection_state) lone_behind) moments entered in
+    let rest = one_by texts g unready (count + 1) t.0 last other xs ys t.2 behind_q pieces_are items_are stops_are (omega (arith, alone, grows_p.least, rest_p.least)) (subst (λ (s : ConnectionState). IsAlone s other) (sym here.connection_state) lone_behind) moments entered in
     let exchange : x ≡ y = exchange_is x y piece_is item_is here.text_is stops_is in
     let exchanges : xs ≡ ys = rest.exchanges in
     record { connection_state = rest.connection_state; exchanges = cc }
 
 -- there are as many moments as items
-count_moments : (g : Setting) (count : ℕ) (first last : ConnectionState) (xs : List Exchange) → Answered (Replies g) count first xs last → length last.moments ≡ length first.moments + length xs
-count_moments g count first last [] t = let same : length first.moments ≡ length last.moments = ap (λ (s : ConnectionState). length s.moments) t in omega (arith, same)
-count_moments g count first last (x ∷ xs) t =
+count_moments : (g : Setting) (unready : Bool) (count : ℕ) (first last : ConnectionState) (xs : List Exchange) → Answered (Replies g unready) count first xs last → length last.moments ≡ length first.moments + length xs
+count_moments g unready count first last [] t = let same : length first.moments ≡ length last.moments = ap (λ (s : ConnectionState). length s.moments) t in omega (arith, same)
+count_moments g unready count first last (x ∷ xs) t =
     let here : length t.0.moments ≡ length first.moments + 1 = ap (λ (l : List ℕ). length l) t.1.moments_are ∙ length-append first.moments (t.1.moment ∷ []) in
-    omega (arith, here, count_moments g (count + 1) t.0 last xs t.2)
+    omega (arith, here, count_moments g unready (count + 1) t.0 last xs t.2)
 
 -- two connections over one history of their own
-pub texts_are_determined : SameItems → RepliesHaveOneText → (g : Setting) (first last other : ConnectionState) (a b c d : Sides) (served again : Served) (p : Dialogue (Replies g) first last a b served) (q : Dialogue (Replies g) first other c d again) → IsAlone first last → IsAlone first other → pieces p.passed.exchanges ++ p.passed.rest ≡ pieces q.passed.exchanges ++ q.passed.rest → last.moments ≡ other.moments → last.entered ≡ other.entered → StopAlike p.passed.exchanges q.passed.exchanges → (p.passed.exchanges ≡ q.passed.exchanges) × (last.seen ≡ other.seen) × (last.mine ≡ other.mine)
-texts_are_determined items texts g first last other a b c d served again p q alone lone bytes moments entered stop =
+pub texts_are_determined : SameItems → RepliesHaveOneText → (g : Setting) (unready : Bool) (first last other : ConnectionState) (a b c d : Sides) (served again : Served) (p : Dialogue (Replies g unready) first last a b served) (q : Dialogue (Replies g unready) first other c d again) → IsAlone first last → IsAlone first other → pieces p.passed.exchanges ++ p.passed.rest ≡ pieces q.passed.exchanges ++ q.passed.rest → last.moments ≡ other.moments → last.entered ≡ other.entered → StopAlike p.passed.exchanges q.passed.exchanges → (p.passed.exchanges ≡ q.passed.exchanges) × (last.seen ≡ other.seen) × (last.mine ≡ other.mine)
+texts_are_determined items texts g unready first last other a b c d served again p q alone lone bytes moments entered stop =
     let xs = p.passed.exchanges in
     let ys = q.passed.exchanges in
-    let here = count_moments g 0 first last xs p.answered in
-    let there = count_moments g 0 first other ys q.answered in
+    let here = count_moments g unready 0 first last xs p.answered in
+    let there = count_moments g unready 0 first other ys q.answered in
     let same : length last.moments ≡ length other.moments = ap (λ (l : List ℕ). length l) moments in
     let shared = items xs ys p.passed.rest q.passed.rest p.passed.progress.items q.passed.progress.items (omega (arith, here, there, same)) bytes in
-    let one = one_by texts g 0 first last other xs ys p.answered q.answered shared.0 shared.1 stop alone lone moments entered in
+    let one = one_by texts g unready 0 first last other xs ys p.answered q.answered shared.0 shared.1 stop alone lone moments entered in
     (one.exchanges, ap (λ (s : ConnectionState). s.seen) one.connection_state, ap (λ (s : ConnectionState). s.mine) one.connection_state)
 
 -- a desk all of whose history is its own is alone

@@ -15,8 +15,8 @@ use Rattle.quaestor_server.specs.WellServed.{WellServed, HasEntryAt}
 use Rattle.quaestor_server.proofs.PrefixLemmas.{prefix_trans}
 
 -- a connection that was well served stays so
-pub well_stays : (g : Setting) (history longer : List Entry) (moments : List ℕ) (entered : List Bool) (before after : Sides) (own : List (ℕ × Entry)) (served : Served) → IsPrefix history longer → WellServed g history moments entered before after own served → WellServed g longer moments entered before after own served
-well_stays g history longer moments entered before after own served p w =
+pub well_stays : (g : Setting) (unready : Bool) (history longer : List Entry) (moments : List ℕ) (entered : List Bool) (before after : Sides) (own : List (ℕ × Entry)) (served : Served) → IsPrefix history longer → WellServed g unready history moments entered before after own served → WellServed g unready longer moments entered before after own served
+well_stays g unready history longer moments entered before after own served p w =
     record { begins = w.begins; ends = w.ends; beginning = prefix_trans w.ends history longer w.beginning p; dialogue = w.dialogue }
 
 -- an entry is in place in every longer history
@@ -51,18 +51,18 @@ adds_made g old new mine mine_new e told m all =
     subst (λ (l : List (ℕ × Entry)). All (HasEntryAt new) l) (sym m.mine) (All-append (HasEntryAt new) mine (enumerate_from (length m.before) (m.helps ++ e ∷ [])) (all_still old new mine grew all) more)
 
 -- so it is after each answer
-adds_answer : (g : Setting) (a b : ConnectionState) (item : Item) (close : Bool) (text : List ℕ) → Replies g a item close text b → All (HasEntryAt a.seen) a.mine → All (HasEntryAt b.seen) b.mine
-adds_answer g a b item close text r all = elim r.at.answer [
+adds_answer : (g : Setting) (unready : Bool) (a b : ConnectionState) (item : Item) (close : Bool) (text : List ℕ) → Replies g unready a item close text b → All (HasEntryAt a.seen) a.mine → All (HasEntryAt b.seen) b.mine
+adds_answer g unready a b item close text r all = elim r.at.answer [
   | serves s ↦ adds_made g a.seen b.seen a.mine b.mine s.entry s.replied s.made all
-  | fails f ↦ subst (λ (l : List (ℕ × Entry)). All (HasEntryAt b.seen) l) (sym f.learns.mine) (all_still a.seen b.seen a.mine f.learns.grew all)
+  | fails why f ↦ subst (λ (l : List (ℕ × Entry)). All (HasEntryAt b.seen) l) (sym f.learns.mine) (all_still a.seen b.seen a.mine f.learns.grew all)
 ]
 
 -- and after a list of them
-all_adds : (g : Setting) (count : ℕ) (first last : ConnectionState) (xs : List Exchange) → Answered (Replies g) count first xs last → All (HasEntryAt first.seen) first.mine → All (HasEntryAt last.seen) last.mine
-all_adds g count first last [] t all = subst (λ (s : ConnectionState). All (HasEntryAt s.seen) s.mine) t all
-all_adds g count first last (x ∷ xs) t all = all_adds g (count + 1) t.0 last xs t.2 (adds_answer g first t.0 x.item _ x.answer t.1 all)
+all_adds : (g : Setting) (unready : Bool) (count : ℕ) (first last : ConnectionState) (xs : List Exchange) → Answered (Replies g unready) count first xs last → All (HasEntryAt first.seen) first.mine → All (HasEntryAt last.seen) last.mine
+all_adds g unready count first last [] t all = subst (λ (s : ConnectionState). All (HasEntryAt s.seen) s.mine) t all
+all_adds g unready count first last (x ∷ xs) t all = all_adds g unready (count + 1) t.0 last xs t.2 (adds_answer g unready first t.0 x.item _ x.answer t.1 all)
 
 -- the entries of a connection that was well served are in place in the history
-pub own_are_in_place : (g : Setting) (history : List Entry) (moments : List ℕ) (entered : List Bool) (before after : Sides) (own : List (ℕ × Entry)) (served : Served) → WellServed g history moments entered before after own served → All (HasEntryAt history) own
-own_are_in_place g history moments entered before after own served w =
-    all_still w.ends history own w.beginning (all_adds g 0 _ _ w.dialogue.passed.exchanges w.dialogue.answered (All-nil (HasEntryAt w.begins)))
+pub own_are_in_place : (g : Setting) (unready : Bool) (history : List Entry) (moments : List ℕ) (entered : List Bool) (before after : Sides) (own : List (ℕ × Entry)) (served : Served) → WellServed g unready history moments entered before after own served → All (HasEntryAt history) own
+own_are_in_place g unready history moments entered before after own served w =
+    all_still w.ends history own w.beginning (all_adds g unready 0 _ _ w.dialogue.passed.exchanges w.dialogue.answered (All-nil (HasEntryAt w.begins)))

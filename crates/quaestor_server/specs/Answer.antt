@@ -31,17 +31,18 @@ pub record Fails (g : Setting) (old new : List Entry) (mine_old mine_new : List 
   pub learns : Learns g old new mine_old mine_new
   pub told_is : told ≡ Memory
 
--- How a desk that is ready answers: it serves the request, or fails where the entry may run out of memory.
-pub data IsMade (g : Setting) (old new : List Entry) (mine_old mine_new : List (ℕ × Entry)) (moment : ℕ) (asked : Result Ask Refused) (told : Told) (page : List ℕ) : Type 0 where
-  made : Serves g old new mine_old mine_new moment asked told page → IsMade g old new mine_old mine_new moment asked told page
-  ran_out : MayRunOut g new asked → Fails g old new mine_old mine_new told → IsMade g old new mine_old mine_new moment asked told page
+-- Why there may be no memory for an answer, in a history: to read what is asked, where it is not known early; for the entries of a request, whatever it asks, where the desk may be unready; or for the entry of this request.
+pub data MayFail (g : Setting) (unready : Bool) (known : List Entry) (early : Bool) (asked : Result Ask Refused) : Type 0 where
+  unread : early ≡ false → MayFail g unready known early asked
+  not_ready : unready ≡ true → MayFail g unready known early asked
+  ran_out : MayRunOut g known asked → MayFail g unready known early asked
 
--- How a desk answers: it serves the request, or fails.
-pub data IsAnswer (g : Setting) (old new : List Entry) (mine_old mine_new : List (ℕ × Entry)) (moment : ℕ) (asked : Result Ask Refused) (told : Told) (page : List ℕ) : Type 0 where
-  serves : Serves g old new mine_old mine_new moment asked told page → IsAnswer g old new mine_old mine_new moment asked told page
-  fails : Fails g old new mine_old mine_new told → IsAnswer g old new mine_old mine_new moment asked told page
+-- How a desk answers: it serves the request, or fails where there may be no memory for the answer.
+pub data IsAnswer (g : Setting) (unready : Bool) (old new : List Entry) (mine_old mine_new : List (ℕ × Entry)) (moment : ℕ) (early : Bool) (asked : Result Ask Refused) (told : Told) (page : List ℕ) : Type 0 where
+  serves : Serves g old new mine_old mine_new moment asked told page → IsAnswer g unready old new mine_old mine_new moment early asked told page
+  fails : MayFail g unready new early asked → Fails g old new mine_old mine_new told → IsAnswer g unready old new mine_old mine_new moment early asked told page
 
 -- whether an entry was made
-abbrev pub has_entry : {g : Setting} {old new : List Entry} {mine_old mine_new : List (ℕ × Entry)} {moment : ℕ} {asked : Result Ask Refused} {told : Told} {page : List ℕ} → IsAnswer g old new mine_old mine_new moment asked told page → Bool
+abbrev pub has_entry : {g : Setting} {unready : Bool} {old new : List Entry} {mine_old mine_new : List (ℕ × Entry)} {moment : ℕ} {early : Bool} {asked : Result Ask Refused} {told : Told} {page : List ℕ} → IsAnswer g unready old new mine_old mine_new moment early asked told page → Bool
 has_entry (serves s) = true
-has_entry (fails f) = false
+has_entry (fails why f) = false

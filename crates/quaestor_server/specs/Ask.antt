@@ -1,7 +1,8 @@
 -- Believed. What the items of a connection ask of the store, and the replies to them.
-use Rattle.std.specs.Prelude.{◌≡◌, ℕ, ◌≤◌, true, false, List, length, Result, Ok, Err}
+use Rattle.std.specs.Prelude.{◌≡◌, ℕ, ◌≤◌, Bool, true, List, length, Result, Ok, Err}
 use Rattle.flat_snapshot.specs.PageText.{page_text}
 use Rattle.http_front.specs.Asks.{ask_of, shape_of, unframed_shape}
+use Rattle.http_front.specs.Early.{is_early}
 use Rattle.http_front.specs.Routes.{all_routes}
 use Rattle.http_front.specs.declared.ask.Ask.{Ask}
 use Rattle.http_front.specs.declared.ask.Ask.TheVariants.{Write, Read, Purges, MatchAll, Fetch, Stats}
@@ -25,6 +26,11 @@ use Rattle.hub_model.specs.Step.{is_accepted, state_of}
 abbrev pub asked_by : Item → Result Ask Refused
 asked_by (request m) = ask_of all_routes m
 asked_by (unframed refused called head) = Err (Framing refused)
+
+-- what an item asks is known without memory; so it is where there is no request
+abbrev pub is_known_early : Item → Bool
+is_known_early (request m) = is_early all_routes m
+is_known_early (unframed refused called head) = true
 
 -- what the reply to an item looks like, where a text names the origins of pages that may read it
 abbrev pub shape_by : List ℕ → Item → Shape

@@ -1,4 +1,4 @@
--- Believed. What one connection to a store does, from its first byte to its end.
+-- Believed. What one connection to a store does, from its first byte to its end. In each record `unready` is whether its desk may be unready.
 use Rattle.std.specs.Prelude.{◌≡◌, ℕ, ◌++◌, Bool, List, [], ◌∷◌}
 use Rattle.dialogue.specs.Dialogue.{Sides, Dialogue}
 use Rattle.http_front.specs.ReplyText.{IsReplyText}
@@ -8,14 +8,14 @@ use Rattle.hub_model.specs.declared.entry.Entry.{Entry}
 use Rattle.hub_model.specs.Setting.{Setting}
 use Rattle.q_outside.specs.declared.served.Served.{Served}
 use Rattle.quaestor_server.specs.Answer.{IsAnswer, has_entry}
-use Rattle.quaestor_server.specs.Ask.{asked_by, shape_by}
+use Rattle.quaestor_server.specs.Ask.{asked_by, is_known_early, shape_by}
 
 -- An item was answered at a moment: its entry was made or memory ran out, and this is the text of the reply.
-pub record RepliesAt (g : Setting) (old new : List Entry) (mine_old mine_new : List (ℕ × Entry)) (moment : ℕ) (item : Item) (close : Bool) (text : List ℕ) : Type 0 where
+pub record RepliesAt (g : Setting) (unready : Bool) (old new : List Entry) (mine_old mine_new : List (ℕ × Entry)) (moment : ℕ) (item : Item) (close : Bool) (text : List ℕ) : Type 0 where
   pub told : Told
   -- the bytes of the page, if the reply is one
   pub page : List ℕ
-  pub answer : IsAnswer g old new mine_old mine_new moment (asked_by item) told page
+  pub answer : IsAnswer g unready old new mine_old mine_new moment (is_known_early item) (asked_by item) told page
   pub text_is : IsReplyText (shape_by g.origins item) told page close text
 
 -- The state of a connection between two items.
@@ -29,22 +29,22 @@ pub record ConnectionState : Type 0 where
   pub entered : List Bool
 
 -- From the first state of the connection the item was answered by this text, which led to the second.
-pub record Replies (g : Setting) (a : ConnectionState) (item : Item) (close : Bool) (text : List ℕ) (b : ConnectionState) : Type 0 where
+pub record Replies (g : Setting) (unready : Bool) (a : ConnectionState) (item : Item) (close : Bool) (text : List ℕ) (b : ConnectionState) : Type 0 where
   pub moment : ℕ
-  pub at : RepliesAt g a.seen b.seen a.mine b.mine moment item close text
+  pub at : RepliesAt g unready a.seen b.seen a.mine b.mine moment item close text
   pub moments_are : b.moments ≡ a.moments ++ moment ∷ []
   pub entered_are : b.entered ≡ a.entered ++ has_entry at.answer ∷ []
 
 -- What one call does to a desk and a clock.
-pub record AnswersAt {D C : Type 0} (setting : D → Setting) (seen : D → List Entry) (mine : D → List (ℕ × Entry)) (tick : C → ℕ → C → Type 0) (a b : D) (c d : C) (item : Item) (close : Bool) (text : List ℕ) : Type 0 where
+pub record AnswersAt {D C : Type 0} (setting : D → Setting) (unready : Bool) (seen : D → List Entry) (mine : D → List (ℕ × Entry)) (tick : C → ℕ → C → Type 0) (a b : D) (c d : C) (item : Item) (close : Bool) (text : List ℕ) : Type 0 where
   pub same : setting b ≡ setting a
   pub moment : ℕ
   pub ticks : tick c moment d
-  pub at : RepliesAt (setting a) (seen a) (seen b) (mine a) (mine b) moment item close text
+  pub at : RepliesAt (setting a) unready (seen a) (seen b) (mine a) (mine b) moment item close text
 
 -- A connection was served: what passed through it, at which moments, and the entry of each item.
-pub record Conversation (g : Setting) (timed : List ℕ → Type 0) (seen seen' : List Entry) (mine mine' : List (ℕ × Entry)) (before after : Sides) (served : Served) : Type 0 where
+pub record Conversation (g : Setting) (unready : Bool) (timed : List ℕ → Type 0) (seen seen' : List Entry) (mine mine' : List (ℕ × Entry)) (before after : Sides) (served : Served) : Type 0 where
   pub moments : List ℕ
   pub entered : List Bool
   pub ticks : timed moments
-  pub dialogue : Dialogue (Replies g) (record { seen = seen; mine = mine; moments = []; entered = [] }) (record { seen = seen'; mine = mine'; moments = moments; entered = entered }) before after served
+  pub dialogue : Dialogue (Replies g unready) (record { seen = seen; mine = mine; moments = []; entered = [] }) (record { seen = seen'; mine = mine'; moments = moments; entered = entered }) before after served

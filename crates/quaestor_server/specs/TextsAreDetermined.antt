@@ -25,8 +25,8 @@ StopAlike xs ys = map (λ x. x.stops) xs ≡ map (λ y. y.stops) ys
 -- were answered 503 at the same items, and were stopped alike: they had the same exchanges and made the same entries
 abbrev pub TextsAreDetermined : Type 0
 TextsAreDetermined =
-    (g : Setting) (first last other : ConnectionState) (a b c d : Sides) (served again : Served)
-    (p : Dialogue (Replies g) first last a b served) (q : Dialogue (Replies g) first other c d again)
+    (g : Setting) (unready : Bool) (first last other : ConnectionState) (a b c d : Sides) (served again : Served)
+    (p : Dialogue (Replies g unready) first last a b served) (q : Dialogue (Replies g unready) first other c d again)
     → IsAlone first last → IsAlone first other
     → pieces p.passed.exchanges ++ p.passed.rest ≡ pieces q.passed.exchanges ++ q.passed.rest
     → last.moments ≡ other.moments → last.entered ≡ other.entered

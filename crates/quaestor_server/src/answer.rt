@@ -1,9 +1,9 @@
 //! How a desk answers one item.
-ghost use Rattle.std.specs.Prelude.{◌≡◌, IfOk, Result};
+ghost use Rattle.std.specs.Prelude.{◌≡◌, Bool, true, false, IfOk, IsOk, Result};
 ghost use Rattle.http_front.specs.declared.ask.Ask.{Ask as AnAsk};
 ghost use Rattle.http_front.specs.declared.refused.Refused.{Refused as ARefusal};
 ghost use Rattle.hub_core.specs.PageRoom.{IsRoomFor};
-ghost use Rattle.quaestor_server.specs.Answer.{IsAnswer, IsMade, fetched_bytes};
+ghost use Rattle.quaestor_server.specs.Answer.{IsAnswer, fetched_bytes};
 
 use http_front::{Ask, Refused, Told};
 use hub_core::PageRoom;
@@ -19,7 +19,8 @@ pub(crate) fn answer<D: Desk>(
     read: Result<Result<Ask, Refused>, Memory>,
 ) -> Told
     requires room { IsRoomFor (D.setting desk.old) pages.old }
-    ensures answer { (asked : Result AnAsk ARefusal) → IfOk read (λ known. known ≡ asked) → IsAnswer (D.setting desk.old) (D.seen desk.old) (D.seen desk.new) (D.mine desk.old) (D.mine desk.new) moment asked result (fetched_bytes pages.new) }
+    ensures answer { (early : Bool) (asked : Result AnAsk ARefusal) → (early ≡ true → IsOk read) → IfOk read (λ known. known ≡ asked)
+        → IsAnswer (D.setting desk.old) D.may_be_unready (D.seen desk.old) (D.seen desk.new) (D.mine desk.old) (D.mine desk.new) moment early asked result (fetched_bytes pages.new) }
     ensures room { IsRoomFor (D.setting desk.old) pages.new }
     ensures anchor { D.anchor desk.new ≡ D.anchor desk.old }
     ensures setting { D.setting desk.new ≡ D.setting desk.old }
@@ -43,7 +44,7 @@ fn make<D: Desk>(
 ) -> Told
     requires ready { D.is_ready desk.old }
     requires room { IsRoomFor (D.setting desk.old) pages.old }
-    ensures answer { IsMade (D.setting desk.old) (D.seen desk.old) (D.seen desk.new) (D.mine desk.old) (D.mine desk.new) moment asked result (fetched_bytes pages.new) }
+    ensures answer { IsAnswer (D.setting desk.old) false (D.seen desk.old) (D.seen desk.new) (D.mine desk.old) (D.mine desk.new) moment true asked result (fetched_bytes pages.new) }
     ensures room { IsRoomFor (D.setting desk.old) pages.new }
     ensures anchor { D.anchor desk.new ≡ D.anchor desk.old }
     ensures setting { D.setting desk.new ≡ D.setting desk.old }

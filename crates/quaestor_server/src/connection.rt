@@ -77,7 +77,7 @@ pub fn serve_connection<D: Desk, S: Source, K: Sink, C: Clock>(
     requires legal { IsLegal (D.setting desk.old) (D.seen desk.old) }
     requires room { IsFor (D.setting desk.old) room.old.pages room.old.config.origins }
     ensures legal { IsLegal (D.setting desk.old) (D.seen desk.new) }
-    ensures conversation { Conversation (D.setting desk.old) (λ moments. Ticks C.tick clock.old moments clock.new) (D.seen desk.old) (D.seen desk.new) (D.mine desk.old) (D.mine desk.new)
+    ensures conversation { Conversation (D.setting desk.old) D.may_be_unready (λ moments. Ticks C.tick clock.old moments clock.new) (D.seen desk.old) (D.seen desk.new) (D.mine desk.old) (D.mine desk.new)
         (record { source = S.at source.old; sink = K.at sink.old }) (record { source = S.at source.new; sink = K.at sink.new }) result }
     ensures room { IsFor (D.setting desk.old) room.new.pages room.new.config.origins }
     ensures anchor { D.anchor desk.new ≡ D.anchor desk.old }

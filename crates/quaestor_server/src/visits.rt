@@ -47,7 +47,7 @@ pub fn serve_visits<D: Desk, S: Source, K: Sink, C: Clock, P: Rooms>(
     requires legal { IsLegal (D.setting desk.old) (D.seen desk.old) }
     requires rooms { P.setting rooms.old ≡ D.setting desk.old }
     ensures legal { IsLegal (D.setting desk.old) (D.seen desk.new) }
-    ensures conversation { Conversation (D.setting desk.old) (λ moments. Ticks C.tick clock.old moments clock.new) (D.seen desk.old) (D.seen desk.new) (D.mine desk.old) (D.mine desk.new)
+    ensures conversation { Conversation (D.setting desk.old) D.may_be_unready (λ moments. Ticks C.tick clock.old moments clock.new) (D.seen desk.old) (D.seen desk.new) (D.mine desk.old) (D.mine desk.new)
         (record { source = S.at source.old; sink = K.at sink.old }) (record { source = S.at source.new; sink = K.at sink.new }) result }
     ensures rooms { P.setting rooms.new ≡ P.setting rooms.old }
     ensures anchor { D.anchor desk.new ≡ D.anchor desk.old }
@@ -81,7 +81,7 @@ fn serve_visit<D: Desk, S: Source, K: Sink, C: Clock>(
     requires room { IsFor (D.setting desk.old) room.old.pages room.old.config.origins }
     requires more { MayGoOn from }
     ensures legal { IsLegal (D.setting desk.old) (D.seen desk.new) }
-    ensures visit { Visited (answers_of D.setting D.seen D.mine C.tick) (record { desk = desk.old; clock = clock.old }) (record { desk = desk.new; clock = clock.new })
+    ensures visit { Visited (answers_of D.setting D.may_be_unready D.seen D.mine C.tick) (record { desk = desk.old; clock = clock.old }) (record { desk = desk.new; clock = clock.new })
         (record { source = S.at source.old; sink = K.at sink.old }) (record { source = S.at source.new; sink = K.at sink.new }) from result }
     ensures rests { Rests from result }
     ensures room { IsFor (D.setting desk.old) room.new.pages room.new.config.origins }

@@ -8,11 +8,11 @@ use Rattle.quaestor_server.proofs.responder.ResponderAnswers.refuse.Goals as goa
 
 pub returns-clause-can : goal.returns-clause-can
 returns-clause-can g c =
-    let answered = c.answer-told.ensures.answer (asked_by (unframed c.args.refused true c.args.head)) refl in
-    let still = can_still _ _ _ _ _ _ _ _ _ _ _ c.answer-told.ensures.setting c.requires.0 answered c.answer-told.ensures.room in
+    let answered = c.answer-told.ensures.answer true (asked_by (unframed c.args.refused true c.args.head)) (λ known. refl) refl in
+    let still = can_still _ _ _ _ _ _ _ _ _ _ _ _ _ c.answer-told.ensures.setting c.requires.0 answered c.answer-told.ensures.room in
     (still.0, still.1, c.requires.2, origins_still _ _ _ c.answer-told.ensures.setting c.requires.3)
 
 pub returns-clause-reply : goal.returns-clause-reply
 returns-clause-reply g c = λ called.
-    let answered = c.answer-told.ensures.answer (asked_by (unframed c.args.refused called c.args.head)) refl in
-    replies g.D.Desk.setting g.D.Desk.seen g.D.Desk.mine g.C.Clock.tick _ _ _ _ (unframed c.args.refused called c.args.head) true _ _ _ _ _ _ _ _ c.answer-told.ensures.setting c.now-moment.ensures (c.unframed-shape.ensures ∙ ap (λ (o : List ℕ). shape_by o (unframed c.args.refused called c.args.head)) c.requires.3) c.bytes.ensures answered c.give_reply.ensures.reply
+    let answered = c.answer-told.ensures.answer true (asked_by (unframed c.args.refused called c.args.head)) (λ known. refl) refl in
+    replies g.D.Desk.setting g.D.Desk.may_be_unready g.D.Desk.seen g.D.Desk.mine g.C.Clock.tick _ _ _ _ (unframed c.args.refused called c.args.head) true _ _ _ _ _ _ _ _ c.answer-told.ensures.setting c.now-moment.ensures (c.unframed-shape.ensures ∙ ap (λ (o : List ℕ). shape_by o (unframed c.args.refused called c.args.head)) c.requires.3) c.bytes.ensures answered c.give_reply.ensures.reply
