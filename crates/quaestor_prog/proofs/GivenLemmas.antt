@@ -1,6 +1,6 @@
 -- clap takes no words of a command without each word that it needs.
-use Rattle.std.proofs.Common.{◌≡◌, ◌⊎◌, ◌<◌, ◌≤◌, ◌&&◌, ℕ, zero, suc, Bool, true, false, not, List, [], ◌∷◌, map, length, is_some, codes, refl, sym, ap, ◌∙◌, subst, arith, inl, inr, get_or}
-use Rattle.std.proofs.lemmas.Bool.{and_parts}
+use Rattle.std.proofs.Common.{◌≡◌, ◌⊎◌, ◌<◌, ◌≤◌, ◌&&◌, ℕ, zero, suc, Bool, true, false, not, nat_lt, List, [], ◌∷◌, map, length, is_some, codes, refl, sym, ap, ◌∙◌, subst, arith, inl, inr, get_or}
+use Rattle.std.proofs.lemmas.Bool.{and_parts, ltb-true}
 use Rattle.std.specs.List.{list_all, slice_index_or}
 use Rattle.std.specs.Str.{bytes_eq}
 use Rattle.clap.specs.Words.{App, Rule, Text, app_of, args_of, found_of, first_of, rows_of, rule_of, IsParsedFrom, IsPlain}
@@ -106,89 +106,57 @@ not_own name upper (inr version) = let first : get_or name 0 0 ≡ 118 = ap (λ 
 some : (name : Text) → 0 < length name → name ≡ [] → ⊥
 some name long empty = let none : length name ≡ 0 = ap length empty in omega (arith, none, long)
 
+-- whether a command has a word of this name at this place, nothing else of this name, and nothing that excludes anything
+abbrev tests : App → ℕ → Text → Bool
+tests app i name =
+    is_ready app.top && (list_all is_ready_leaf app.subs && (list_all (λ (r : Rule). r.is_simple) app.top.rules && (list_all (λ (r : Rule). r.is_free) app.top.rules
+    && (not app.top.subcommand_negates_reqs && (nat_lt i (length app.top.rules) && (is_only i name app.top.rules && (nat_lt 0 (length name) && nat_lt (get_or name 0 0) 97)))))))
+
+-- so it has the word, where the rule there is that of a word
+has_word : (app : App) (i : ℕ) (name : Text) → tests app i name ≡ true → get_or app.top.rules i (word_rule name) ≡ word_rule name → HasWord app i name
+has_word app i name all rule =
+    let ready = and_parts _ _ all in
+    let leaves = and_parts _ _ ready.1 in
+    let simple = and_parts _ _ leaves.1 in
+    let free = and_parts _ _ simple.1 in
+    let negates = and_parts _ _ free.1 in
+    let inside = and_parts _ _ negates.1 in
+    let only = and_parts _ _ inside.1 in
+    let named = and_parts _ _ only.1 in
+    record {
+      ready = ready.0;
+      leaves = leaves.0;
+      simple = simple.0;
+      free = free.0;
+      negates = refuted _ negates.0;
+      inside = ltb-true _ _ inside.0;
+      rule = rule;
+      only = only.0;
+      named = some name (ltb-true _ _ named.0);
+      other = not_own name (ltb-true _ _ named.1);
+    }
+  where
+    refuted : (b : Bool) → not b ≡ true → b ≡ false
+    refuted true p = sym p
+    refuted false p = refl
+
 -- clap has found the address of `serve`
 pub serve_address : (command : Command) (m : ArgMatches) → app_of command ≡ serve_app → IsParsedFrom command m → is_some (first_of (codes "ADDR") (rows_of (found_of m))) ≡ true
-serve_address command m is parsed = word_given serve_app command m is parsed 0 (codes "ADDR") (record {
-  ready = refl;
-  leaves = refl;
-  simple = refl;
-  free = refl;
-  negates = refl;
-  inside = omega arith;
-  rule = refl;
-  only = refl;
-  named = some _ (omega arith);
-  other = not_own _ (omega arith);
-})
+serve_address command m is parsed = word_given serve_app command m is parsed 0 (codes "ADDR") (has_word serve_app 0 (codes "ADDR") refl refl)
 
 -- the three words of `read`
 pub read_address : (command : Command) (m : ArgMatches) → app_of command ≡ read_app → IsParsedFrom command m → is_some (first_of (codes "ADDR") (rows_of (found_of m))) ≡ true
-read_address command m is parsed = word_given read_app command m is parsed 0 (codes "ADDR") (record {
-  ready = refl;
-  leaves = refl;
-  simple = refl;
-  free = refl;
-  negates = refl;
-  inside = omega arith;
-  rule = refl;
-  only = refl;
-  named = some _ (omega arith);
-  other = not_own _ (omega arith);
-})
+read_address command m is parsed = word_given read_app command m is parsed 0 (codes "ADDR") (has_word read_app 0 (codes "ADDR") refl refl)
 
 pub read_level : (command : Command) (m : ArgMatches) → app_of command ≡ read_app → IsParsedFrom command m → is_some (first_of (codes "LEVEL") (rows_of (found_of m))) ≡ true
-read_level command m is parsed = word_given read_app command m is parsed 1 (codes "LEVEL") (record {
-  ready = refl;
-  leaves = refl;
-  simple = refl;
-  free = refl;
-  negates = refl;
-  inside = omega arith;
-  rule = refl;
-  only = refl;
-  named = some _ (omega arith);
-  other = not_own _ (omega arith);
-})
+read_level command m is parsed = word_given read_app command m is parsed 1 (codes "LEVEL") (has_word read_app 1 (codes "LEVEL") refl refl)
 
 pub read_key : (command : Command) (m : ArgMatches) → app_of command ≡ read_app → IsParsedFrom command m → is_some (first_of (codes "KEY") (rows_of (found_of m))) ≡ true
-read_key command m is parsed = word_given read_app command m is parsed 2 (codes "KEY") (record {
-  ready = refl;
-  leaves = refl;
-  simple = refl;
-  free = refl;
-  negates = refl;
-  inside = omega arith;
-  rule = refl;
-  only = refl;
-  named = some _ (omega arith);
-  other = not_own _ (omega arith);
-})
+read_key command m is parsed = word_given read_app command m is parsed 2 (codes "KEY") (has_word read_app 2 (codes "KEY") refl refl)
 
 -- the two words of `world`
 pub world_seed : (command : Command) (m : ArgMatches) → app_of command ≡ world_app → IsParsedFrom command m → is_some (first_of (codes "SEED") (rows_of (found_of m))) ≡ true
-world_seed command m is parsed = word_given world_app command m is parsed 0 (codes "SEED") (record {
-  ready = refl;
-  leaves = refl;
-  simple = refl;
-  free = refl;
-  negates = refl;
-  inside = omega arith;
-  rule = refl;
-  only = refl;
-  named = some _ (omega arith);
-  other = not_own _ (omega arith);
-})
+world_seed command m is parsed = word_given world_app command m is parsed 0 (codes "SEED") (has_word world_app 0 (codes "SEED") refl refl)
 
 pub world_steps : (command : Command) (m : ArgMatches) → app_of command ≡ world_app → IsParsedFrom command m → is_some (first_of (codes "STEPS") (rows_of (found_of m))) ≡ true
-world_steps command m is parsed = word_given world_app command m is parsed 1 (codes "STEPS") (record {
-  ready = refl;
-  leaves = refl;
-  simple = refl;
-  free = refl;
-  negates = refl;
-  inside = omega arith;
-  rule = refl;
-  only = refl;
-  named = some _ (omega arith);
-  other = not_own _ (omega arith);
-})
+world_steps command m is parsed = word_given world_app command m is parsed 1 (codes "STEPS") (has_word world_app 1 (codes "STEPS") refl refl)

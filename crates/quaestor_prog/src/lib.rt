@@ -4,6 +4,8 @@
 mod commands;
 mod help;
 mod list_places;
+mod numbers;
+mod origins;
 mod places;
 mod program;
 mod ranges;

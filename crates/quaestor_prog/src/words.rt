@@ -1,15 +1,16 @@
 //! The words of a command line.
 ghost use Rattle.std.specs.Prelude.{◌≡◌, ℕ, ◌<◌, ◌≤◌, ◌^◌, true, [], Option, Some, is_some, option_map, decimal, map, string_bytes, slice_get, IfSome, IfNone, IfOk, IfErr, IsTrue, ◌↔◌, codes};
-ghost use Rattle.std.specs.List.{list_all};
-ghost use Rattle.clap.specs.Words.{Text, first_of, found_of, kind_of, rows_of};
+ghost use Rattle.clap.specs.Words.{first_of, found_of, kind_of, rows_of};
 ghost use Rattle.client_core.specs.declared.level.Level.{Level as ALevel};
 ghost use Rattle.hub_model.specs.Setting.{Setting};
 ghost use Rattle.quaestor_prog.specs.Commands.{NamesNone, NamesPipe, NamesRead, NamesServe, NamesWorld};
 ghost use Rattle.q_outside.specs.declared.limits.Limits.{Limits as LimitsOf};
-ghost use Rattle.quaestor_prog.specs.Words.{AreLimits, AreOptions, AreOrigins, AreServeOptions, AreWorldOptions, FoundRead, IsCount, Asks, IsArgument, IsArgumentRange, IsNumberIn, ServeAsk, ask_of, asked_with, are_origins, are_web_origins, is_host_byte, is_of_scheme, is_web_origin, IsAnswerOf, IsBadValue, IsClock, IsConfiguration, IsNumber, IsRange, IsServeOf, level_word};
+ghost use Rattle.quaestor_prog.specs.Words.{AreLimits, AreOptions, AreServeOptions, AreWorldOptions, FoundRead, IsCount, Asks, IsArgument, IsArgumentRange, IsNumberIn, ServeAsk, ask_of, asked_with, IsAnswerOf, IsBadValue, IsClock, IsConfiguration, IsNumber, IsRange, IsServeOf, level_word};
 
 use crate::commands::{pipe_command, program_command, read_command, serve_command, world_command};
 use crate::help::HelpText;
+use crate::numbers::{number_within, read_number};
+use crate::origins::origins_of;
 use crate::ranges::{
     DEFAULT_GRACE, DEFAULT_HEAD_TIME, DEFAULT_IDLE, DEFAULT_MATCHERS, DEFAULT_PLACES, DEFAULT_RATE,
     DEFAULT_REPLY_TIME, DEFAULT_WORKERS, MOST_CONNECTIONS, MOST_MATCHERS, MOST_PLACES, MOST_RATE,
@@ -19,7 +20,6 @@ use crate::refusal::{BadValue, Refusal};
 use clap::error::ErrorKind;
 use clap::{ArgMatches, Error};
 use client_core::Level;
-use itoa::Buffer;
 use q_base::{Memory, SharedText};
 use q_outside::Limits;
 use quaestor_server::Config;
@@ -376,69 +376,6 @@ fn connections_of<'a>(matches: &ArgMatches<'a>) -> Result<u64, BadValue<'a>>
     }
 }
 
-/// The text of the origins whose pages may read replies; empty where none is given.
-fn origins_of<'a>(matches: &ArgMatches<'a>) -> Result<&'a str, BadValue<'a>>
-    ensures ok { IfOk result (λ o. AreOrigins (first_of (codes "allow-origin") (rows_of (found_of matches.now))) o.now) }
-    ensures err { IfErr result (λ _. (o : Text) → AreOrigins (first_of (codes "allow-origin") (rows_of (found_of matches.now))) o → ⊥) }
-    ensures value { IfErr result (IsBadValue (rows_of (found_of matches.now))) }
-{
-    match value_of(matches, "allow-origin") {
-        Some(found) => {
-            if are_origins(found) {
-                Ok(found)
-            } else {
-                Err(BadValue::NoOrigins { found })
-            }
-        }
-        None => Ok(""),
-    }
-}
-
-/// Whether a text is a star, or origins with one space between two.
-fn are_origins(text: &str) -> bool
-    ensures { result ≡ are_origins text.now }
-{
-    text == "*" || are_web_origins(text)
-}
-
-/// Whether each part between two spaces is an origin of web pages.
-#[tactic(auto, unfolding(crate::specs::Words::are_web_origins))]
-fn are_web_origins(text: &str) -> bool
-    ensures { result ≡ are_web_origins text.now }
-{
-    text.split(' ')
-        .all(|origin| is_web_origin(origin.as_bytes()))
-}
-
-/// Whether a text is an origin of web pages, without a path and a slash at the end.
-#[tactic(auto, unfolding(crate::specs::Words::is_web_origin))]
-fn is_web_origin(text: &[u8]) -> bool
-    ensures { result ≡ is_web_origin text.now }
-{
-    text.len() <= 255 && (is_of_scheme(b"http://", text) || is_of_scheme(b"https://", text))
-}
-
-/// Whether a text is this scheme and at least one byte of a host.
-fn is_of_scheme(scheme: &[u8], text: &[u8]) -> bool
-    ensures { result ≡ is_of_scheme scheme.now text.now }
-{
-    text.starts_with(scheme) && text.len() > scheme.len() && are_host_bytes(&text[scheme.len()..])
-}
-
-/// Whether each byte may stand in a host and a port.
-fn are_host_bytes(text: &[u8]) -> bool
-    ensures { result ≡ list_all is_host_byte text.now }
-{
-    text.iter().all(|byte| is_host_byte(*byte))
-}
-
-/// Whether a byte may stand in a host and a port.
-fn is_host_byte(byte: u8) -> bool
-    ensures { result ≡ is_host_byte byte }
-{
-    byte > b' ' && byte < 127 && byte != b'"' && byte != b'*' && byte != b',' && byte != b'/'
-}
-
 /// The configuration that the options ask for.
 fn config_of<'a>(matches: &ArgMatches<'a>) -> Result<Config, BadValue<'a>>
     ensures ok { IfOk result (IsConfiguration (rows_of (found_of matches.now))) }
@@ -518,7 +455,7 @@ fn clock_of<'a>(matches: &ArgMatches<'a>) -> Result<Option<u64>, BadValue<'a>>
 }
 
 /// The text that an option was given.
-fn value_of<'a>(matches: &ArgMatches<'a>, option: &str) -> Option<&'a str>
+pub(crate) fn value_of<'a>(matches: &ArgMatches<'a>, option: &str) -> Option<&'a str>
     ensures { option_map (λ s. s.now) result ≡ first_of option.now (rows_of (found_of matches.now)) }
 {
     matches.get_str(option)
@@ -535,53 +472,9 @@ fn word_of<'a>(matches: &ArgMatches<'a>, word: &str) -> &'a str
     }
 }
 
-/// The number that a text shows, where it is from the least to the greatest.
-fn number_within(text: &str, least: u64, most: u64) -> Option<u64>
-    ensures some { IfSome result (λ n. (text.now ≡ decimal n) × (least ≤ n) × (n ≤ most)) }
-    ensures none { IfNone result ((n : ℕ) → text.now ≡ decimal n → least ≤ n → n ≤ most → ⊥) }
-{
-    match read_number(text) {
-        Some(number) => {
-            if number < least {
-                None
-            } else if number > most {
-                None
-            } else {
-                Some(number)
-            }
-        }
-        None => None,
-    }
-}
-
 /// Whether a word is this text.
 pub(crate) fn is_text(word: &String, text: &str) -> bool
     ensures { IsTrue result ↔ (string_bytes word.now ≡ text.now) }
 {
     word.as_str() == text
-}
-
-/// The number that a text shows in decimal digits, without a sign and without leading zeros.
-fn read_number(text: &str) -> Option<u64>
-    ensures some { IfSome result (λ n. (text.now ≡ decimal n) × (n < 2 ^ 64)) }
-    ensures none { IfNone result ((n : ℕ) → n < 2 ^ 64 → text.now ≡ decimal n → ⊥) }
-{
-    match text.parse::<u64>() {
-        Ok(number) => {
-            if shows(number, text) {
-                Some(number)
-            } else {
-                None
-            }
-        }
-        Err(_) => None,
-    }
-}
-
-/// Whether the text is that of the number.
-fn shows(number: u64, text: &str) -> bool
-    ensures { IsTrue result ↔ (text.now ≡ decimal number) }
-{
-    let mut digits = Buffer::new();
-    digits.format(number) == text
 }

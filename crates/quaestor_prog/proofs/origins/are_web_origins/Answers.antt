@@ -3,7 +3,7 @@ use Rattle.std.proofs.Common.{lit<, rules, tests}
 use Rattle.std.proofs.lemmas.Iterator.Search.{all_from_yields_List}
 use Rattle.std.proofs.lemmas.Iterator.Splits.{YieldsList-from_str_split}
 use Rattle.quaestor_prog.specs.Words.{are_web_origins, is_web_origin}
-use Rattle.quaestor_prog.proofs.words.are_web_origins.Goals as goal
+use Rattle.quaestor_prog.proofs.origins.are_web_origins.Goals as goal
 
 pub returns : goal.returns
 unfolding are_web_origins

@@ -1,7 +1,7 @@
 -- the text of a number is read as that number, and no other text shows it
 use Rattle.std.proofs.Common.{◌≡◌, Ok, decimal, ap, ◌∙◌, false, true}
 use Rattle.std.proofs.lemmas.Fmt.{parse-decimal}
-use Rattle.quaestor_prog.proofs.words.read_number.Goals as goal
+use Rattle.quaestor_prog.proofs.numbers.read_number.Goals as goal
 
 pub returns-else-shows-clause-none : goal.returns-else-shows-clause-none
 returns-else-shows-clause-none c = λ n small is.

@@ -1,7 +1,7 @@
 -- the text shows one number
 use Rattle.std.proofs.Common.{arith}
 use Rattle.quaestor_prog.proofs.WordLemmas.{same_number}
-use Rattle.quaestor_prog.proofs.words.number_within.Goals as goal
+use Rattle.quaestor_prog.proofs.numbers.number_within.Goals as goal
 
 pub returns-then-number-least-clause-none : goal.returns-then-number-least-clause-none
 returns-then-number-least-clause-none c = λ n is low high.
