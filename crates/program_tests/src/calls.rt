@@ -6,8 +6,7 @@ use crate::worked::GIVEN;
 use client_session::{LinkAnswer, SessionRefusal};
 use q_base::{Memory, Moment};
 use q_outside::{
-    EndlessSink, FixedClock, Limits, ListDoors, ListSink, ListSource, PlainSource, Script, Served,
-    Sink,
+    Clock, EndlessSink, Limits, ListDoors, ListSink, ListSource, PlainSource, Script, Served, Sink,
 };
 use quaestor_prog::{ListPlaces, Status, run};
 use std::alloc::Global;
@@ -139,9 +138,43 @@ fn handed_of<M: Ledger>(
     Ok(Some(handed))
 }
 
-/// What there is at the address: who comes, and what a link answers, the first answer last.
+/// The moments of a clock that stands at the greatest.
+pub(crate) const STANDING: &[u64] = &[GIVEN];
+
+/// A clock that gives moments in turn, and the last of them again and again.
+#[derive(Clone, Drop)]
+struct Turns {
+    now: u64,
+    left: &'static [u64],
+}
+
+impl Turns {
+    /// The clock of these moments.
+    fn of(moments: &'static [u64]) -> Turns {
+        Turns {
+            now: 0,
+            left: moments,
+        }
+    }
+}
+
+impl Clock for Turns {
+    ghost tick = { λ _ _ _. Unit {0} };
+
+    fn now(&mut self) -> Moment {
+        if let Some((first, others)) = self.left.split_first() {
+            self.now = *first;
+            self.left = others;
+        }
+        Moment::of(self.now)
+    }
+}
+
+/// What there is around a run: the moments of the clock, who comes to the address, and what a link there
+/// answers, the first answer last.
 #[derive(Drop)]
 pub(crate) struct Place {
+    pub moments: &'static [u64],
     pub comers: Option<Comers>,
     pub answers: Option<Vec<LinkAnswer>>,
 }
@@ -166,9 +199,7 @@ where
     requires doors { (doors.name ≡ M.name) × (doors.parts ≡ M.parts) × (0 < M.parts) }
     requires places { (places.name ≡ F.name) × (places.parts ≡ F.parts) × (0 < F.parts) }
 {
-    let mut clock = FixedClock {
-        at: Moment::of(GIVEN),
-    };
+    let mut clock = Turns::of(place.moments);
     let address = String::from_str(alloc, "here")?;
     let doors = doors_of::<M>(alloc, place.comers, doors)?;
     let mut places = ListPlaces::<PlainSource, EndlessSink, M, F>::new(
@@ -260,6 +291,7 @@ pub(crate) fn run_at<R: Threads + Wait + Copy + Send + AllocGlobal + 'static>(
     comers: Option<Comers>,
 ) -> Result<Outcome, Memory> {
     let place = Place {
+        moments: STANDING,
         comers,
         answers: None,
     };
@@ -274,6 +306,7 @@ pub(crate) fn read_over<R: Threads + Wait + Copy + Send + AllocGlobal + 'static>
     capacity: usize,
 ) -> Result<Outcome, Memory> {
     let place = Place {
+        moments: STANDING,
         comers: None,
         answers,
     };
@@ -298,6 +331,21 @@ pub(crate) fn run_over<R: Threads + Wait + Copy + Send + AllocGlobal + 'static>(
     gives: Calls,
 ) -> Result<Outcome, Memory> {
     run_at(rt, line, input, takes, capacity, gives, None)
+}
+
+/// Serves this input by a clock that gives these moments.
+pub(crate) fn pipe_by<R: Threads + Wait + Copy + Send + AllocGlobal + 'static>(
+    rt: &R,
+    input: &[u8],
+    moments: &'static [u64],
+) -> Result<Outcome, Memory> {
+    let place = Place {
+        moments,
+        comers: None,
+        answers: None,
+    };
+    let all = calls_of(WHOLE);
+    run_in(rt, &["pipe"], input, all, AMPLE, all, place)
 }
 
 /// Serves this input at the moment 100.

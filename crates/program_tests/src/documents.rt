@@ -1,10 +1,9 @@
-//! A document that is put and read: in pieces, cut short, and on a page.
+//! A document that is put and read: in pieces, and on a page.
 
 use crate::calls::{AMPLE, WHOLE, assert_run, calls_of, pipe_over};
-use crate::texts::{all_of, joined, page_of, replies_within};
+use crate::texts::{all_of, joined, page_of};
 use crate::worked::{
-    CONTINUE, FILTER, FOUND, GET, MATCH, MATCHED, PLACES, PUT, PUT_AGAIN, PUT_EXPECTING, STORED,
-    STORED_AGAIN,
+    FILTER, FOUND, GET, MATCH, MATCHED, PLACES, PUT, PUT_AGAIN, STORED, STORED_AGAIN,
 };
 use quaestor_prog::Status;
 use std::test::Fail;
@@ -16,22 +15,6 @@ fn a_document_is_put_and_read_in_whatever_pieces(rt: HostRuntime) -> Result<(), 
     for size in [1, 2, 7, WHOLE] {
         let outcome = pipe_over(&rt, &input, calls_of(size), AMPLE, calls_of(size))?;
         assert_run(&rt, &outcome, Status::Done, &replies, size);
-    }
-    Ok(())
-}
-
-#[test]
-fn a_cut_input_is_answered_up_to_its_last_whole_request(rt: HostRuntime) -> Result<(), Fail> {
-    let input = joined(rt.alloc(), PUT_EXPECTING, GET)?;
-    let replies = all_of(rt.alloc(), &[CONTINUE, STORED, FOUND])?;
-    for cut in 0..=input.len() {
-        let outcome = pipe_over(&rt, &input[..cut], calls_of(WHOLE), AMPLE, calls_of(WHOLE))?;
-        let status = if cut == 0 || cut == PUT_EXPECTING.len() || cut == input.len() {
-            Status::Done
-        } else {
-            Status::BadInput
-        };
-        assert_run(&rt, &outcome, status, replies_within(&replies, cut), cut);
     }
     Ok(())
 }

@@ -2,7 +2,8 @@
 ghost use Rattle.std.specs.Prelude.{Some, None};
 
 use crate::calls::{
-    AMPLE, Comers, Place, WHOLE, assert_run, calls_of, pipe_over, run_with, script_of, words_of,
+    AMPLE, Comers, Place, STANDING, WHOLE, assert_run, calls_of, pipe_over, run_with, script_of,
+    words_of,
 };
 use crate::texts::{Row, joined, repeated, reply_of};
 use crate::worked::{CLOSED, ELSEWHERE, EMPTY, GET, NO_ROUTE, NO_ROUTE_LAST, PUT};
@@ -64,6 +65,7 @@ fn run_ended<R: Threads + Wait + Copy + Send + AllocGlobal + 'static>(
     let words = words_of(alloc, line)?;
     let mut source = ListSource::of(joined(alloc, PUT, GET)?, script_of(alloc, calls_of(WHOLE))?);
     let place = Place {
+        moments: STANDING,
         comers: Some(Comers {
             connections: 1,
             failing: None,

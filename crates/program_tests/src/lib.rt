@@ -4,6 +4,8 @@
 #[cfg(test)]
 mod calls;
 #[cfg(test)]
+mod clocks;
+#[cfg(test)]
 mod conversations;
 #[cfg(test)]
 mod documents;
@@ -14,9 +16,13 @@ mod faults;
 #[cfg(test)]
 mod helped;
 #[cfg(test)]
+mod limits;
+#[cfg(test)]
 mod purges;
 #[cfg(test)]
 mod reads;
+#[cfg(test)]
+mod script;
 #[cfg(test)]
 mod serving;
 #[cfg(test)]

@@ -1,13 +1,10 @@
 //! The list of purges.
 
 use crate::calls::{AMPLE, WHOLE, assert_run, calls_of, pipe_over};
-use crate::texts::{Row, reply_of};
-use crate::worked::{GET, MATCH, NO_STORE, PUT, PUT_AGAIN};
+use crate::texts::{Row, all_of, joined, repeated, reply_of};
+use crate::worked::{GET, MATCH, NO_STORE, PURGES, PUT, PUT_AGAIN};
 use quaestor_prog::Status;
 use std::test::Fail;
-
-/// All purges are asked for.
-const PURGES: &[u8] = b"GET /v1/purges HTTP/1.1\r\nHost: a\r\n\r\n";
 
 /// Those from the second one on are asked for.
 const FROM_SECOND: &[u8] = b"GET /v1/purges?from=2 HTTP/1.1\r\nHost: a\r\n\r\n";
@@ -115,5 +112,30 @@ fn a_key_is_purged_once_for_each_outdated_copy(rt: HostRuntime) -> Result<(), Fa
     }
     let outcome = pipe_over(&rt, &input, calls_of(WHOLE), AMPLE, calls_of(WHOLE))?;
     assert_run(&rt, &outcome, Status::Done, &written, 0);
+    Ok(())
+}
+
+/// A reply lists a thousand purges, and no more.
+#[test]
+fn a_thousand_purges_are_listed(rt: HostRuntime) -> Result<(), Fail> {
+    let alloc = rt.alloc();
+    let turn = all_of(alloc, &[GET, PUT, MATCH])?;
+    // How often the key is purged, what is asked for, and how the reply ends behind a thousand keys.
+    let rows: [(usize, &[u8], &[u8]); 3] = [
+        (1_000, PURGES, b"],\"last\":1000}"),
+        (1_001, PURGES, b"],\"last\":1001}"),
+        (1_001, FROM_SECOND, b"],\"last\":1001}"),
+    ];
+    let more = repeated(alloc, b",\"r/shop/p1\"", 999)?;
+    let keys = joined(alloc, b",\"keys\":[\"r/shop/p1\"", &more)?;
+    for (times, asked, last) in rows {
+        let turns = repeated(alloc, &turn, times)?;
+        let puts = joined(alloc, PUT, &turns)?;
+        let input = joined(alloc, &puts, asked)?;
+        let end = joined(alloc, &keys, last)?;
+        let outcome = pipe_over(&rt, &input, calls_of(WHOLE), AMPLE, calls_of(WHOLE))?;
+        assert_eq!(rt; outcome.status, Status::Done, "of {times}");
+        assert!(rt; outcome.written.ends_with(&end), "of {times}");
+    }
     Ok(())
 }

@@ -1,6 +1,6 @@
 //! What is put in, and what is to come out.
 
-use crate::worked::{CONTINUE, GET, PAGE_HEAD, PUT_EXPECTING, STORED};
+use crate::worked::PAGE_HEAD;
 use itoa::Buffer;
 use q_base::Memory;
 use std::alloc::Global;
@@ -52,21 +52,6 @@ pub(crate) fn repeated(alloc: Global, text: &[u8], times: usize) -> Result<Vec<u
         all.extend_from_slice(text)?;
     }
     Ok(all)
-}
-
-/// What is written of two requests, of which the first calls for its 7 bytes, where so much of the input
-/// was taken.
-pub(crate) fn replies_within(replies: &[u8], taken: usize) -> &[u8] {
-    let first = CONTINUE.len() + STORED.len();
-    if taken.saturating_add(7) < PUT_EXPECTING.len() {
-        b""
-    } else if taken < PUT_EXPECTING.len() {
-        CONTINUE
-    } else if taken - PUT_EXPECTING.len() < GET.len() {
-        replies.get(..first).unwrap_or(replies)
-    } else {
-        replies
-    }
 }
 
 /// The reply of a row, at the moment 100. One to HEAD has no body.

@@ -5,6 +5,7 @@ use crate::texts::{all_of, joined};
 use crate::worked::{FOUND, GET, LAST, PUT, STORED, USAGE};
 use q_base::Memory;
 use quaestor_prog::{Status, refusal_of};
+use std::alloc::Global;
 use std::sync::Wait;
 use std::test::Fail;
 use std::thread::Threads;
@@ -138,6 +139,80 @@ fn options_are_numbers_within_their_limits(rt: HostRuntime) -> Result<(), Fail> 
     Ok(())
 }
 
+/// The last number of a command line is taken from the least to the greatest, and not beyond.
+#[test]
+fn numbers_are_taken_up_to_their_limits(rt: HostRuntime) -> Result<(), Fail> {
+    // The words ahead of the number, two numbers that are taken, and two that are not.
+    let rows: [(&[&str], [&str; 2], [&str; 2]); 17] = [
+        (&["pipe", "--bits"], ["10", "22"], ["9", "23"]),
+        (&["pipe", "--hashes"], ["1", "16"], ["0", "17"]),
+        (&["pipe", "--ttl-low"], ["1", "3600"], ["0", "3601"]),
+        (
+            &["pipe", "--ttl-high"],
+            ["1", "31536000"],
+            ["0", "31536001"],
+        ),
+        (
+            &["pipe", "--ttl-high", "31536000", "--ttl-low"],
+            ["1", "31536000"],
+            ["0", "31536001"],
+        ),
+        (&["pipe", "--active"], ["0", "1000000"], ["00", "1000001"]),
+        (
+            &["pipe", "--bytes"],
+            ["65792", "134217728"],
+            ["65791", "134217729"],
+        ),
+        (
+            &["serve", "here", "--places"],
+            ["1", "32768"],
+            ["0", "32769"],
+        ),
+        (&["serve", "here", "--workers"], ["1", "64"], ["0", "65"]),
+        (&["serve", "here", "--matchers"], ["1", "16"], ["0", "17"]),
+        (
+            &["serve", "here", "--connections"],
+            ["1", "1099511627776"],
+            ["0", "1099511627777"],
+        ),
+        (&["serve", "here", "--idle"], ["0", "3600"], ["00", "3601"]),
+        (
+            &["serve", "here", "--head-time"],
+            ["1", "3600"],
+            ["0", "3601"],
+        ),
+        (
+            &["serve", "here", "--reply-time"],
+            ["1", "3600"],
+            ["0", "3601"],
+        ),
+        (
+            &["serve", "here", "--least-rate"],
+            ["1", "1000000"],
+            ["0", "1000001"],
+        ),
+        (&["serve", "here", "--grace"], ["0", "3600"], ["00", "3601"]),
+        (&["world", "7"], ["1", "1000000"], ["0", "1000001"]),
+    ];
+    for (words, within, beyond) in rows {
+        for number in within {
+            assert!(rt; is_taken(rt.alloc(), words, number)?, "{number}");
+        }
+        for number in beyond {
+            assert!(rt; !is_taken(rt.alloc(), words, number)?, "{number}");
+        }
+    }
+    Ok(())
+}
+
+/// Whether a command takes these words with this one behind them.
+fn is_taken<'a>(alloc: Global, words: &'a [&'a str], last: &'a str) -> Result<bool, Memory> {
+    let mut line = Vec::from_slice(alloc, words)?;
+    line.push(last)?;
+    let words = words_of(alloc, &line)?;
+    Ok(refusal_of(alloc, &words)?.is_none())
+}
+
 /// A record that is never written is read.
 const GET_ELSEWHERE: &[u8] = b"GET /v1/d/shop/p2 HTTP/1.1\r\nHost: a\r\n\r\n";
 
@@ -150,11 +225,11 @@ const BEFORE_OTHER: &[u8] =
     b"HTTP/1.1 404 Not Found\r\nDate: Thu, 01 Jan 1970 00:01:40 GMT\r\nContent-Type: application/json\r\nContent-Length: 18\r\nCache-Control: ";
 
 /// A record that is read in the second of its write has the least lifetime, and one that is never
-/// written the greatest; where no key may be active, there is none.
+/// written the greatest; there is none where as many keys are active as may be.
 #[test]
 fn lifetimes_are_within_their_limits(rt: HostRuntime) -> Result<(), Fail> {
     // The line, and twice the lifetime and its end.
-    let rows: [(&[&str], &[u8], &[u8], &[u8], &[u8]); 5] = [
+    let rows: [(&[&str], &[u8], &[u8], &[u8], &[u8]); 7] = [
         (&[], b"max-age=1", b"101", b"max-age=3600", b"3700"),
         (
             &["--ttl-low", "60"],
@@ -178,6 +253,20 @@ fn lifetimes_are_within_their_limits(rt: HostRuntime) -> Result<(), Fail> {
             b"130",
         ),
         (&["--active", "0"], b"no-store", b"100", b"no-store", b"100"),
+        (
+            &["--active", "1"],
+            b"max-age=1",
+            b"101",
+            b"no-store",
+            b"100",
+        ),
+        (
+            &["--active", "2"],
+            b"max-age=1",
+            b"101",
+            b"max-age=3600",
+            b"3700",
+        ),
     ];
     let alloc = rt.alloc();
     let input = all_of(alloc, &[PUT, GET, GET_ELSEWHERE])?;

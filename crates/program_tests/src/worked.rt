@@ -25,6 +25,9 @@ pub const MATCH: &[u8] = b"POST /v1/match HTTP/1.1\r\nHost: a\r\n\r\n";
 /// The page of the outdated keys is fetched.
 pub const FILTER: &[u8] = b"GET /v1/filter HTTP/1.1\r\nHost: a\r\n\r\n";
 
+/// The purges of outdated copies are asked for.
+pub const PURGES: &[u8] = b"GET /v1/purges HTTP/1.1\r\nHost: a\r\n\r\n";
+
 /// The reply to the second put, at the moment 100.
 pub const STORED_AGAIN: &[u8] =
     b"HTTP/1.1 200 OK\r\nDate: Thu, 01 Jan 1970 00:01:40 GMT\r\nContent-Type: application/json\r\nContent-Length: 12\r\nCache-Control: no-store\r\nQuaestor-Commit: 2\r\n\r\n{\"commit\":2}";
@@ -36,6 +39,10 @@ pub const MATCHED: &[u8] =
 /// The head of the reply to a fetch, at the moment 100.
 pub const PAGE_HEAD: &[u8] =
     b"HTTP/1.1 200 OK\r\nDate: Thu, 01 Jan 1970 00:01:40 GMT\r\nContent-Type: application/octet-stream\r\nContent-Length: 16414\r\nCache-Control: no-store\r\n\r\n";
+
+/// The same of a page of 1,024 bits.
+pub const SMALL_PAGE_HEAD: &[u8] =
+    b"HTTP/1.1 200 OK\r\nDate: Thu, 01 Jan 1970 00:01:40 GMT\r\nContent-Type: application/octet-stream\r\nContent-Length: 158\r\nCache-Control: no-store\r\n\r\n";
 
 /// The six positions of `r/shop/p1` among 2^17 bits.
 pub const PLACES: [usize; 6] = [101_896, 6_848, 42_872, 78_896, 114_920, 19_872];
