@@ -28,6 +28,10 @@ example: ## [at once, or 3 min] runs the examples and compares their output with
 	@sh tools/example.sh
 lasts: ## [30 s] tries the server with clients that are silent, slow or many, and ends it
 	@python3 tools/lasts.py
+hostile: ## [1 min] tries the server with a proxy that splits, delays, repeats and cuts, and with garbage; SECONDS=N
+	@python3 tools/hostile.py $(if $(SECONDS),--seconds $(SECONDS))
+faults: ## [1 min] refuses each allocation of a run in turn, and compares what is answered with a run without that
+	@python3 tools/faults.py
 costs: ## [20 s] compares what requests cost that would be dear if a call looked again at what it knows
 	@python3 tools/costs.py
 caches: ## [10 s] tries serve and read against each other, straight and through nginx and Varnish
@@ -55,4 +59,4 @@ shop: ## [at once] starts a server, the example's page and a cache, and prints t
 
 named:
 	@test -n "$(CRATE)" || { echo "say which: CRATE=name" >&2; exit 2; }
-.PHONY: help try test check fmt lint edits plant crate program run example lasts costs caches bench ci dist verify-dist wasm client client-test browser-test shop named
+.PHONY: help try test check fmt lint edits plant crate program run example lasts hostile faults costs caches bench ci dist verify-dist wasm client client-test browser-test shop named
