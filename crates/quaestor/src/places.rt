@@ -1,5 +1,5 @@
 //! Places of this machine, where connections are listened for over TCP, and servers are reached.
-ghost use Rattle.std.specs.Prelude.{◌≡◌};
+ghost use Rattle.std.specs.Prelude.{◌≡◌, IfOk};
 
 use crate::link::{TcpLink, connect};
 use client_session::SessionRefusal;
@@ -45,16 +45,28 @@ impl<R: AllocGlobal + Drop> TcpPlaces<R> {
     }
 }
 
-/// The address at which doors are, as it is told: with the port that the system chose, where it was to.
-/// Where it cannot be told, for want of memory, it is empty.
-fn told_by<R: AllocGlobal + Drop>(rt: &R, doors: &TcpDoors<R>, address: &str) -> String {
-    match address_of(rt, doors, address) {
-        Ok(told) => told,
-        Err(_) => String::new(rt.alloc()),
-    }
+/// Doors at an address, which is noted as it is told.
+fn listening<R>(
+    note: &OnceLock<String>,
+    rt: R,
+    address: &str,
+    limits: Limits,
+) -> io::Result<TcpDoors<R>>
+where
+    R: Net<Listener = TcpListener, Stream = TcpStream>
+        + Files<File = File>
+        + AllocGlobal
+        + Copy
+        + Drop,
+    ensures closings { IfOk result (λ d. d.closings ≡ 0) }
+    ensures faults { IfOk result (λ d. d.faults ≡ 0) }
+{
+    let doors = TcpDoors::bind(rt, address, limits)?;
+    let _ = note.try_set(address_of(&rt, &doors, address)?);
+    Ok(doors)
 }
 
-/// The same, or why it cannot be told.
+/// The address at which doors are, as it is told: with the port that the system chose, where it was to.
 fn address_of<R: AllocGlobal + Drop>(
     rt: &R,
     doors: &TcpDoors<R>,
@@ -67,19 +79,6 @@ fn address_of<R: AllocGlobal + Drop>(
         }
         None => Ok(String::from_str(rt.alloc(), address)?),
     }
-}
-
-/// The doors, whose address is noted as it is told.
-fn noted<R: AllocGlobal + Drop>(
-    note: &OnceLock<String>,
-    rt: &R,
-    doors: TcpDoors<R>,
-    address: &str,
-) -> TcpDoors<R>
-    ensures { result ≡ doors }
-{
-    let _ = note.try_set(told_by(rt, &doors, address));
-    doors
 }
 
 /// The address before its port, where the system is to choose the port.
@@ -119,8 +118,8 @@ where
 
     fn listen(&mut self, address: &str, limits: Limits) -> Result<TcpDoors<R>, Failed> {
         for _ in self.rt.forever() {
-            match TcpDoors::bind(self.rt, address, limits) {
-                Ok(doors) => return Ok(noted(&self.address, &self.rt, doors, address)),
+            match listening(&self.address, self.rt, address, limits) {
+                Ok(doors) => return Ok(doors),
                 Err(error) => {
                     if self.faults < u64::MAX {
                         let _ = eprint!(self.rt; "quaestor: cannot listen on {address}: {error}\n");
