@@ -6,6 +6,8 @@ mod caches;
 #[cfg(test)]
 mod choices;
 #[cfg(test)]
+mod hostile;
+#[cfg(test)]
 mod runs;
 #[cfg(test)]
 mod sessions;

@@ -14,7 +14,7 @@ use Rattle.world_core.specs.Link.{AreHeld, HoldsIssued, IsHeldReply}
 use Rattle.world_core.proofs.IssuedLemmas.{OfPrefixes, held_later}
 
 -- of another spelling of the key
-of_key : (s : State) (key other : KeyShape) (reply : Reply) → same_key key other ≡ true → IsHeldReply s other reply → IsHeldReply s key reply
+pub of_key : (s : State) (key other : KeyShape) (reply : Reply) → same_key key other ≡ true → IsHeldReply s other reply → IsHeldReply s key reply
 of_key s key other reply same h = subst (λ (k : KeyShape). IsHeldReply s k reply) (sym ((same_key-Decides key other).0 same)) h
 
 to_key : (s : State) (key other : KeyShape) (reply : Reply) → same_key key other ≡ true → IsHeldReply s key reply → IsHeldReply s other reply

@@ -5,6 +5,7 @@ mod RunLemmas
 mod LinkLemmas
 mod ThroughLemmas
 mod PullLemmas
+mod HostileLemmas
 mod WorldLemmas
 mod StepLemmas
 mod TextLemmas

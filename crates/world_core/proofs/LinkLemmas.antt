@@ -34,7 +34,7 @@ use Rattle.world_core.proofs.CacheLemmas.{holds_later}
 use Rattle.world_core.proofs.IssuedLemmas.{OfPrefixes}
 
 -- no count rises
-counted : {X : Type 0} (v w : WorldLinkView) (told : Result X LinkRefusal) → IfErr told IsUncounted → HasCounted (seen_as v) (seen_as w) (reason_of told)
+pub counted : {X : Type 0} (v w : WorldLinkView) (told : Result X LinkRefusal) → IfErr told IsUncounted → HasCounted (seen_as v) (seen_as w) (reason_of told)
 counted v w (Ok x) h = record { faults = omega arith; bad_replies = omega arith; rises = tt }
 counted v w (Err link.Fault) h = absurd h
 counted v w (Err (link.BadReply place)) h = absurd h
@@ -43,7 +43,7 @@ counted v w (Err (link.Status code)) h = record { faults = omega arith; bad_repl
 
 -- ---- reads
 
-read_of : (g : Setting) (t : StoreView) (key : KeyShape) (told : Result Reply LinkRefusal) → t.setting ≡ g → (s : StoreView) (no_cache : Bool) → IsAnswerOf s t (ask.Read key no_cache) told → IsReadReply g t.entries key told
+pub read_of : (g : Setting) (t : StoreView) (key : KeyShape) (told : Result Reply LinkRefusal) → t.setting ≡ g → (s : StoreView) (no_cache : Bool) → IsAnswerOf s t (ask.Read key no_cache) told → IsReadReply g t.entries key told
 read_of g t key (Ok reply) same s no_cache h = subst (λ (k : Setting). IsIssued k t.entries key reply) same h.issued
 read_of g t key (Err refused) same s no_cache h = subst (λ (r : LinkRefusal). IsSincere r) (sym h) tt
 
@@ -98,14 +98,14 @@ put_of behind v w collection id text condition reply (inr none) =
 
 -- ---- any ask
 
-through_of : Behind → (v w : WorldLinkView) (asked : ClientAsk) (told : Result Reply LinkRefusal) → w.store.setting ≡ v.store.setting → IsAnswerOf v.store w.store asked told
+pub through_of : Behind → (v w : WorldLinkView) (asked : ClientAsk) (told : Result Reply LinkRefusal) → w.store.setting ≡ v.store.setting → IsAnswerOf v.store w.store asked told
     → IsOf v.store.setting v.store.entries w.store.entries (through asked told)
 through_of behind v w (ask.Read key no_cache) told same of = read_of v.store.setting w.store key told same v.store no_cache of
 through_of behind v w ask.Page told same of = tt
 through_of behind v w (ask.Put collection id text condition) told same of = tt
 through_of behind v w (ask.Delete collection id condition) told same of = tt
 
-direct_of : Behind → (v w : WorldLinkView) (asked : ClientAsk) (told : Result Reply LinkRefusal) → w.store.setting ≡ v.store.setting → IsAnswerOf v.store w.store asked told → IsAnswer v w asked told
+pub direct_of : Behind → (v w : WorldLinkView) (asked : ClientAsk) (told : Result Reply LinkRefusal) → w.store.setting ≡ v.store.setting → IsAnswerOf v.store w.store asked told → IsAnswer v w asked told
     → IsOf v.store.setting v.store.entries w.store.entries (direct asked told)
 direct_of behind v w (ask.Read key no_cache) told same of is = read_of v.store.setting w.store key told same v.store no_cache of
 direct_of behind v w ask.Page told same of is = tt
@@ -116,7 +116,7 @@ direct_of behind v w (ask.Delete collection id condition) (Ok reply) same of is 
 direct_of behind v w (ask.Delete collection id condition) (Err refused) same of is = tt
 
 -- the call, with what is kept of its reply
-went : (v w : WorldLinkView) (x : Exchange) → HasGrown v.store w.store → IsOf v.store.setting v.store.entries w.store.entries x → HasCounted (seen_as v) (seen_as w) (refusal_of x) → w.last ≡ last_after v.last x → Went (seen_as v) (seen_as w) x
+pub went : (v w : WorldLinkView) (x : Exchange) → HasGrown v.store w.store → IsOf v.store.setting v.store.entries w.store.entries x → HasCounted (seen_as v) (seen_as w) (refusal_of x) → w.last ≡ last_after v.last x → Went (seen_as v) (seen_as w) x
 went v w x grown of counts kept = record {
   setting = grown.setting;
   tells = (w.store.entries, refl, record { grew = grown.grew; legal = λ before. subst (λ (g : Setting). IsLegal g w.store.entries) grown.setting (grown.legal before); of = of });

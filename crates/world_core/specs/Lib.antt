@@ -1,4 +1,5 @@
 pub mod Draws
+pub mod Hostile
 pub mod Lines
 pub mod Link
 pub mod Products

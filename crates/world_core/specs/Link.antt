@@ -200,13 +200,17 @@ pub record IsPulled (old new : WorldLinkView) : Type 0 where
 abbrev pub capacity : ℕ
 capacity = 500
 
--- a store with empty caches
-abbrev pub IsStart : StoreView → WorldLinkView → Type 0
-IsStart store v = v ≡ record {
+-- a store with these caches, of which nothing was asked
+abbrev pub link_over : StoreView → Held → Held → WorldLinkView
+link_over store first second = record {
   store = store;
-  first = empty_cache capacity Honest;
-  second = empty_cache capacity Honest;
+  first = first;
+  second = second;
   is_second = false;
   purges = 0;
   last = record { through = None; direct = None; page = None };
 }
+
+-- a store with empty caches
+abbrev pub IsStart : StoreView → WorldLinkView → Type 0
+IsStart store v = v ≡ link_over store (empty_cache capacity Honest) (empty_cache capacity Honest)

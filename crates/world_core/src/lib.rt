@@ -2,6 +2,7 @@
 #![tactic(auto)]
 
 mod generator;
+mod hostile;
 mod line;
 mod link;
 mod product;
@@ -13,6 +14,7 @@ mod text;
 mod watch;
 mod world;
 
+pub use hostile::{HostileLink, Move};
 pub use line::ReadLine;
 pub use link::WorldLink;
 pub use step::{Step, steps_of};

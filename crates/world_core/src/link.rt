@@ -4,17 +4,17 @@
 //! is then the answer; any other reply is offered to the cache, and is the answer. Writes and pages go to
 //! the store. What the caches hold is what the store has issued, so a client that reads through them by
 //! a page of the store reads what its history says.
-ghost use Rattle.std.specs.Prelude.{◌≡◌, ◌⊎◌, ◌+◌, ◌<◌, ◌^◌, fold, length, is_some, if◌then◌else◌, IfErr, IfOk, IfSome, OnOk, Some, None, false, true};
+ghost use Rattle.std.specs.Prelude.{◌≡◌, [], ◌⊎◌, ◌+◌, ◌<◌, ◌^◌, fold, length, is_some, if◌then◌else◌, IfErr, IfOk, IfSome, OnOk, Some, None, false, true};
 ghost use Rattle.std.specs.Mem.{manually_drop_value};
 ghost use Rattle.cache_model.specs.Cache.{empty_cache, held_by, looked_up, purged};
-ghost use Rattle.cache_model.specs.declared.manner.Manner.TheVariants.{Honest};
 ghost use Rattle.client_session.specs.declared.ask.LinkRefusal.TheVariants.{Memory as out_of_memory};
 ghost use Rattle.q_doc.specs.Printed.{printed};
+ghost use Rattle.hub_model.specs.Legal.{IsLegal};
 ghost use Rattle.hub_model.specs.Record.{record_of};
-ghost use Rattle.world_core.specs.Link.{capacity, evicted, linked, turned, HoldsIssued, IsAnswer, IsAnswerOf, IsHeldReply, IsPageAnswer, IsPulled, IsPulledSome, IsPut, IsRead, IsReadThrough, IsSomeRead, IsStart, IsUncounted, IsWrite, settled, told_by};
+ghost use Rattle.world_core.specs.Link.{capacity, evicted, link_over, linked, turned, HoldsIssued, IsAnswer, IsAnswerOf, IsHeldReply, IsPageAnswer, IsPulled, IsPulledSome, IsPut, IsRead, IsReadThrough, IsSomeRead, IsUncounted, IsWrite, settled, told_by};
 ghost use Rattle.world_core.specs.Store.{HasGrown, advanced, after_match, commits_in, state_in};
 
-use crate::reply::bare_reply;
+use crate::reply::{bare_reply, copy_of, linked, page_linked};
 use crate::store::Store;
 use cache_model::{Answer, Cache, Manner};
 use client_model::Reply;
@@ -87,9 +87,9 @@ impl WorldLink {
         first: ManuallyDrop<Cache>,
         second: ManuallyDrop<Cache>,
     ) -> WorldLink
-        requires first_is_empty { manually_drop_value first ≡ empty_cache capacity Honest }
-        requires second_is_empty { manually_drop_value second ≡ empty_cache capacity Honest }
-        ensures { IsStart store result }
+        requires first_is_empty { (manually_drop_value first).pairs ≡ [] }
+        requires second_is_empty { (manually_drop_value second).pairs ≡ [] }
+        ensures { result ≡ link_over store (manually_drop_value first) (manually_drop_value second) }
     {
         let first = ManuallyDrop::into_inner(first);
         let second = ManuallyDrop::into_inner(second);
@@ -118,7 +118,7 @@ impl WorldLink {
     }
 
     /// A read through the cache.
-    fn read(&mut self, key: &Key, no_cache: bool) -> Result<Reply, Memory>
+    pub(crate) fn read(&mut self, key: &Key, no_cache: bool) -> Result<Reply, Memory>
         ensures ok { IfOk result (λ reply. IsRead self.old self.new key.now no_cache reply) }
         ensures told { IfOk result (λ reply. IsHeldReply (state_in self.new.store) key.now reply) }
         ensures grown { HasGrown self.old.store self.new.store }
@@ -134,7 +134,7 @@ impl WorldLink {
     }
 
     /// What is answered to an ask: a read goes through the cache, and a write to the store.
-    fn answer(&mut self, ask: &ClientAsk) -> Result<Reply, LinkRefusal>
+    pub(crate) fn answer(&mut self, ask: &ClientAsk) -> Result<Reply, LinkRefusal>
         ensures answer { IsAnswer self.old self.new ask.now result }
         ensures told { IsAnswerOf self.old.store self.new.store ask.now result }
         ensures refused { IfErr result IsUncounted }
@@ -223,7 +223,7 @@ impl WorldLink {
     }
 
     /// The page of the store. The caches stay.
-    fn fetched(&mut self) -> Result<Page, LinkRefusal>
+    pub(crate) fn fetched(&mut self) -> Result<Page, LinkRefusal>
         ensures answered { IsPageAnswer self.old self.new result }
         ensures refused { IfErr result (λ refused. refused ≡ out_of_memory) }
         ensures grown { HasGrown self.old.store self.new.store }
@@ -236,14 +236,14 @@ impl WorldLink {
     }
 
     /// The last replies.
-    fn last(&self) -> LastReplies
+    pub(crate) fn last(&self) -> LastReplies
         ensures { result ≡ self.now.last }
     {
         self.last
     }
 
     /// Keeps the last replies.
-    fn keep(&mut self, last: LastReplies)
+    pub(crate) fn keep(&mut self, last: LastReplies)
         ensures { self.new ≡ record self.old { last = last } }
     {
         self.last = last;
@@ -310,6 +310,13 @@ impl WorldLink {
         self.first.drop_last();
     }
 
+    /// The history is legal.
+    pub(crate) fn legal(&self)
+        ensures { IsLegal self.now.store.setting self.now.store.entries }
+    {
+        self.store.legal();
+    }
+
     /// The number of commits.
     pub(crate) fn commits(&self) -> Commit
         ensures { result ≡ commits_in self.now.store }
@@ -326,31 +333,11 @@ impl WorldLink {
 }
 
 /// A cache that holds nothing yet.
-pub(crate) fn new_cache(alloc: Global) -> Result<ManuallyDrop<Cache>, Memory>
-    ensures { IfOk result (λ cache. manually_drop_value cache ≡ empty_cache capacity Honest) }
+pub(crate) fn new_cache(alloc: Global, manner: Manner) -> Result<ManuallyDrop<Cache>, Memory>
+    ensures { IfOk result (λ cache. manually_drop_value cache ≡ empty_cache capacity manner) }
 {
-    let cache = Cache::new(alloc, CAPACITY, Manner::Honest)?;
+    let cache = Cache::new(alloc, CAPACITY, manner)?;
     Ok(ManuallyDrop::new(cache))
-}
-
-/// The store's answer as that of the link.
-fn linked(told: Result<Reply, Memory>) -> Result<Reply, LinkRefusal>
-    ensures { result ≡ linked told }
-{
-    match told {
-        Ok(reply) => Ok(reply),
-        Err(_) => Err(LinkRefusal::Memory),
-    }
-}
-
-/// The same of a page.
-fn page_linked(told: Result<Page, Memory>) -> Result<Page, LinkRefusal>
-    ensures { result ≡ linked told }
-{
-    match told {
-        Ok(page) => Ok(page),
-        Err(_) => Err(LinkRefusal::Memory),
-    }
 }
 
 /// A change of a record.
@@ -463,23 +450,6 @@ fn held(cache: &Cache, key: &Key) -> Result<Reply, Memory>
         Some(reply) => copy_of(reply),
         None => Err(Memory),
     }
-}
-
-/// The same reply. Both share the body.
-fn copy_of(reply: &Reply) -> Result<Reply, Memory>
-    ensures { IfOk result (λ copy. copy ≡ reply.now) }
-{
-    let body = reply.body.clone()?;
-    Ok(Reply {
-        status: reply.status,
-        commit: reply.commit,
-        version: reply.version,
-        until: reply.until,
-        date: reply.date,
-        max_age: reply.max_age,
-        tag: reply.tag,
-        body,
-    })
 }
 
 impl Link for WorldLink {

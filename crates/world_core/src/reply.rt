@@ -1,8 +1,11 @@
 //! The store's answers as the replies that caches and clients see.
 ghost use Rattle.std.specs.Prelude.{◌≡◌, IfOk};
+ghost use Rattle.world_core.specs.Link.{linked};
 ghost use Rattle.world_core.specs.Replies.{bare_reply, done_status, max_age_of, read_reply, write_reply};
 
 use client_model::Reply;
+use client_session::LinkRefusal;
+use flat_snapshot::Page;
 use hub_desk::{Answer, Found, Outcome, Written};
 use q_base::{Commit, Memory, Moment, SharedText};
 use std::alloc::Global;
@@ -87,4 +90,41 @@ pub fn bare_reply(alloc: Global, status: u16, commit: Commit) -> Result<Reply, M
         tag: None,
         body: SharedText::of(alloc, Vec::new(alloc))?,
     })
+}
+
+/// The same reply. Both share the body.
+pub fn copy_of(reply: &Reply) -> Result<Reply, Memory>
+    ensures { IfOk result (λ copy. copy ≡ reply.now) }
+{
+    let body = reply.body.clone()?;
+    Ok(Reply {
+        status: reply.status,
+        commit: reply.commit,
+        version: reply.version,
+        until: reply.until,
+        date: reply.date,
+        max_age: reply.max_age,
+        tag: reply.tag,
+        body,
+    })
+}
+
+/// The store's answer as that of the link.
+pub fn linked(told: Result<Reply, Memory>) -> Result<Reply, LinkRefusal>
+    ensures { result ≡ linked told }
+{
+    match told {
+        Ok(reply) => Ok(reply),
+        Err(_) => Err(LinkRefusal::Memory),
+    }
+}
+
+/// The same of a page.
+pub fn page_linked(told: Result<Page, Memory>) -> Result<Page, LinkRefusal>
+    ensures { result ≡ linked told }
+{
+    match told {
+        Ok(page) => Ok(page),
+        Err(_) => Err(LinkRefusal::Memory),
+    }
 }

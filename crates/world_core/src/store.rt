@@ -8,7 +8,6 @@ ghost use Rattle.hub_desk.specs.Desk.{most_entries};
 ghost use Rattle.hub_model.specs.Legal.{IsLegal};
 ghost use Rattle.hub_model.specs.Record.{record_of};
 ghost use Rattle.hub_model.specs.Reply.{told_of};
-ghost use Rattle.hub_model.specs.Setting.{default_setting};
 ghost use Rattle.hub_model.specs.Step.{state_of};
 ghost use Rattle.world_core.specs.Replies.{read_reply, write_reply};
 ghost use Rattle.world_core.specs.Store.{HasGrown, advanced, after_match, after_page, after_purges, after_write, answer_to, answer_with, commits_in, entry_with, page_now, purges_now, state_in, store_of, tags_of, with_entries, with_read, written_to};
@@ -55,14 +54,13 @@ impl Model for Store {
 }
 
 impl Store {
-    /// A store of no entry, of the default configuration.
-    pub fn new(alloc: Global, moment: Moment) -> Result<Store, Memory>
-        ensures setting { IfOk result (λ store. store.setting ≡ default_setting) }
+    /// A store of no entry.
+    pub fn new(alloc: Global, config: Config, moment: Moment) -> Result<Store, Memory>
+        ensures setting { IfOk result (λ store. store.setting ≡ config) }
         ensures empty { IfOk result (λ store. store.entries ≡ []) }
         ensures moment { IfOk result (λ store. store.moment ≡ moment) }
     {
-        let config = Config::default();
-        // It is within its limits.
+        // The configuration is within its limits.
         let _bits = config.log2_bits();
         let room = PageRoom::new(alloc, &config)?;
         let desk = Owned::new(alloc, config)?;

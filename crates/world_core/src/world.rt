@@ -16,9 +16,10 @@ use crate::product::{PRODUCTS, collection, product, product_id};
 use crate::step::Step;
 use crate::store::Store;
 use crate::watch::{Silent, Watch};
+use cache_model::Manner;
 use client_core::Level;
 use client_session::{ReadOut, Session};
-use hub_desk::{Change, Condition};
+use hub_desk::{Change, Condition, Config};
 use hub_model::laws::{front_is_within, more_entries, no_entry_is_legal};
 use q_base::{Commit, Memory, Moment, Name};
 use q_doc::Doc;
@@ -76,8 +77,8 @@ impl World {
         let first = new_session(alloc, Level::Session)?;
         let second = new_session(alloc, Level::Causal)?;
         let third = new_session(alloc, Level::Session)?;
-        let through = new_cache(alloc)?;
-        let behind = new_cache(alloc)?;
+        let through = new_cache(alloc, Manner::Honest)?;
+        let behind = new_cache(alloc, Manner::Honest)?;
         let store = first_store(alloc)?;
         store.legal();
         let link = WorldLink::new(alloc, store, through, behind);
@@ -386,7 +387,7 @@ fn first_store(alloc: Global) -> Result<Store, Memory>
     ensures { IfOk result IsFirstStore }
 {
     no_entry_is_legal();
-    let mut store = Store::new(alloc, Moment::of(BEGINNING))?;
+    let mut store = Store::new(alloc, Config::default(), Moment::of(BEGINNING))?;
     match fill(alloc, &mut store) {
         Ok(()) => Ok(store),
         Err(error) => {
