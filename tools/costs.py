@@ -60,13 +60,18 @@ def first(collection="shop", below=None):
     return f"/v1/q/{collection}?f={condition}&n=10&k=ids"
 
 
-def ended(process, requests, written):
-    """The CPU time of a run in seconds, where each request was answered as asked for."""
+def reads_after_writes(target):
+    """Writes a record, and reads what is asked for after each write."""
+    return puts(100, 1) + [it for at in range(4_000) for it in (put("p1", f'{{"a":{at}}}'), get(target))]
+
+
+def ended(process, requests, written, statuses=rb"20[01]|304"):
+    """The CPU time of a run in seconds, where each request was answered as asked for, with one of these statuses."""
     _, status, used = os.wait4(process.pid, 0)
     process.returncode = os.waitstatus_to_exitcode(status)
     wants(process.returncode == 0, f"its status is {process.returncode}")
     written.seek(0)
-    found = len(re.findall(rb"HTTP/1\.1 (?:20[01]|304) ", written.read()))
+    found = len(re.findall(rb"HTTP/1\.1 (?:%b) " % statuses, written.read()))
     wants(found == requests, f"{found} of {requests} requests were answered as asked for")
     return used.ru_utime + used.ru_stime
 
@@ -107,8 +112,13 @@ def a_step_of_an_active_query_looks_at_no_other_document():
 
 @test
 def a_read_of_an_active_query_goes_on_from_the_one_before():
-    asks = puts(100, 1) + [it for at in range(4_000) for it in (put("p1", f'{{"a":{at}}}'), get(first()))]
-    others = puts(100, 1) + [it for at in range(4_000) for it in (put("p1", f'{{"a":{at}}}'), get(first("none")))]
+    asks, others = reads_after_writes(first()), reads_after_writes(first("none"))
+    return compare(lambda: time_of(asks), lambda: time_of(others))
+
+
+@test
+def a_read_of_an_active_query_copies_no_commit_again():
+    asks, others = reads_after_writes(first("none")), reads_after_writes("/v1/d/shop/p2")
     return compare(lambda: time_of(asks), lambda: time_of(others))
 
 
@@ -158,24 +168,44 @@ def give(process, written, asks, replies):
     raise Wrong(f"{replies_in(written)} of {replies} requests were answered within ten seconds")
 
 
-def expiry_of(changes):
-    """The CPU time of the request behind the expiry of the copies of 3,300 records, which were changed in this order."""
-    asks = [*puts(3_300, 1), MATCH, *[get(f"/v1/d/shop/p{it}") for it in range(3_300)], *changes, MATCH]
-    with tempfile.TemporaryFile() as written:
-        process = start(subprocess.PIPE, written, ["--ttl-low", "3", "--ttl-high", "3"])
-        before = give(process, written, asks, len(asks))
-        time.sleep(3.5)
-        after = give(process, written, [get("/v1/stats")], len(asks) + 1)
-        process.stdin.close()
-        ended(process, len(asks) + 1, written)
-    return after - before
+def expiry_of(asks):
+    """The CPU time of the request behind the expiry of all copies of these requests, which were issued within a second,
+    so that they expire in one order."""
+    for _ in range(TIMES):
+        with tempfile.TemporaryFile() as written:
+            process = start(subprocess.PIPE, written, ["--ttl-low", "3", "--ttl-high", "3"])
+            time.sleep(-time.time() % 1)
+            before = give(process, written, asks, len(asks))
+            time.sleep(3.5)
+            after = give(process, written, [get("/v1/stats")], len(asks) + 1)
+            process.stdin.close()
+            ended(process, len(asks) + 1, written, rb"20[01]|404")
+            written.seek(0)
+            if len(set(re.findall(rb"Quaestor-Until: (\d+)", written.read()))) == 1:
+                return after - before
+    raise Wrong(f"{TIMES} times the copies were not issued within a second")
+
+
+def reads_of_none(count):
+    """Reads so many records that are not there."""
+    return [get(f"/v1/d/shop/p{it}") for it in range(count)]
 
 
 @test
 def keys_whose_copies_expire_together_are_dropped_in_any_order():
-    changes = puts(3_300, 2)
-    one, other, what = least_of(lambda: expiry_of(changes), lambda: expiry_of(changes[::-1]), 2 * TIMES)
+    reads, changes = reads_of_none(4_900), puts(4_900, 1)
+    asks, others = [*reads, *changes, MATCH], [*reads, *changes[::-1], MATCH]
+    one, other, what = least_of(lambda: expiry_of(asks), lambda: expiry_of(others), 2 * TIMES)
     wants(max(one, other) <= MOST * min(one, other), f"it takes {what}")
+    return what
+
+
+@test
+def queries_whose_copies_expire_together_are_dropped_like_records():
+    asks = [get(first(below=it)) for it in range(4_900)]
+    others = [*reads_of_none(4_900), *puts(4_900, 1), MATCH]
+    found, wanted, what = least_of(lambda: expiry_of(asks), lambda: expiry_of(others), 2 * TIMES)
+    wants(found <= MOST * wanted, f"it takes {what}")
     return what
 
 
