@@ -1,0 +1,10 @@
+pub mod GateLemmas
+pub mod HeadLemmas
+pub mod ImageLemmas
+pub mod LawLemmas
+pub mod NextLemmas
+pub mod OpenLemmas
+pub mod RecordLemmas
+pub mod StandsLemmas
+pub mod StartLemmas
+pub mod Steps

@@ -1,0 +1,14 @@
+pub mod Appends
+pub mod Batches
+pub mod Frames
+pub mod Gates
+pub mod Heads
+pub mod Images
+pub mod Logs
+pub mod Opened
+pub mod Openings
+pub mod Puts
+pub mod Read
+pub mod Records
+pub mod Starts
+pub mod Stores
