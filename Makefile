@@ -32,6 +32,8 @@ hostile: ## [1 min] tries the server with a proxy that splits, delays, repeats a
 	@python3 tools/hostile.py $(if $(SECONDS),--seconds $(SECONDS))
 faults: ## [1 min] refuses each allocation of a run in turn, and compares what is answered with a run without that
 	@python3 tools/faults.py
+soak: ## [30 min] writes at full speed over 1,000 ids, and compares the memory at the end with that at the beginning
+	@python3 tools/soak.py
 costs: ## [20 s] compares what requests cost that would be dear if a call looked again at what it knows
 	@python3 tools/costs.py
 caches: ## [10 s] tries serve and read against each other, straight and through nginx and Varnish
@@ -59,4 +61,4 @@ shop: ## [at once] starts a server, the example's page and a cache, and prints t
 
 named:
 	@test -n "$(CRATE)" || { echo "say which: CRATE=name" >&2; exit 2; }
-.PHONY: help try test check fmt lint edits plant crate program run example lasts hostile faults costs caches bench ci dist verify-dist wasm client client-test browser-test shop named
+.PHONY: help try test check fmt lint edits plant crate program run example lasts hostile faults soak costs caches bench ci dist verify-dist wasm client client-test browser-test shop named

@@ -96,7 +96,8 @@ def reply(client):
             return came
         came += more
     head, _, body = came.partition(b"\r\n\r\n")
-    left = int(re.search(rb"(?i)content-length: (\d+)", head)[1]) - len(body)
+    size = re.search(rb"(?i)content-length: (\d+)", head)
+    left = int(size[1]) - len(body) if size else 0
     while left > 0:
         more = client.recv(65536)
         if not more:
@@ -278,6 +279,120 @@ def the_front_reaches_each_commit_by_the_matchers_alone():
             wants(time.monotonic() < until, f"after 2 seconds it said {said!r}")
             client.sendall(GET)
             said = reply(client)
+
+
+def status_of(client, request):
+    """The status of the reply to a request."""
+    client.sendall(request)
+    came = reply(client)
+    wants(is_whole(came) or came.startswith(b"HTTP/1.1 304 "), f"a reply is cut off: {came[:80]!r}")
+    return int(came[9:12])
+
+
+def horizon_of(server):
+    """The commit up to which old changes were dropped, once they were dropped up to the front."""
+    with server.client() as it:
+        it.sendall(b"POST /v1/horizon HTTP/1.1\r\nHost: a\r\n\r\n")
+        found = re.search(rb'\{"horizon":(\d+)\}$', reply(it))
+        wants(found, "the horizon was not told")
+        return int(found[1])
+
+
+def knows(client, tag):
+    """Whether the server knows the result of a record at a commit, where it is the same as now."""
+    status = status_of(client, b'GET /v1/d/shop/kept HTTP/1.1\r\nHost: a\r\nIf-None-Match: "%d"\r\n\r\n' % tag)
+    wants(status in (200, 304), f"a read was answered {status}")
+    return status == 304
+
+
+def takes_again(client, request):
+    """That a write of a store that was full is taken, where it is sent until it is."""
+    until = time.monotonic() + 3
+    while (status := status_of(client, request)) not in (200, 201):
+        wants(status == 507 and time.monotonic() < until, f"after 3 seconds a write was answered {status}")
+        time.sleep(0.01)
+
+
+@test
+def a_small_store_does_not_fill():
+    # A connection ends after 10,000 requests.
+    with Server("--bytes", "262144") as it:
+        for first in (0, 10_000):
+            with it.client() as client:
+                for n in range(first, first + 10_000):
+                    status = status_of(client, put(b"/v1/d/shop/p%d" % (n % 10), 200))
+                    wants(status in (200, 201), f"write {n} was answered {status}")
+
+
+@test
+def a_large_document_of_a_small_store_is_replaced():
+    with Server("--bytes", "65792") as it, it.client() as client:
+        for _ in range(20):
+            takes_again(client, put(b"/v1/d/shop/p1", 24_000))
+
+
+@test
+def a_store_that_was_filled_in_one_go_takes_writes_again():
+    with Server("--bytes", "65792") as it, it.client() as client:
+        client.sendall(put(b"/v1/d/shop/p1", 1_000) * 500)
+        came = b""
+        # the body of each reply has one brace at its end, and no head has one
+        while came.count(b"}") < 500:
+            more = client.recv(65536)
+            wants(more, "it ended before all writes were answered")
+            came += more
+        takes_again(client, put(b"/v1/d/shop/p1", 1_000))
+
+
+@test
+def a_store_full_of_what_lives_has_room_behind_a_deletion():
+    with Server("--bytes", "65792") as it, it.client() as client:
+        many = 0
+        while (status := status_of(client, put(b"/v1/d/shop/p%d" % many, 5_000))) == 201:
+            many += 1
+        wants(status == 507 and many == 12, f"record {many} was answered {status}")
+        status = status_of(client, b"DELETE /v1/d/shop/p0 HTTP/1.1\r\nHost: a\r\n\r\n")
+        wants(status == 200, f"a deletion was answered {status}")
+        takes_again(client, put(b"/v1/d/shop/p0", 5_000))
+        wants(status_of(client, put(b"/v1/d/shop/p1", 100)) == 200, "a smaller document was not put")
+        takes_again(client, put(b"/v1/d/shop/p%d" % many, 5_000))
+
+
+@test
+def kept_commits_have_their_tags():
+    with Server("--keep", "100") as it, it.client() as client:
+        wants(status_of(client, put(b"/v1/d/shop/kept", 100)) == 201, "a record was not put")
+        for n in range(199):
+            status_of(client, put(b"/v1/d/shop/p%d" % (n % 10), 100))
+        wants(knows(client, 100), "the 100th commit below the last one is not known")
+        until = time.monotonic() + 3
+        while knows(client, 99):
+            wants(time.monotonic() < until, "after 3 seconds a commit below those that are kept is known")
+            time.sleep(0.01)
+        wants(knows(client, 100), "the 100th commit below the last one is not known any more")
+        wants(horizon_of(it) == 200, "a drop that was asked for stopped below the front")
+        wants(not knows(client, 199) and knows(client, 200), "it knows what was dropped, or not the last commit")
+
+
+@test
+def more_kept_commits_than_fit_are_dropped_where_that_is_asked():
+    with Server("--keep", "1000000", "--bytes", "65792") as it, it.client() as client:
+        while (status := status_of(client, put(b"/v1/d/shop/p1", 1_000))) in (200, 201):
+            pass
+        time.sleep(0.5)
+        wants(status == 507 and status_of(client, put(b"/v1/d/shop/p1", 1_000)) == 507, "a write was taken beyond the capacity")
+        wants(horizon_of(it) == 61, "not all was dropped")
+        wants(status_of(client, put(b"/v1/d/shop/p1", 1_000)) == 200, "a write was not taken behind the drop")
+
+
+@test
+def all_commits_have_their_tags_while_the_store_is_not_full():
+    with Server() as it, it.client() as client:
+        wants(status_of(client, put(b"/v1/d/shop/kept", 100)) == 201, "a record was not put")
+        for n in range(2_000):
+            status_of(client, put(b"/v1/d/shop/p%d" % (n % 10), 100))
+        time.sleep(0.5)
+        wants(knows(client, 1), "the first commit is not known any more")
 
 
 @test

@@ -77,7 +77,8 @@ impl ActiveQueries {
         key: &Key,
         to: Commit,
     ) -> Result<(), Memory>
-        requires { to ≤ length book.now.journal }
+        requires kept { HaveSeen book.now.horizon self.old.entries }
+        requires within { to ≤ length book.now.journal }
         ensures following { AreFollowing book.now.journal self.old.entries → AreFollowing book.now.journal self.new.entries }
         ensures begun { begun self.new.entries ≡ begun self.old.entries }
         ensures seen { (n : ℕ) → HaveSeen n self.old.entries → HaveSeen n self.new.entries }
@@ -94,7 +95,9 @@ impl ActiveQueries {
 
     /// Lets each query see the commits up to one.
     pub fn follow_all(&mut self, alloc: Global, book: &Book, to: Commit) -> Result<(), Memory>
-        requires { to ≤ length book.now.journal }
+        requires kept { HaveSeen book.now.horizon self.old.entries }
+        requires above { book.now.horizon ≤ to }
+        requires within { to ≤ length book.now.journal }
         ensures following { AreFollowing book.now.journal self.old.entries → AreFollowing book.now.journal self.new.entries }
         ensures begun { begun self.new.entries ≡ begun self.old.entries }
         ensures seen { (n : ℕ) → HaveSeen n self.old.entries → HaveSeen n self.new.entries }
@@ -117,6 +120,7 @@ impl ActiveQueries {
     fn least_seen(&self, to: Commit) -> Commit
         ensures most { result ≤ to }
         ensures seen { HaveSeen result self.now.entries }
+        ensures least { (n : ℕ) → n ≤ to → HaveSeen n self.now.entries → n ≤ result }
     {
         let mut least = to;
         for index in 0..self.held.len() {

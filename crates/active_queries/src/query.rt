@@ -65,6 +65,7 @@ impl ActiveQuery {
         commit: Commit,
     ) -> Result<ActiveQuery, Memory>
         requires query { IsQuery query.now }
+        requires kept { book.now.horizon ≤ commit }
         requires within { commit ≤ length book.now.journal }
         ensures follows { IfOk result (λ a. Follows kind query.now a book.now.journal) }
         ensures from { IfOk result (λ a. a.from ≡ commit) }
@@ -119,7 +120,8 @@ impl ActiveQuery {
 
     /// Sees the commits up to one. It takes no memory where they were seen.
     pub(crate) fn follow_to(&mut self, alloc: Global, book: &Book, to: Commit) -> Result<(), Memory>
-        requires { to ≤ length book.now.journal }
+        requires kept { book.now.horizon ≤ self.old.seen }
+        requires within { to ≤ length book.now.journal }
         ensures follows { (kind : AKind) (query : AQuery) → Follows kind query self.old book.now.journal → Follows kind query self.new book.now.journal }
         ensures from { self.new.from ≡ self.old.from }
         ensures seen { self.old.seen ≤ self.new.seen }
@@ -145,6 +147,7 @@ impl ActiveQuery {
         to: Commit,
     ) -> Result<(), Memory>
         requires rows { rows.now ≡ commit_rows book.now.journal from to }
+        requires kept { book.now.horizon ≤ from }
         requires forward { from ≤ to }
         requires behind { from ≤ self.old.seen }
         requires within { to ≤ length book.now.journal }
@@ -164,6 +167,7 @@ impl ActiveQuery {
     /// Sees the next commit.
     fn see(&mut self, alloc: Global, book: &Book, row: &CommitRow) -> Result<(), Memory>
         requires next { IsRowAfter book.now.journal self.old.seen row.now }
+        requires kept { book.now.horizon ≤ self.old.seen }
         ensures follows { (kind : AKind) (query : AQuery) → Follows kind query self.old book.now.journal → Follows kind query self.new book.now.journal }
         ensures from { self.new.from ≡ self.old.from }
         ensures seen { self.old.seen ≤ self.new.seen }
@@ -238,7 +242,8 @@ fn take_step(
     row: &CommitRow,
     verdict: Verdict,
 ) -> Result<MatchStep, Memory>
-    requires { row.now.commit ≤ length book.now.journal }
+    requires kept { book.now.horizon ≤ row.now.commit }
+    requires within { row.now.commit ≤ length book.now.journal }
     ensures stands { StandsFor set.old book.now.journal → IsNext set.old book.now.journal row.now verdict → OnOk result (StandsFor set.new book.now.journal) }
     ensures changed { StandsFor set.old book.now.journal → IsNext set.old book.now.journal row.now verdict → IfOk result (λ step. (kind : AKind) → ShowsChange kind (window_of set.old) (window_of set.new) step) }
     ensures at { OnOk result (set.new.at ≡ row.now.commit) }

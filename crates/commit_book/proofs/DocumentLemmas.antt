@@ -1,9 +1,7 @@
 -- The documents of a collection are those that its ids have, in order of the ids.
 use Rattle.std.proofs.Common.{◌≡◌, ℕ, zero, suc, ◌+◌, List, [], ◌∷◌, ◌++◌, take, Option, Some, None, is_some, option_map, filter, slice_get, true, false, not, ◌&&◌, if◌then◌else◌, inl, inr, refl, sym, ap, ◌∙◌, subst, Bor}
 use Rattle.std.specs.Str.{bytes_eq}
-use Rattle.std.specs.Option.{option_map_or}
 use Rattle.std.specs.Map.{keys_of}
-use Rattle.std.specs.Global.{Vec}
 use Rattle.indexmap.specs.IndexMap.{IndexMap, get_by}
 use Rattle.std.specs.Ordering.{is_lt, nat_cmp}
 use Rattle.std.specs.declared.cmp.Ordering.{Ordering}
@@ -24,9 +22,10 @@ use denote.Param.Members.{Mut}
 use Rattle.q_doc.specs.TextOrder.{text_eq_equiv}
 use Rattle.q_doc.specs.Tree.{Tree, null}
 use Rattle.commit_book.specs.declared.change.Change.{Change}
+use Rattle.commit_book.specs.declared.index.Record.{Record}
 use Rattle.commit_book.specs.Journal.{put_at, document_after, document_at}
 use Rattle.commit_book.specs.Documents.{Row, insert_row, without, put_row, docs_after, docs, list_of, row_of, is_row_of, HasDocuments}
-use Rattle.commit_book.specs.Index.{change_of, put_of, document_under}
+use Rattle.commit_book.specs.Index.{base_kept, commits_kept, document_in, document_under}
 use Rattle.commit_book.proofs.OrderLemmas.{less, ranks, Rises, ids_tie, itself, same_from_ids, filter_rises, insert_rises, rises_from_far}
 
 -- ---- in order
@@ -222,12 +221,12 @@ pub key_at : {X : Type 0} (entries : List (List ℕ × X)) (n : ℕ) (id : List 
 key_at {X = X} entries n id x at = slice_get-map (λ (e : List ℕ × X). e.0) entries n ∙ ap (option_map (λ (e : List ℕ × X). e.0)) at
 
 -- an id that is not among the keys has no document
-pub none_under : {S : Type 0} (journal : List Change) (records : IndexMap (List ℕ) (Vec ℕ) S) (n : ℕ) (id : List ℕ) → list_any (bytes_eq id) (keys_of records.entries) ≡ false → document_under journal records n id ≡ None
-none_under journal records n id absent = by (get_by (bytes_eq id) records) (is_some-lookup (bytes_eq id) records.entries ∙ absent)
+pub none_under : {S : Type 0} (horizon : ℕ) (rows : List Change) (records : IndexMap (List ℕ) Record S) (n : ℕ) (id : List ℕ) → list_any (bytes_eq id) (keys_of records.entries) ≡ false → document_under horizon rows records n id ≡ None
+none_under horizon rows records n id absent = by (get_by (bytes_eq id) records) (is_some-lookup (bytes_eq id) records.entries ∙ absent)
   where
-    by : (o : Option (Vec ℕ)) → is_some o ≡ false → put_of (change_of journal (option_map_or (λ (v : Vec ℕ). v.items) o []) n) ≡ None
+    by : (o : Option Record) → is_some o ≡ false → document_in horizon rows (base_kept o) (commits_kept o) n ≡ None
     by None e = refl
-    by (Some v) e = absurd (cc)
+    by (Some record') e = absurd (cc)
 
 pub has_same : (f g : List ℕ → Option (ℕ × Tree)) (rows : List Row) → ((id : List ℕ) → f id ≡ g id) → HasDocuments f rows → HasDocuments g rows
 has_same f g rows same has id = has id ∙ ap (λ (o : Option (ℕ × Tree)). list_of (row_of id o)) (same id)

@@ -1,6 +1,5 @@
 -- The names of an index, and what an addition makes of them.
-use Rattle.std.proofs.Common.{◌≡◌, ◌≢◌, ℕ, ◌-◌, ◌<◌, ◌≤◌, Bool, true, false, ◌&&◌, ◌||◌, List, [], ◌∷◌, ◌++◌, map, position, Option, Some, None, IsSome, is_some, unwrap_or, option_map, cond, refl, sym, ap, ap₂, ◌∙◌, subst, inl, inr, arith, vec_len, vec_capacity}
-use Rattle.std.specs.Global.{Vec}
+use Rattle.std.proofs.Common.{◌≡◌, ◌≢◌, ℕ, ◌<◌, ◌≤◌, Bool, true, false, ◌&&◌, ◌||◌, List, [], ◌∷◌, ◌++◌, map, position, Option, Some, None, IsSome, is_some, unwrap_or, option_map, cond, refl, sym, ap, ap₂, ◌∙◌, subst, inl, inr, arith, option_and_then}
 use Rattle.std.specs.List.{list_any}
 use Rattle.std.specs.Map.{keys_of, lookup, set_value}
 use Rattle.std.specs.Option.{option_map_or}
@@ -13,9 +12,10 @@ use Rattle.std.proofs.lemmas.Slice.Eq.{bytes_eq-Decides}
 use Rattle.indexmap.specs.IndexMap.{IndexMap, get_by, keys, spare, IsUnchanged, UpdatesBy, WritesThrough}
 use Rattle.q_doc.specs.TextOrder.{text_eq_equiv}
 use Rattle.commit_book.specs.declared.change.Change.{Change}
+use Rattle.commit_book.specs.declared.index.Record.{Record}
 use Rattle.commit_book.specs.declared.index.Slot.{Slot}
 use Rattle.commit_book.specs.declared.index.Slot.TheVariants.{Known, InCollection, InNewCollection}
-use Rattle.commit_book.specs.Index.{commits_under, commits_in, index_under, space_under, names_of, AddsCommit, IsSlotUnder, IsSlotIn, KeepsSpace, KeepsSpaceUnder}
+use Rattle.commit_book.specs.Index.{base_in, base_kept, base_under, commits_kept, commits_under, commits_in, index_under, record_in, space_kept, space_under, names_of, AddsCommit, IsSlotUnder, IsSlotIn, KeepsSpace, KeepsSpaceUnder}
 use Rattle.commit_book.specs.Journal.{is_of}
 use Rattle.commit_book.specs.Names.{Names, collection_index, has_collection, has_record, is_in, record_index, AreNamesOf, AddsName}
 
@@ -45,7 +45,7 @@ named-last ids id own = list_any-append (bytes_eq own) ids (id ∷ []) ∙ ap (�
 -- ---- the maps
 
 abbrev Under : Type 0 → Type 0
-Under S = IndexMap (List ℕ) (Vec ℕ) S
+Under S = IndexMap (List ℕ) Record S
 
 abbrev Maps : Type 0 → Type 0 → Type 0
 Maps S T = IndexMap (List ℕ) (Under S) T
@@ -53,8 +53,12 @@ Maps S T = IndexMap (List ℕ) (Under S) T
 abbrev ids_at : {S : Type 0} → Option (Under S) → List (List ℕ)
 ids_at {S} found = unwrap_or (option_map (λ (records : Under S). keys_of records.entries) found) []
 
+-- what is kept of an id of a collection, if that is there
+abbrev pub record_from : {S : Type 0} → Option (Under S) → List ℕ → Option Record
+record_from {S} found id = option_and_then (λ (records : Under S). get_by (bytes_eq id) records) found
+
 -- nothing, where nothing is there
-pub is-none : (o : Option (Vec ℕ)) → is_some o ≡ false → o ≡ None
+pub is-none : {X : Type 0} (o : Option X) → is_some o ≡ false → o ≡ None
 is-none None h = refl
 is-none (Some v) h = absurd (cc)
 
@@ -70,7 +74,7 @@ still-named {S} records id own space =
       | inr miss ↦ rw miss (sym (or-false (list_any (bytes_eq own) (keys_of records.entries))))
     ]
   where
-    is-there : (o : Option (Vec ℕ)) → 0 < option_map_or (λ (v : Vec ℕ). vec_capacity v - vec_len v) o 0 → is_some o ≡ true
+    is-there : (o : Option Record) → 0 < space_kept o → is_some o ≡ true
     is-there None h = absurd (omega arith)
     is-there (Some v) h = refl
 
@@ -114,7 +118,7 @@ written-or-same {X} old new key was now found writes q P same changed =
 
 module _ {S T : Type 0} where
   -- the names under a collection are the ids of its records
-  named : (maps : Maps S T) (collection : List ℕ) → lookup (bytes_eq collection) (names_of maps) ≡ option_map (λ (records : Under S). keys_of records.entries) (get_by (bytes_eq collection) maps)
+  pub named : (maps : Maps S T) (collection : List ℕ) → lookup (bytes_eq collection) (names_of maps) ≡ option_map (λ (records : Under S). keys_of records.entries) (get_by (bytes_eq collection) maps)
   named maps collection = lookup-map_values (λ (records : Under S). keys_of records.entries) (bytes_eq collection) maps.entries
 
   pub collection-absent : (maps : Maps S T) (collection : List ℕ) → get_by (bytes_eq collection) maps ≡ None → has_collection (names_of maps) collection ≡ false
@@ -145,12 +149,18 @@ module _ {S T : Type 0} where
   record-place maps collection id records found =
       ap (λ (o : Option (List (List ℕ))). position (bytes_eq id) (unwrap_or o [])) (named maps collection ∙ ap (option_map (λ (rs : Under S). keys_of rs.entries)) found)
 
-  -- the commits of the records that are there
+  -- what is kept of the records that are there
+  pub record-at : (maps : Maps S T) (collection id : List ℕ) (records : Under S) → get_by (bytes_eq collection) maps ≡ Some records → record_in maps collection id ≡ get_by (bytes_eq id) records
+  record-at maps collection id records found = ap (λ (o : Option (Under S)). record_from o id) found
+
   pub commits-at : (maps : Maps S T) (collection id : List ℕ) (records : Under S) → get_by (bytes_eq collection) maps ≡ Some records → commits_in maps collection id ≡ commits_under records id
-  commits-at maps collection id records found = ap (λ (o : Option (Under S)). option_map_or (λ (rs : Under S). commits_under rs id) o []) found
+  commits-at maps collection id records found = ap commits_kept (record-at maps collection id records found)
+
+  pub record-none : (maps : Maps S T) (collection id : List ℕ) → has_collection (names_of maps) collection ≡ false → record_in maps collection id ≡ None
+  record-none maps collection id absent = ap (λ (o : Option (Under S)). record_from o id) (absent-collection maps collection absent)
 
   pub commits-none : (maps : Maps S T) (collection id : List ℕ) → has_collection (names_of maps) collection ≡ false → commits_in maps collection id ≡ []
-  commits-none maps collection id absent = ap (λ (o : Option (Under S)). option_map_or (λ (rs : Under S). commits_under rs id) o []) (absent-collection maps collection absent)
+  commits-none maps collection id absent = ap commits_kept (record-none maps collection id absent)
 
   -- the records of one collection replace those that it had
   adds-name : (old new : Maps S T) (collection id : List ℕ) (records : Under S) →
@@ -209,16 +219,18 @@ module _ {S T : Type 0} where
 
   pub keeps-unchanged : (old new : Maps S T) → IsUnchanged old new → spare old ≤ spare new → KeepsSpace old new
   keeps-unchanged old new same space = record {
-    commits = λ collection id. ap (λ (es : List (List ℕ × Under S)). option_map_or (λ (records : Under S). commits_under records id) (lookup (bytes_eq collection) es) []) same;
+    commits = λ collection id. ap commits_kept (kept collection id);
+    bases = λ collection id. ap base_kept (kept collection id);
     names = ap (map (entry_names {S = S})) same;
-    space = λ collection id. (
-        let e = ap (λ (es : List (List ℕ × Under S)). option_map_or (λ (records : Under S). space_under records id) (lookup (bytes_eq collection) es) 0) same in
-        omega (arith, e));
+    space = λ collection id. (let e = ap space_kept (kept collection id) in omega (arith, e));
     records = λ collection. (
         let e = ap (λ (es : List (List ℕ × Under S)). option_map_or (λ (records : Under S). spare records) (lookup (bytes_eq collection) es) 0) same in
         omega (arith, e));
     spare = space;
   }
+    where
+      kept : (collection id : List ℕ) → record_in new collection id ≡ record_in old collection id
+      kept collection id = ap (λ (es : List (List ℕ × Under S)). record_from (lookup (bytes_eq collection) es) id) same
 
   -- the records that were written
   pub written-at : (old new : Maps S T) (collection : List ℕ) (was now : Under S) → get_by (bytes_eq collection) old ≡ Some was → WritesThrough bytes_eq (bytes_eq collection) old now new → get_by (bytes_eq collection) new ≡ Some now
@@ -227,10 +239,12 @@ module _ {S T : Type 0} where
   pub keeps-written : (old new : Maps S T) (collection : List ℕ) (was now : Under S) → get_by (bytes_eq collection) old ≡ Some was → WritesThrough bytes_eq (bytes_eq collection) old now new → KeepsSpaceUnder was now → KeepsSpace old new
   keeps-written old new collection was now found writes keeps = record {
     commits = λ q id. (
-        written-or-same old new collection was now found writes q (λ (o p : Option (Under S)). option_map_or (λ (rs : Under S). commits_under rs id) p [] ≡ option_map_or (λ (rs : Under S). commits_under rs id) o []) refl (keeps.commits id));
+        written-or-same old new collection was now found writes q (λ (o p : Option (Under S)). commits_kept (record_from p id) ≡ commits_kept (record_from o id)) refl (keeps.commits id));
+    bases = λ q id. (
+        written-or-same old new collection was now found writes q (λ (o p : Option (Under S)). base_kept (record_from p id) ≡ base_kept (record_from o id)) refl (keeps.bases id));
     names = ap (map (entry_names {S = S})) writes.0 ∙ names-set (bytes_eq collection) old.entries was now found keeps.ids;
     space = λ q id. (
-        written-or-same old new collection was now found writes q (λ (o p : Option (Under S)). option_map_or (λ (rs : Under S). space_under rs id) o 0 ≤ option_map_or (λ (rs : Under S). space_under rs id) p 0) (omega arith) (keeps.space id));
+        written-or-same old new collection was now found writes q (λ (o p : Option (Under S)). space_kept (record_from o id) ≤ space_kept (record_from p id)) (omega arith) (keeps.space id));
     records = λ q. (
         written-or-same old new collection was now found writes q (λ (o p : Option (Under S)). option_map_or (λ (rs : Under S). spare rs) o 0 ≤ option_map_or (λ (rs : Under S). spare rs) p 0) (omega arith) keeps.spare);
     spare = (let e = writes.6 in omega (arith, e));
@@ -273,7 +287,7 @@ module _ {S T : Type 0} where
       by (Known own place') there = (
         place ∙ ap Some (sym there.0),
         record-place new collection id now is ∙ there.1,
-        subst (λ (o : Option (Under S)). 0 < option_map_or (λ (rs : Under S). space_under rs id) o 0) (sym is) there.2,
+        subst (λ (o : Option (Under S)). 0 < space_kept (record_from o id)) (sym is) there.2,
       )
       by (InCollection own added) there = (
         place ∙ ap Some (sym there.0),
@@ -291,18 +305,32 @@ module _ {S T : Type 0} where
   others-stay old new collection stay collection' id' apart =
       elim (cases_Bool (bytes_eq collection collection')) [
         | inl hit ↦ absurd (apart (sym ((bytes_eq-Decides collection collection').0 hit)))
-        | inr miss ↦ ap (λ (o : Option (Under S)). option_map_or (λ (rs : Under S). commits_under rs id') o []) (stay collection' miss)
+        | inr miss ↦ ap (λ (o : Option (Under S)). commits_kept (record_from o id')) (stay collection' miss)
+      ]
+
+  -- a collection that is put has no base
+  pub based-put : (old new : Maps S T) (collection : List ℕ) (now : Under S) → has_collection (names_of old) collection ≡ false → UpdatesBy bytes_eq (bytes_eq collection) old new (Some now) →
+      ((other : List ℕ) → base_under now other ≡ None) → (q own : List ℕ) → base_in new q own ≡ base_in old q own
+  based-put old new collection now absent puts none q own =
+      elim (cases_Bool (bytes_eq collection q)) [
+        | inl hit ↦ (
+            let is : get_by (bytes_eq q) new ≡ Some now = puts.0 q ∙ ap (λ (b : Bool). cond b (Some now) (get_by (bytes_eq q) old)) hit in
+            let same : collection ≡ q = (bytes_eq-Decides collection q).0 hit in
+            let was : get_by (bytes_eq q) old ≡ None = ap (λ (c : List ℕ). get_by (bytes_eq c) old) (sym same) ∙ absent-collection old collection absent in
+            ap (λ (o : Option (Under S)). base_kept (record_from o own)) is ∙ none own ∙ sym (ap (λ (o : Option (Under S)). base_kept (record_from o own)) was))
+        | inr miss ↦ ap (λ (o : Option (Under S)). base_kept (record_from o own)) (puts.2 q miss)
       ]
 
   -- a commit that is added among the records of its collection
   pub adds-commit : (old new : Maps S T) (collection id : List ℕ) (commit : ℕ) (was now : Under S) → get_by (bytes_eq collection) old ≡ Some was → WritesThrough bytes_eq (bytes_eq collection) old now new →
-      commits_under now id ≡ commits_under was id ++ commit ∷ [] → ((other : List ℕ) → other ≢ id → commits_under now other ≡ commits_under was other) →
+      commits_under now id ≡ commits_under was id ++ commit ∷ [] → ((other : List ℕ) → other ≢ id → commits_under now other ≡ commits_under was other) → ((other : List ℕ) → base_under now other ≡ base_under was other) →
       ((own : List ℕ) → list_any (bytes_eq own) (keys_of now.entries) ≡ (list_any (bytes_eq own) (keys_of was.entries) || bytes_eq id own)) → AddsCommit collection id commit old new
-  adds-commit old new collection id commit was now found writes put stay listed =
+  adds-commit old new collection id commit was now found writes put stay based listed =
       let is = written-at old new collection was now found writes in
       record {
         own = commits-at new collection id now is ∙ put ∙ ap (λ (xs : List ℕ). xs ++ commit ∷ []) (sym (commits-at old collection id was found));
         ids = λ other apart. commits-at new collection other now is ∙ stay other apart ∙ sym (commits-at old collection other was found);
         others = others-stay old new collection ((writes.3 (subst IsSome (sym found) refl)).2);
+        bases = λ q own. written-or-same old new collection was now found writes q (λ (o p : Option (Under S)). base_kept (record_from p own) ≡ base_kept (record_from o own)) refl (based own);
         names = adds-written old new collection id was now found writes listed;
       }

@@ -1,6 +1,6 @@
 -- What an index of a name says of a map, and what a write by index makes of it.
-use Rattle.std.proofs.Common.{true, ◌≡◌, ◌≢◌, ◌++◌, ℕ, suc, ◌+◌, ◌-◌, ◌<◌, ◌≤◌, vec_len, vec_capacity, Bool, List, [], ◌∷◌, Option, Some, None, IsSome, length, slice_get, position, refl, sym, ap, ◌∙◌, subst, arith, inl, inr}
-use Rattle.std.specs.Global.{Vec}
+use Rattle.std.proofs.Common.{true, ◌≡◌, ◌≢◌, ◌++◌, ℕ, suc, ◌+◌, ◌-◌, ◌<◌, ◌≤◌, Bool, List, [], ◌∷◌, Option, Some, None, IsSome, length, slice_get, position, refl, sym, ap, ◌∙◌, subst, arith, inl, inr}
+use Rattle.std.specs.VecDeque.{deque_len, deque_capacity}
 use Rattle.std.specs.List.{list_any, position_or_len, IsDistinct}
 use Rattle.std.specs.Option.{option_map_or}
 use Rattle.std.specs.Map.{keys_of, lookup, set_value}
@@ -13,10 +13,11 @@ use Rattle.indexmap.proofs.MapLemmas.{Found-position, Missing-position, index-fi
 use Rattle.indexmap.proofs.RemoveLemmas.{own_first}
 use Rattle.q_doc.specs.TextOrder.{text_eq_equiv}
 use Rattle.commit_book.specs.declared.index.NewRecord.{NewRecord}
+use Rattle.commit_book.specs.declared.index.Record.{Record}
 use Rattle.commit_book.specs.declared.index.Slot.TheVariants.{Known, InCollection}
-use Rattle.commit_book.specs.Index.{commits_under, index_under, space_under, names_of, AddsCommit, IsSlotIn, IsSlotUnder, KeepsSpaceUnder}
+use Rattle.commit_book.specs.Index.{base_kept, base_under, commits_kept, commits_under, index_under, space_kept, space_under, names_of, AddsCommit, IsSlotIn, IsSlotUnder, KeepsSpaceUnder}
 use Rattle.commit_book.specs.Names.{collection_index}
-use Rattle.commit_book.proofs.NameLemmas.{adds-commit, collection-place, named-last, not-there, record-place, still-named, written-or-same}
+use Rattle.commit_book.proofs.NameLemmas.{adds-commit, collection-place, named-last, not-there, record_from, record-place, still-named, written-or-same}
 
 module _ {X : Type 0} where
   set-at : (test : List ℕ → Bool) (es : List (List ℕ × X)) (w : X) → set_value_at es (position_or_len test (keys_of es)) w ≡ set_value test es w
@@ -91,7 +92,7 @@ module _ {X : Type 0} where
       )
 
 abbrev pub Under : Type 0 → Type 0
-Under S = IndexMap (List ℕ) (Vec ℕ) S
+Under S = IndexMap (List ℕ) Record S
 
 abbrev pub Maps : Type 0 → Type 0 → Type 0
 Maps S T = IndexMap (List ℕ) (Under S) T
@@ -117,55 +118,56 @@ likely-place maps name there index records unique entry same =
 pub id-within : {S : Type 0} (records : Under S) (id : List ℕ) (index : ℕ) → index_under records id ≡ Some index → index < length records.entries
 id-within records id index at = within-at id records.entries index at
 
-module _ {S : Type 0} (records : Under S) (id : List ℕ) (i : ℕ) (k : List ℕ) (was : Vec ℕ) (at : index_under records id ≡ Some i) (entry : slice_get records.entries i ≡ Some (k, was)) where
-  -- the commits at the index of an id are its commits
-  pub commits-found : get_by (bytes_eq id) records ≡ Some was
-  commits-found = found-at id records.entries i k was at entry
+module _ {S : Type 0} (records : Under S) (id : List ℕ) (i : ℕ) (k : List ℕ) (was : Record) (at : index_under records id ≡ Some i) (entry : slice_get records.entries i ≡ Some (k, was)) where
+  -- what is kept at the index of an id is its own
+  pub record-found : get_by (bytes_eq id) records ≡ Some was
+  record-found = found-at id records.entries i k was at entry
 
-  pub space-found : 0 < space_under records id → 0 < vec_capacity was - vec_len was
-  space-found space = subst (λ (o : Option (Vec ℕ)). 0 < option_map_or (λ (v : Vec ℕ). vec_capacity v - vec_len v) o 0) commits-found space
+  pub space-found : 0 < space_under records id → 0 < deque_capacity was.commits - deque_len was.commits
+  space-found space = subst (λ (o : Option Record). 0 < space_kept o) record-found space
 
-  module _ (now : Vec ℕ) (unique : IsUnique bytes_eq records) where
-    commits-written : WritesThrough bytes_eq (bytes_eq id) records now (with_value_at records i now)
-    commits-written = writes-at records id i was now at commits-found unique
+  module _ (now : Record) (unique : IsUnique bytes_eq records) where
+    record-written : WritesThrough bytes_eq (bytes_eq id) records now (with_value_at records i now)
+    record-written = writes-at records id i was now at record-found unique
 
     put : UpdatesBy bytes_eq (bytes_eq id) records (with_value_at records i now) (Some now)
-    put = commits-written.3 (subst IsSome (sym commits-found) refl)
+    put = record-written.3 (subst IsSome (sym record-found) refl)
 
     -- a commit more
-    pub commits-more : (commit : ℕ) → now.items ≡ was.items ++ commit ∷ [] → commits_under (with_value_at records i now) id ≡ commits_under records id ++ commit ∷ []
-    commits-more commit more =
-        ap (λ (o : Option (Vec ℕ)). option_map_or (λ (v : Vec ℕ). v.items) o []) put.1
-        ∙ more
-        ∙ ap (λ (o : Option (Vec ℕ)). option_map_or (λ (v : Vec ℕ). v.items) o [] ++ commit ∷ []) (sym commits-found)
+    pub commits-more : (commit : ℕ) → now.commits.items ≡ was.commits.items ++ commit ∷ [] → commits_under (with_value_at records i now) id ≡ commits_under records id ++ commit ∷ []
+    commits-more commit more = ap commits_kept put.1 ∙ more ∙ ap (λ (o : Option Record). commits_kept o ++ commit ∷ []) (sym record-found)
 
     -- the commits of other ids
     pub commits-stay : (other : List ℕ) → other ≢ id → commits_under (with_value_at records i now) other ≡ commits_under records other
     commits-stay other apart =
         elim (cases_Bool (bytes_eq id other)) [
           | inl hit ↦ absurd (apart (sym ((bytes_eq-Decides id other).0 hit)))
-          | inr miss ↦ ap (λ (o : Option (Vec ℕ)). option_map_or (λ (v : Vec ℕ). v.items) o []) (put.2 other miss)
+          | inr miss ↦ ap commits_kept (put.2 other miss)
         ]
 
+    -- the bases
+    pub bases-stay : now.base ≡ was.base → (other : List ℕ) → base_under (with_value_at records i now) other ≡ base_under records other
+    bases-stay same other =
+        written-or-same records (with_value_at records i now) id was now record-found record-written other (λ (o p : Option Record). base_kept p ≡ base_kept o) refl same
+
     -- memory for more commits
-    pub keeps-under : now.items ≡ was.items → vec_len now ≡ vec_len was → vec_capacity was ≤ vec_capacity now → KeepsSpaceUnder records (with_value_at records i now)
-    keeps-under items len grown = record {
-      commits = λ q.
-          written-or-same records (with_value_at records i now) id was now commits-found commits-written q
-          (λ (o p : Option (Vec ℕ)). option_map_or (λ (v : Vec ℕ). v.items) p [] ≡ option_map_or (λ (v : Vec ℕ). v.items) o []) refl items;
+    pub keeps-under : now.base ≡ was.base → now.commits.items ≡ was.commits.items → deque_len now.commits ≡ deque_len was.commits → deque_capacity was.commits ≤ deque_capacity now.commits → KeepsSpaceUnder records (with_value_at records i now)
+    keeps-under base items len grown = record {
+      commits = λ q. written-or-same records (with_value_at records i now) id was now record-found record-written q (λ (o p : Option Record). commits_kept p ≡ commits_kept o) refl items;
+      bases = bases-stay base;
       ids = keys-with_value_at records i now;
       space = λ q.
-          written-or-same records (with_value_at records i now) id was now commits-found commits-written q
-          (λ (o p : Option (Vec ℕ)). option_map_or (λ (v : Vec ℕ). vec_capacity v - vec_len v) o 0 ≤ option_map_or (λ (v : Vec ℕ). vec_capacity v - vec_len v) p 0) (omega arith) (omega (arith, len, grown));
+          written-or-same records (with_value_at records i now) id was now record-found record-written q
+          (λ (o p : Option Record). space_kept o ≤ space_kept p) (omega arith) (omega (arith, len, grown));
       spare = omega arith;
     }
 
     -- the slot of an id that is there
-    pub known-slot : (collection : ℕ) → vec_len now + 1 ≤ vec_capacity now → IsSlotUnder (with_value_at records i now) collection id (Known collection i)
+    pub known-slot : (collection : ℕ) → deque_len now.commits + 1 ≤ deque_capacity now.commits → IsSlotUnder (with_value_at records i now) collection id (Known collection i)
     known-slot collection space = (
       refl,
       ap (position (bytes_eq id)) (keys-with_value_at records i now) ∙ at,
-      subst (λ (o : Option (Vec ℕ)). 0 < option_map_or (λ (v : Vec ℕ). vec_capacity v - vec_len v) o 0) (sym put.1) (omega (arith, space)),
+      subst (λ (o : Option Record). 0 < space_kept o) (sym put.1) (omega (arith, space)),
     )
 
 module _ {S T : Type 0} (maps : Maps S T) (collection : List ℕ) (index : ℕ) (k : List ℕ) (records now : Under S) (entry : slice_get maps.entries index ≡ Some (k, records)) where
@@ -181,7 +183,7 @@ module _ {S T : Type 0} (maps : Maps S T) (collection : List ℕ) (index : ℕ) 
   known-under id own there =
       let found = records-found there.0 in (
         sym (record-place maps collection id records found) ∙ there.1,
-        subst (λ (o : Option (Under S)). 0 < option_map_or (λ (rs : Under S). space_under rs id) o 0) found there.2,
+        subst (λ (o : Option (Under S)). 0 < space_kept (record_from o id)) found there.2,
       )
 
   -- a slot of a new record of a collection in the index
@@ -195,17 +197,18 @@ module _ {S T : Type 0} (maps : Maps S T) (collection : List ℕ) (index : ℕ) 
   pub known-added : (id : List ℕ) (own commit : ℕ) → IsUnique bytes_eq maps → IsSlotIn maps collection id (Known index own) →
       ((id' : List ℕ) → index_under records id' ≡ Some own → commits_under now id' ≡ commits_under records id' ++ commit ∷ []) →
       ((id' other : List ℕ) → index_under records id' ≡ Some own → other ≢ id' → commits_under now other ≡ commits_under records other) →
+      ((id' : List ℕ) → index_under records id' ≡ Some own → (other : List ℕ) → base_under now other ≡ base_under records other) →
       keys_of now.entries ≡ keys_of records.entries → AddsCommit collection id commit maps (with_value_at maps index now)
-  known-added id own commit unique there put stay ids =
+  known-added id own commit unique there put stay based ids =
       let under = known-under id own there in
-      adds-commit maps (with_value_at maps index now) collection id commit records now (records-found there.0) (records-written unique there.0) (put id under.0) (λ other. stay id other under.0)
+      adds-commit maps (with_value_at maps index now) collection id commit records now (records-found there.0) (records-written unique there.0) (put id under.0) (λ other. stay id other under.0) (based id under.0)
       (λ other. ap (list_any (bytes_eq other)) ids ∙ still-named records id other under.1)
 
   pub new-added : (commit : ℕ) (new : NewRecord) → IsUnique bytes_eq maps → IsSlotIn maps collection new.id (InCollection index new) → commits_under now new.id ≡ commit ∷ [] →
-      ((other : List ℕ) → other ≢ new.id → commits_under now other ≡ commits_under records other) → keys_of now.entries ≡ keys_of records.entries ++ new.id ∷ [] →
+      ((other : List ℕ) → other ≢ new.id → commits_under now other ≡ commits_under records other) → ((other : List ℕ) → base_under now other ≡ base_under records other) → keys_of now.entries ≡ keys_of records.entries ++ new.id ∷ [] →
       AddsCommit collection new.id commit maps (with_value_at maps index now)
-  new-added commit new unique there put stay ids =
+  new-added commit new unique there put stay based ids =
       let none = (new-under new.id new there).1 in
       adds-commit maps (with_value_at maps index now) collection new.id commit records now (records-found there.0) (records-written unique there.0)
-      (put ∙ ap (λ (o : Option (Vec ℕ)). option_map_or (λ (v : Vec ℕ). v.items) o [] ++ commit ∷ []) (sym none)) stay
+      (put ∙ ap (λ (o : Option Record). commits_kept o ++ commit ∷ []) (sym none)) stay based
       (λ own. ap (list_any (bytes_eq own)) ids ∙ named-last (keys_of records.entries) new.id own)

@@ -1,5 +1,5 @@
 -- Worked cases of the definitions, so that a slip in one does not check.
-use Rattle.std.proofs.Common.{◌≡◌, ℕ, List, [], ◌∷◌, Some, None, pos, codes, refl}
+use Rattle.std.proofs.Common.{◌≡◌, ℕ, List, [], ◌∷◌, drop, Some, None, pos, codes, refl}
 use Rattle.std.specs.Fmt.{digits}
 use Rattle.json.specs.Print.{escape_byte}
 use Rattle.q_doc.specs.Tree.{Tree, number, object, member, no_members}
@@ -7,7 +7,7 @@ use Rattle.commit_book.specs.declared.change.Change.{Change}
 use Rattle.commit_book.specs.CommitRows.{commit_rows}
 use Rattle.commit_book.specs.Contents.{added}
 use Rattle.commit_book.specs.Documents.{docs}
-use Rattle.commit_book.specs.Journal.{document_at, text_at, cost_of, kept}
+use Rattle.commit_book.specs.Journal.{document_at, text_at, cost_of, kept, kept_rows}
 use Rattle.std.specs.declared.result.Result.TheVariants.{Ok, Err}
 use Rattle.commit_book.specs.declared.refusal.BookRefusal.TheVariants.{Full}
 
@@ -33,16 +33,36 @@ journal =
 -- ---- what a change takes
 
 -- {"a":1} in shop/p2 takes 77 bytes, its deletion 70
-costs : (cost_of (put (codes "p2") 1) ≡ 77) × (cost_of (delete (codes "p2")) ≡ 70) × (kept journal ≡ 380)
+costs : (cost_of (put (codes "p2") 1) ≡ 77) × (cost_of (delete (codes "p2")) ≡ 70) × (kept journal 0 ≡ 380)
 unfolding cost_of digits escape_byte
 costs = (refl, refl, refl)
 
 -- a change that comes to the capacity is taken, one above it is not, and the refusal gives the sum
 capacity :
-    (added (record { capacity = 154; journal = put (codes "p2") 1 ∷ []; reserved = None; names = [] }) (put (codes "p2") 1) ≡ Ok 2)
-    × (added (record { capacity = 153; journal = put (codes "p2") 1 ∷ []; reserved = None; names = [] }) (put (codes "p2") 1) ≡ Err (Full 154))
+    (added (record { capacity = 154; journal = put (codes "p2") 1 ∷ []; horizon = 0; reserved = None; names = [] }) (put (codes "p2") 1) ≡ Ok 2)
+    × (added (record { capacity = 153; journal = put (codes "p2") 1 ∷ []; horizon = 0; reserved = None; names = [] }) (put (codes "p2") 1) ≡ Err (Full 154))
 unfolding cost_of digits escape_byte
 capacity = (refl, refl)
+
+-- up to the horizon the last row of a record stays, where it puts a document
+kept-rows :
+    (kept_rows journal 1 ≡ journal)
+    × (kept_rows journal 3 ≡ put (codes "p10") 2 ∷ drop 3 journal)
+    × (kept_rows journal 5 ≡ put (codes "p10") 2 ∷ drop 3 journal)
+    × (kept_rows (put (codes "p2") 1 ∷ delete (codes "p2") ∷ []) 1 ≡ put (codes "p2") 1 ∷ delete (codes "p2") ∷ [])
+    × (kept_rows (put (codes "p2") 1 ∷ delete (codes "p2") ∷ []) 2 ≡ [])
+kept-rows = (refl, refl, refl, refl, refl)
+
+kept-bytes : (kept journal 2 ≡ 380) × (kept journal 3 ≡ 233) × (kept journal 4 ≡ 233) × (kept journal 5 ≡ 233)
+unfolding cost_of digits escape_byte
+kept-bytes = (refl, refl, refl, refl)
+
+-- dropped rows leave room
+room :
+    (added (record { capacity = 154; journal = put (codes "p2") 1 ∷ put (codes "p2") 2 ∷ []; horizon = 2; reserved = None; names = [] }) (put (codes "p2") 1) ≡ Ok 3)
+    × (added (record { capacity = 154; journal = put (codes "p2") 1 ∷ put (codes "p2") 2 ∷ []; horizon = 1; reserved = None; names = [] }) (put (codes "p2") 1) ≡ Err (Full 231))
+unfolding cost_of digits escape_byte
+room = (refl, refl)
 
 -- ---- the documents at a commit
 

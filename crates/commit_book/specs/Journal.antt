@@ -1,5 +1,7 @@
--- Believed. A journal is the list of the changes, the newest last. The n-th change, counted from 1, is commit n.
-use Rattle.std.specs.Prelude.{ℕ, zero, suc, ◌+◌, Bool, ◌&&◌, ◌||◌, if◌then◌else◌, List, [], Option, Some, None, length, slice_get, sum_by, bytes_eq, is_some, option_map, option_and_then}
+-- Believed. A journal is the list of the changes, the newest last. The n-th change, counted from 1, is commit n. The
+-- horizon is the number of the first changes of which only the last documents are kept.
+use Rattle.std.specs.Prelude.{ℕ, zero, suc, ◌+◌, ◌-◌, Bool, ◌&&◌, ◌||◌, not, if◌then◌else◌, List, [], ◌∷◌, ◌++◌, take, drop, Option, Some, None, length, slice_get, sum_by, bytes_eq, is_some, option_map, option_and_then}
+use Rattle.std.specs.List.{list_any}
 use Rattle.std.specs.Option.{option_map_or}
 use Rattle.q_doc.specs.Tree.{Tree}
 use Rattle.q_doc.specs.Printed.{printed}
@@ -49,10 +51,28 @@ row_bytes = 64
 unfoldable pub cost_of : Change → ℕ
 cost_of change = row_bytes + length change.collection + length change.id + length (text_of change.document)
 
--- what the changes take together
-abbrev pub kept : List Change → ℕ
-kept journal = sum_by cost_of journal
+-- those changes that are the last of their record and put a document
+abbrev pub bases : List Change → List Change
+bases [] = []
+bases (change ∷ later) = if is_some change.document && not (list_any (is_of change.collection change.id) later) then change ∷ bases later else bases later
+
+-- the rows that are kept: up to the horizon those whose documents are there at the horizon, and all above it
+abbrev pub kept_rows : List Change → ℕ → List Change
+kept_rows journal horizon = bases (take horizon journal) ++ drop horizon journal
+
+-- the record has a document at the horizon, or a change above it
+abbrev pub is_kept : List Change → ℕ → List ℕ → List ℕ → Bool
+is_kept journal horizon collection id = is_some (document_at journal horizon collection id) || list_any (is_of collection id) (drop horizon journal)
+
+-- the document of a record by the kept rows, those above the horizon up to n
+abbrev pub kept_document : List Change → ℕ → ℕ → List ℕ → List ℕ → Option Tree
+kept_document journal horizon n collection id =
+    option_map (λ d. d.1) (document_at (kept_rows journal horizon) (n - horizon + length (bases (take horizon journal))) collection id)
+
+-- what the kept rows take together
+abbrev pub kept : List Change → ℕ → ℕ
+kept journal horizon = sum_by cost_of (kept_rows journal horizon)
 
 -- what they take with one change more, by which a write is accepted
-abbrev pub kept_with : List Change → Change → ℕ
-kept_with journal change = kept journal + cost_of change
+abbrev pub kept_with : List Change → ℕ → Change → ℕ
+kept_with journal horizon change = kept journal horizon + cost_of change

@@ -29,10 +29,10 @@ record_index names collection id = position (bytes_eq id) (unwrap_or (lookup (by
 abbrev pub is_in : List ℕ → Change → Bool
 is_in collection change = bytes_eq change.collection collection
 
--- the names are those of the journal's records, and no others
-pub record AreNamesOf (journal : List Change) (names : Names) : Type 0 where
-  pub collections : (collection : List ℕ) → has_collection names collection ≡ list_any (is_in collection) journal
-  pub records : (collection id : List ℕ) → has_record names collection id ≡ list_any (is_of collection id) journal
+-- the names are those of the records of these rows, and no others
+pub record AreNamesOf (rows : List Change) (names : Names) : Type 0 where
+  pub collections : (collection : List ℕ) → has_collection names collection ≡ list_any (is_in collection) rows
+  pub records : (collection id : List ℕ) → has_record names collection id ≡ list_any (is_of collection id) rows
 
 -- the names with those of one record, and no others
 pub record AddsName (collection id : List ℕ) (old new : Names) : Type 0 where

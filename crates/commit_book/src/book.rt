@@ -2,23 +2,25 @@
 ghost use Rattle.std.specs.Prelude.{◌≡◌, ◌⊎◌, ◌+◌, ◌≤◌, ◌^◌, Some, None, Err, IsOk, IsErr, IsSome, IfOk, OnOk, OnErr, length, slice_get, option_map, is_some, ◌<◌, ℕ};
 ghost use Rattle.commit_book.specs.declared.change.Change.{Change as AChange};
 ghost use Rattle.commit_book.specs.declared.refusal.BookRefusal.TheVariants.{Memory as NoMemory};
-ghost use Rattle.commit_book.specs.Contents.{empty_book, judged, added, refusal_of, is_reserved, with_commit};
+ghost use Rattle.commit_book.specs.Contents.{empty_book, judged, added, refusal_of, is_reserved, with_commit, with_horizon};
 ghost use Rattle.commit_book.specs.CommitRows.{commit_row, commit_rows};
 ghost use Rattle.commit_book.specs.Documents.{docs, HasDocuments};
-ghost use Rattle.commit_book.specs.Index.{put_of};
-ghost use Rattle.commit_book.specs.Journal.{document_at, text_at, alteration, kept};
+ghost use Rattle.commit_book.specs.Journal.{document_at, text_at, alteration, kept, kept_rows};
 ghost use Rattle.commit_book.specs.Names.{AreNamesOf};
 
 use crate::change::{Change, CommitRow, copy_of, is_same};
 use crate::documents::documents_under;
-use crate::found::{copy_of_found, document_of, printed_of, row_at};
-use crate::index::{Collections, commits_in, push_in, slot_in};
+use crate::dropping::drop_row;
+use crate::found::{Found, copy_of_found, document_cost, found_in};
+use crate::index::{Collections, push_in, record_in, record_of, slot_in};
+use crate::past::Past;
 use crate::refusal::BookRefusal;
 use crate::row::{Reserved, Row, cost_of, text_of};
 use indexmap::IndexMap;
 use q_base::{Commit, Memory, Name, SharedText};
 use q_doc::Doc;
 use std::alloc::Global;
+use std::collections::VecDeque;
 use std::marker::Model;
 
 /// Every change in turn, the first being commit 1, within a capacity in bytes. Contracts see the
@@ -27,15 +29,22 @@ use std::marker::Model;
 pub struct Book {
     alloc: Global,
     capacity: u64,
-    /// The sum of the costs of the rows.
+    /// The sum of the costs of the kept rows.
     bytes: u64,
-    rows: Vec<Row>,
-    /// The commits of each record.
+    /// The same of the newest documents alone.
+    live: u64,
+    /// The number of rows that were dropped.
+    horizon: Commit,
+    /// The rows above the horizon.
+    rows: VecDeque<Row>,
+    /// What is kept of each record.
     collections: Collections,
     /// The index of the collection of the change that was reserved last. Most calls concern the same
     /// collection, so its name is compared before a name is hashed.
     last: usize,
     reserved: Option<Reserved>,
+    /// The changes of all rows, those that were dropped too.
+    past: Past,
 }
 
 impl Model for Book {
@@ -51,12 +60,13 @@ impl Model for Book {
 
     ghost view = { λ b. record {
       capacity = b.capacity;
-      journal = b.rows.items;
+      journal = b.past;
+      horizon = b.horizon;
       reserved = option_map (λ r. r.row) b.reserved;
       names = names_of b.collections;
     } };
 
-    ghost invariant = { λ b. IsSound b.capacity b.bytes b.rows b.collections b.reserved };
+    ghost invariant = { λ b. IsSound b.capacity b.bytes b.live b.horizon b.rows b.past b.collections b.reserved };
 }
 
 impl Book {
@@ -70,10 +80,13 @@ impl Book {
             alloc,
             capacity,
             bytes: 0,
-            rows: Vec::new(alloc),
+            live: 0,
+            horizon: 0,
+            rows: VecDeque::new(alloc),
             collections: IndexMap::new(alloc),
             last: 0,
             reserved: None,
+            past: Past::new(),
         })
     }
 
@@ -125,18 +138,24 @@ impl Book {
 
     /// Adds the change that was reserved, as the next commit. It takes no memory.
     pub fn add_reserved(&mut self) -> Commit
-        requires { IsSome self.old.reserved }
+        requires reserved { IsSome self.old.reserved }
+        requires count { length self.old.journal + 1 < 2 ^ 64 }
         ensures commit { result ≡ length self.old.journal + 1 }
         ensures after { (change : AChange) → self.old.reserved ≡ Some change → self.new ≡ with_commit self.old change self.new.names }
-        ensures names { AreNamesOf self.new.journal self.new.names }
-        ensures fits { kept self.new.journal ≤ self.new.capacity }
+        ensures names { AreNamesOf (kept_rows self.new.journal self.new.horizon) self.new.names }
+        ensures fits { kept self.new.journal self.new.horizon ≤ self.new.capacity }
     {
         match self.reserved.take() {
             Some(Reserved { row, slot }) => {
-                let commit = self.rows.len() as u64 + 1;
-                push_in(&mut self.collections, slot, commit);
+                let last = self.horizon + self.rows.len() as u64;
+                let known = record_of(&self.collections, &slot);
+                let replaced = document_cost(&row, known, &self.rows, self.horizon, last);
+                self.live = self.live + row.put_cost() - replaced;
                 self.bytes += row.cost();
-                self.rows.push_reserved(row);
+                let commit = last + 1;
+                push_in(&mut self.collections, slot, commit);
+                self.past.note(row.change());
+                self.rows.push_back_reserved(row);
                 commit
             }
             None => unreachable!(),
@@ -152,10 +171,11 @@ impl Book {
 
     /// Adds a change as the next commit. It takes no memory where the change was reserved.
     pub fn add(&mut self, change: &Change) -> Result<Commit, BookRefusal>
+        requires { length self.old.journal + 1 < 2 ^ 64 }
         ensures told { (result ≡ Err NoMemory) ⊎ (result ≡ added self.old change.now) }
         ensures full { IsErr (added self.old change.now) → result ≡ added self.old change.now }
         ensures after { OnOk result (self.new ≡ with_commit self.old change.now self.new.names) }
-        ensures names { OnOk result (AreNamesOf self.new.journal self.new.names) }
+        ensures names { OnOk result (AreNamesOf (kept_rows self.new.journal self.new.horizon) self.new.names) }
         ensures reserved { self.old.reserved ≡ Some change.now → IsOk result }
         ensures err { OnErr result (self.new ≡ self.old) }
     {
@@ -167,7 +187,8 @@ impl Book {
 
     /// Whether memory is reserved for this change.
     fn is_reserved(&self, change: &Change) -> bool
-        ensures { result ≡ is_reserved self.now change.now }
+        ensures told { result ≡ is_reserved self.now change.now }
+        ensures within { self.now.horizon ≤ length self.now.journal }
     {
         match &self.reserved {
             Some(reserved) => is_same(reserved.row.change(), change),
@@ -175,13 +196,68 @@ impl Book {
         }
     }
 
-    /// The number of commits. The index has the names of their records, and no others.
+    /// The number of commits. The index has the names of the kept rows, and no others.
     pub fn count(&self) -> Commit
         ensures count { result ≡ length self.now.journal }
-        ensures names { AreNamesOf self.now.journal self.now.names }
-        ensures fits { kept self.now.journal ≤ self.now.capacity }
+        ensures above { self.now.horizon ≤ result }
+        ensures names { AreNamesOf (kept_rows self.now.journal self.now.horizon) self.now.names }
+        ensures fits { kept self.now.journal self.now.horizon ≤ self.now.capacity }
     {
-        self.rows.len() as u64
+        self.horizon + self.rows.len() as u64
+    }
+
+    /// The commit up to which rows were dropped: what the store had been before it is not known any more.
+    pub fn horizon(&self) -> Commit
+        ensures horizon { result ≡ self.now.horizon }
+        ensures within { result ≤ length self.now.journal }
+    {
+        self.horizon
+    }
+
+    /// What the kept rows take of the capacity, in bytes.
+    pub fn bytes(&self) -> u64
+        ensures { result ≡ kept self.now.journal self.now.horizon }
+    {
+        self.bytes
+    }
+
+    /// What the newest documents take of the capacity, in bytes: what would be kept were the horizon at the
+    /// last commit.
+    pub fn live(&self) -> u64
+        ensures { result ≡ kept self.now.journal (length self.now.journal) }
+    {
+        self.live
+    }
+
+    /// Drops the rows up to a commit, but for those whose documents are there at that commit. It takes no
+    /// memory, and the time of the rows that it passes. What was reserved for a change is given back.
+    pub fn drop_to(&mut self, to: Commit)
+        requires forward { self.old.horizon ≤ to }
+        requires within { to ≤ length self.old.journal }
+        ensures after { self.new ≡ with_horizon self.old to self.new.names }
+        ensures names { AreNamesOf (kept_rows self.new.journal to) self.new.names }
+        ensures fits { kept self.new.journal to ≤ self.new.capacity }
+    {
+        self.forget_reserved();
+        while self.horizon < to {
+            self.drop_next();
+        }
+    }
+
+    /// Drops the first row above the horizon.
+    fn drop_next(&mut self)
+        requires forgotten { self.old.reserved ≡ None }
+        requires within { self.old.horizon < length self.old.journal }
+        ensures { self.new ≡ with_horizon self.old (self.old.horizon + 1) self.new.names }
+    {
+        match self.rows.pop_front() {
+            Some(row) => {
+                let commit = self.horizon + 1;
+                self.bytes -= drop_row(&mut self.collections, self.last, commit, row);
+                self.horizon = commit;
+            }
+            None => unreachable!(),
+        }
     }
 
     /// The document of a record after a commit, and the commit that put it. It takes no memory.
@@ -191,13 +267,12 @@ impl Book {
         collection: &Name,
         id: &Name,
     ) -> Option<(Commit, &'a Doc)>
-        requires { commit ≤ length self.now.journal }
+        requires kept { self.now.horizon ≤ commit }
+        requires within { commit ≤ length self.now.journal }
         ensures { option_map (λ d. (d.0, d.1.now)) result ≡ document_at self.now.journal commit collection.now id.now }
     {
-        match self.row_at(commit, collection, id) {
-            Some((version, row)) => document_of(version, row),
-            None => None,
-        }
+        let found = self.found_at(commit, collection, id)?;
+        Some((found.commit, found.document))
     }
 
     /// The printed text of the document of a record after a commit, and the commit that put it. It takes
@@ -208,39 +283,35 @@ impl Book {
         collection: &Name,
         id: &Name,
     ) -> Option<(Commit, &'a SharedText)>
-        requires { commit ≤ length self.now.journal }
+        requires kept { self.now.horizon ≤ commit }
+        requires within { commit ≤ length self.now.journal }
         ensures { option_map (λ t. (t.0, t.1.now)) result ≡ text_at self.now.journal commit collection.now id.now }
     {
-        match self.row_at(commit, collection, id) {
-            Some((version, row)) => printed_of(version, row),
-            None => None,
-        }
+        let found = self.found_at(commit, collection, id)?;
+        Some((found.commit, found.text))
     }
 
-    /// The last row of a record that is not behind a commit, and its number.
-    fn row_at<'a>(
-        &'a self,
-        commit: Commit,
-        collection: &Name,
-        id: &Name,
-    ) -> Option<(Commit, &'a Row)>
-        requires { commit ≤ length self.now.journal }
-        ensures { put_of (option_map (λ f. (f.0, f.1.now)) result) ≡ document_at self.now.journal commit collection.now id.now }
+    /// The document of a record after a commit, with its text.
+    fn found_at<'a>(&'a self, commit: Commit, collection: &Name, id: &Name) -> Option<Found<'a>>
+        requires kept { self.now.horizon ≤ commit }
+        requires within { commit ≤ length self.now.journal }
+        ensures documents { option_map (λ f. (f.commit, f.document.now)) result ≡ document_at self.now.journal commit collection.now id.now }
+        ensures texts { option_map (λ f. (f.commit, f.text.now)) result ≡ text_at self.now.journal commit collection.now id.now }
     {
-        let commits = commits_in(&self.collections, self.last, collection, id);
-        row_at(&self.rows, commits, commit)
+        match record_in(&self.collections, self.last, collection, id) {
+            Some(record) => found_in(&self.rows, self.horizon, record, commit),
+            None => None,
+        }
     }
 
     /// The change of a commit, where it altered its record: where it put a document, or took one away.
     /// It takes no memory.
     pub fn altered(&self, commit: Commit) -> Option<&Change>
+        requires { self.now.horizon < commit }
         ensures { option_map (λ c. c.now) result ≡ alteration self.now.journal commit }
     {
-        if commit == 0 {
-            return None;
-        }
         let earlier = commit - 1;
-        let change = self.rows.get(earlier as usize)?.change();
+        let change = self.rows.get((earlier - self.horizon) as usize)?.change();
         if change.document.is_some() || self.has_document(earlier, change) {
             Some(change)
         } else {
@@ -250,7 +321,8 @@ impl Book {
 
     /// Whether the record of a change has a document after a commit.
     fn has_document(&self, commit: Commit, change: &Change) -> bool
-        requires { commit ≤ length self.now.journal }
+        requires kept { self.now.horizon ≤ commit }
+        requires within { commit ≤ length self.now.journal }
         ensures { result ≡ is_some (document_at self.now.journal commit change.now.collection change.now.id) }
     {
         self.document_at(commit, &change.collection, &change.id)
@@ -259,6 +331,7 @@ impl Book {
 
     /// The commits after `from`, up to `to`.
     pub fn commits(&self, from: Commit, to: Commit) -> Result<Vec<CommitRow>, Memory>
+        requires kept { self.now.horizon ≤ from }
         requires forward { from ≤ to }
         requires within { to ≤ length self.now.journal }
         ensures { IfOk result (λ rows. rows.items ≡ commit_rows self.now.journal from to) }
@@ -272,10 +345,11 @@ impl Book {
 
     /// The commit of the row at a index.
     fn commit_row(&self, index: usize) -> Result<CommitRow, Memory>
-        requires { index < length self.now.journal }
+        requires kept { self.now.horizon ≤ index }
+        requires within { index < length self.now.journal }
         ensures { IfOk result (λ row. (change : AChange) → slice_get self.now.journal index ≡ Some change → row ≡ commit_row self.now.journal (index + 1) change) }
     {
-        let change = self.rows[index].change();
+        let change = self.rows[index - self.horizon as usize].change();
         let before = self.document_at(index as u64, &change.collection, &change.id);
         Ok(CommitRow {
             commit: index as u64 + 1,
@@ -293,7 +367,8 @@ impl Book {
         commit: Commit,
         collection: &Name,
     ) -> Result<Vec<(Name, Commit, Doc)>, Memory>
-        requires { commit ≤ length self.now.journal }
+        requires kept { self.now.horizon ≤ commit }
+        requires within { commit ≤ length self.now.journal }
         ensures { IfOk result (λ rows. rows.items ≡ docs self.now.journal commit collection.now) }
     {
         let mut rows = self.documents_of(commit, collection)?;
@@ -309,11 +384,12 @@ impl Book {
         commit: Commit,
         collection: &Name,
     ) -> Result<Vec<(Name, Commit, Doc)>, Memory>
-        requires { commit ≤ length self.now.journal }
+        requires kept { self.now.horizon ≤ commit }
+        requires within { commit ≤ length self.now.journal }
         ensures { IfOk result (λ rows. HasDocuments (document_at self.now.journal commit collection.now) rows.items) }
     {
         match self.collections.get(collection) {
-            Some(records) => documents_under(self.alloc, &self.rows, records, commit),
+            Some(records) => documents_under(self.alloc, &self.rows, self.horizon, records, commit),
             None => Ok(Vec::new(self.alloc)),
         }
     }

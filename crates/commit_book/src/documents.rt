@@ -1,30 +1,32 @@
 //! The documents of a collection.
 ghost use Rattle.std.specs.Prelude.{◌≡◌, ℕ, List, ◌++◌, IfOk, OnOk};
 ghost use Rattle.commit_book.specs.Documents.{list_of, row_of, HasDocuments};
-ghost use Rattle.commit_book.specs.Index.{commits_under, change_of, put_of, document_under, AreCommits};
+ghost use Rattle.commit_book.specs.Index.{commits_under, document_in, document_under, AreCommits};
 
-use crate::found::row_at;
-use crate::index::Records;
+use crate::found::found_in;
+use crate::index::{Record, Records};
 use crate::row::Row;
 use q_base::{Commit, Memory, Name};
 use q_doc::Doc;
 use std::alloc::Global;
+use std::collections::VecDeque;
 
 /// The documents of the records of a collection after a commit, in the order in which their ids came.
 pub fn documents_under(
     alloc: Global,
-    rows: &[Row],
+    rows: &VecDeque<Row>,
+    horizon: Commit,
     records: &Records,
     commit: Commit,
 ) -> Result<Vec<(Name, Commit, Doc)>, Memory>
-    requires { (id : List ℕ) → AreCommits rows.now (commits_under records.now id) }
-    ensures { IfOk result (λ found. HasDocuments (document_under rows.now records.now commit) found.items) }
+    requires { (id : List ℕ) → AreCommits horizon rows.now.items (commits_under records.now id) }
+    ensures { IfOk result (λ found. HasDocuments (document_under horizon rows.now.items records.now commit) found.items) }
 {
     let count = records.len();
     let mut found = Vec::with_capacity(alloc, count)?;
     for index in 0..count {
         match records.get_index(index) {
-            Some((id, commits)) => push_document(&mut found, rows, id, commits, commit)?,
+            Some((id, record)) => push_document(&mut found, rows, horizon, id, record, commit)?,
             None => unreachable!(),
         }
     }
@@ -34,18 +36,17 @@ pub fn documents_under(
 /// Adds the document of an id after a commit, where there is one.
 fn push_document(
     found: &mut Vec<(Name, Commit, Doc)>,
-    rows: &[Row],
+    rows: &VecDeque<Row>,
+    horizon: Commit,
     id: &Name,
-    commits: &[Commit],
+    record: &Record,
     commit: Commit,
 ) -> Result<(), Memory>
-    requires { AreCommits rows.now commits.now }
-    ensures { OnOk result (found.new.items ≡ found.old.items ++ list_of (row_of id.now (put_of (change_of rows.now commits.now commit)))) }
+    requires { AreCommits horizon rows.now.items record.now.commits.items }
+    ensures { OnOk result (found.new.items ≡ found.old.items ++ list_of (row_of id.now (document_in horizon rows.now.items record.now.base record.now.commits.items commit))) }
 {
-    if let Some((version, row)) = row_at(rows, commits, commit) {
-        if let Some(document) = row.document() {
-            found.push((id.clone()?, version, document.clone()?))?;
-        }
+    if let Some(there) = found_in(rows, horizon, record, commit) {
+        found.push((id.clone()?, there.commit, there.document.clone()?))?;
     }
     Ok(())
 }

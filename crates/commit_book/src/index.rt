@@ -1,18 +1,29 @@
-//! The index of a book: the commits of each record, by the names of its collection and of its document.
-ghost use Rattle.std.specs.Prelude.{◌≡◌, ℕ, ◌<◌, ◌++◌, ◌∷◌, [], List, ◌≢◌, IfOk, None, Some, false};
+//! The index of a book: what is kept of each record, by the names of its collection and of its document.
+ghost use Rattle.std.specs.Prelude.{◌≡◌, ℕ, ◌<◌, ◌++◌, ◌∷◌, [], List, ◌≢◌, IfOk, None, Some, false, option_map};
 ghost use Rattle.std.specs.Str.{bytes_eq};
 ghost use Rattle.std.specs.Map.{keys_of};
 ghost use Rattle.indexmap.specs.IndexMap.{get_by, spare};
 ghost use Rattle.commit_book.specs.declared.index.Slot.TheVariants.{Known, InCollection};
-ghost use Rattle.commit_book.specs.Index.{commits_under, commits_in, collection_of, index_under, space_under, names_of, AddsCommit, IsNew, IsSlotUnder, IsSlotIn, KeepsSpace, KeepsSpaceUnder};
+ghost use Rattle.commit_book.specs.Index.{base_under, commits_under, record_in, collection_of, index_under, space_under, names_of, AddsCommit, IsNew, IsSlotUnder, IsSlotIn, KeepsSpace, KeepsSpaceUnder};
 ghost use Rattle.commit_book.specs.Names.{collection_index, has_collection};
 
+use crate::base::Base;
 use indexmap::IndexMap;
 use q_base::{Commit, Memory, Name};
 use std::alloc::Global;
+use std::collections::VecDeque;
 
-/// The commits of each id of a collection, ascending. Each id has one.
-pub type Records = IndexMap<Name, Vec<Commit>>;
+/// What is kept of a record: it has a base or a commit.
+#[derive(Drop)]
+pub struct Record {
+    /// The document that it has at the horizon.
+    pub base: Option<Base>,
+    /// Its commits above the horizon, ascending.
+    pub commits: VecDeque<Commit>,
+}
+
+/// The records of a collection, by their ids.
+pub type Records = IndexMap<Name, Record>;
 
 /// The records of each collection. Each collection has one.
 pub type Collections = IndexMap<Name, Records>;
@@ -21,7 +32,7 @@ pub type Collections = IndexMap<Name, Records>;
 #[derive(Drop)]
 pub struct NewRecord {
     pub id: Name,
-    pub commits: Vec<Commit>,
+    pub commits: VecDeque<Commit>,
 }
 
 /// A collection that is not in the index, and its first record, with memory reserved for both.
@@ -59,7 +70,7 @@ impl Slot {
 
 /// The index of a collection. The name at the likely index is compared first, and where it is the
 /// right one no name is hashed; the answer is the same whatever is likely.
-fn index_of(collections: &Collections, likely: usize, name: &Name) -> Option<usize>
+pub fn index_of(collections: &Collections, likely: usize, name: &Name) -> Option<usize>
     ensures { result ≡ collection_index (names_of collections.now) name.now }
 {
     if let Some((there, _)) = collections.as_slice().get_index(likely) {
@@ -70,29 +81,43 @@ fn index_of(collections: &Collections, likely: usize, name: &Name) -> Option<usi
     collections.get_index_of(name)
 }
 
-/// The commits of a record, whose collection has likely this index.
-pub fn commits_in<'a>(
+/// What is kept of a record, whose collection has likely this index.
+pub fn record_in<'a>(
     collections: &'a Collections,
     likely: usize,
     collection: &Name,
     id: &Name,
-) -> &'a [Commit]
-    ensures { result.now ≡ commits_in collections.now collection.now id.now }
+) -> Option<&'a Record>
+    ensures { option_map (λ r. r.now) result ≡ record_in collections.now collection.now id.now }
 {
     match index_of(collections, likely, collection) {
-        Some(index) => commits_under(&collections[index], id),
-        None => &[],
+        Some(index) => collections[index].get(id),
+        None => None,
     }
 }
 
-/// The commits of an id.
-fn commits_under<'a>(records: &'a Records, id: &Name) -> &'a [Commit]
-    ensures { result.now ≡ commits_under records.now id.now }
+/// What is kept of the record of a slot. It hashes no name.
+pub fn record_of<'a>(collections: &'a Collections, slot: &Slot) -> Option<&'a Record>
+    ensures { (collection id : List ℕ) → IsSlotIn collections.now collection id slot.now → option_map (λ r. r.now) result ≡ record_in collections.now collection id }
 {
-    match records.get(id) {
-        Some(commits) => commits.as_slice(),
-        None => &[],
+    match slot {
+        Slot::Known { collection, record } => known_record(collections, *collection, *record),
+        Slot::InCollection { .. } => None,
+        Slot::InNewCollection(_) => None,
     }
+}
+
+/// What is kept of the record with this index in the collection with this index.
+fn known_record<'a>(
+    collections: &'a Collections,
+    collection: usize,
+    index: usize,
+) -> Option<&'a Record>
+    ensures { (name id : List ℕ) → IsSlotIn collections.now name id (Known collection index) → option_map (λ r. r.now) result ≡ record_in collections.now name id }
+{
+    let (_, records) = collections.get_index(collection)?;
+    let (_, record) = records.get_index(index)?;
+    Some(record)
 }
 
 /// Adds a commit of a record in its slot. It takes no memory, and hashes no name of a record that is
@@ -122,10 +147,11 @@ fn push_under(records: &mut Records, index: usize, commit: Commit)
     requires { (id : List ℕ) × (index_under records.old id ≡ Some index) × (0 < space_under records.old id) }
     ensures own { (id : List ℕ) → index_under records.old id ≡ Some index → commits_under records.new id ≡ commits_under records.old id ++ commit ∷ [] }
     ensures others { (id other : List ℕ) → index_under records.old id ≡ Some index → other ≢ id → commits_under records.new other ≡ commits_under records.old other }
+    ensures bases { (id : List ℕ) → index_under records.old id ≡ Some index → (other : List ℕ) → base_under records.new other ≡ base_under records.old other }
     ensures ids { keys_of records.new.entries ≡ keys_of records.old.entries }
 {
-    let (_, commits) = records.pair_mut(index);
-    commits.push_reserved(commit);
+    let (_, record) = records.pair_mut(index);
+    record.commits.push_back_reserved(commit);
 }
 
 /// Puts a record with its first commit into the collection with this index.
@@ -144,11 +170,16 @@ fn put_under(records: &mut Records, new: NewRecord, commit: Commit)
     requires absent { get_by (bytes_eq new.id) records.old ≡ None }
     ensures own { commits_under records.new new.id ≡ commit ∷ [] }
     ensures others { (other : List ℕ) → other ≢ new.id → commits_under records.new other ≡ commits_under records.old other }
+    ensures bases { (other : List ℕ) → base_under records.new other ≡ base_under records.old other }
     ensures ids { keys_of records.new.entries ≡ keys_of records.old.entries ++ new.id ∷ [] }
 {
     let NewRecord { id, mut commits } = new;
-    commits.push_reserved(commit);
-    match records.insert(id, commits) {
+    commits.push_back_reserved(commit);
+    let record = Record {
+        base: None,
+        commits,
+    };
+    match records.insert(id, record) {
         Ok(_) => {}
         Err(_) => unreachable!(),
     }
@@ -202,8 +233,8 @@ fn slot_under(records: &mut Records, collection: usize, id: &Name) -> Result<Slo
 {
     match records.get_index_of(id) {
         Some(record) => {
-            let (_, commits) = records.pair_mut(record);
-            commits.reserve(1)?;
+            let (_, known) = records.pair_mut(record);
+            known.commits.reserve(1)?;
             Ok(Slot::Known { collection, record })
         }
         None => {
@@ -248,6 +279,6 @@ fn new_record(alloc: Global, id: &Name) -> Result<NewRecord, Memory>
 {
     Ok(NewRecord {
         id: id.clone()?,
-        commits: Vec::with_capacity(alloc, 1)?,
+        commits: VecDeque::with_capacity(alloc, 1)?,
     })
 }

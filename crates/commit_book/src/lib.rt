@@ -1,12 +1,15 @@
 //! The book of commits: every change in turn, found by its number and by its record.
 #![tactic(auto)]
 
+mod base;
 mod book;
 mod change;
 mod documents;
+mod dropping;
 mod found;
 mod index;
 pub mod laws;
+mod past;
 mod refusal;
 mod row;
 #[cfg(test)]

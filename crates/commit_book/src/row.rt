@@ -1,10 +1,12 @@
 //! The rows of a book.
 ghost use Rattle.std.specs.Prelude.{◌≡◌, ◌<◌, ◌≤◌, ◌^◌, ◌+◌, length, IfOk, is_some, option_map};
-ghost use Rattle.commit_book.specs.Journal.{text_of, cost_of, row_bytes};
+ghost use Rattle.commit_book.specs.Index.{put_cost};
+ghost use Rattle.commit_book.specs.Journal.{text_of, cost_of, put_at, row_bytes};
 
+use crate::base::Base;
 use crate::change::Change;
 use crate::index::Slot;
-use q_base::{Memory, SharedText};
+use q_base::{Commit, Memory, Name, SharedText};
 use q_doc::Doc;
 use std::alloc::{AllocError, Global};
 use std::marker::Model;
@@ -30,6 +32,14 @@ impl Model for Row {
     ghost view = { λ r. r.change };
 
     ghost invariant = { λ r. r.text ≡ text_of r.change.document };
+}
+
+/// A row that is dropped: its names, and the document that stays, if it puts one.
+#[derive(Drop)]
+pub struct Dropped {
+    pub collection: Name,
+    pub id: Name,
+    pub base: Option<Base>,
 }
 
 /// A row that is to be added, and the slot of its commit in the index.
@@ -72,11 +82,46 @@ impl Row {
         &self.text
     }
 
+    /// The names of the row, and what stays of it when it is dropped, if it puts a document.
+    pub fn into_dropped(self, commit: Commit) -> Dropped
+        ensures collection { result.collection ≡ self.collection }
+        ensures id { result.id ≡ self.id }
+        ensures base { result.base ≡ put_at commit self.document }
+    {
+        let Row { change, text } = self;
+        let Change {
+            collection,
+            id,
+            document,
+        } = change;
+        let base = match document {
+            Some(document) => Some(Base::new(commit, document, text)),
+            None => None,
+        };
+        Dropped {
+            collection,
+            id,
+            base,
+        }
+    }
+
     /// What the row takes of the capacity, in bytes.
     pub fn cost(&self) -> u64
         ensures { result ≡ cost_of self.now }
     {
         cost_of(&self.change, self.text.as_slice())
+    }
+
+    /// What the row takes of the capacity where it puts a document, in bytes.
+    pub fn put_cost(&self) -> u64
+        ensures cost { result ≡ put_cost self.now }
+        ensures most { result ≤ 2 ^ 63 + 192 }
+    {
+        if self.has_document() {
+            cost_of(&self.change, self.text.as_slice())
+        } else {
+            0
+        }
     }
 
     /// Whether the row puts a document.
@@ -118,6 +163,15 @@ pub fn cost_with(change: &Change, size: usize) -> u64
     ensures cost { result ≡ row_bytes + length change.now.collection + length change.now.id + size }
     ensures most { result ≤ 2 ^ 63 + 192 }
 {
-    let names = change.collection.as_slice().len() + change.id.as_slice().len();
+    names_cost(&change.collection, &change.id, size)
+}
+
+/// What a row of these names with a text of this length takes of the capacity, in bytes.
+pub fn names_cost(collection: &Name, id: &Name, size: usize) -> u64
+    requires { size < 2 ^ 63 }
+    ensures cost { result ≡ row_bytes + length collection.now + length id.now + size }
+    ensures most { result ≤ 2 ^ 63 + 192 }
+{
+    let names = collection.as_slice().len() + id.as_slice().len();
     (ROW_BYTES + names + size) as u64
 }

@@ -34,7 +34,9 @@ fn change(alloc: Global, id: &[u8], text: &[u8]) -> Result<Change, Fail> {
 /// Adds a change of a record of `shop`.
 fn add(alloc: Global, book: &mut Book, id: &[u8], text: &[u8]) -> Result<(), Fail> {
     let change = change(alloc, id, text)?;
-    book.add(&change)?;
+    if book.count() < u64::MAX {
+        book.add(&change)?;
+    }
     Ok(())
 }
 
@@ -96,7 +98,9 @@ fn is_full_with(refusal: Option<BookRefusal>, sum: u64) -> bool {
 
 /// Whether a change is refused with this sum, by both calls.
 fn is_full(book: &mut Book, change: &Change, sum: u64) -> bool {
-    is_full_with(book.reserve(change).err(), sum) && is_full_with(book.add(change).err(), sum)
+    is_full_with(book.reserve(change).err(), sum)
+        && book.count() < u64::MAX
+        && is_full_with(book.add(change).err(), sum)
 }
 
 /// Whether the short document, which takes 77 bytes, is refused.
@@ -123,7 +127,9 @@ fn is_text(found: Option<(u64, &SharedText)>, expected: &[u8]) -> bool {
 
 /// Whether a record of `shop` has this text at a commit; an empty text is none.
 fn has_text(book: &Book, commit: u64, shop: &Name, id: &Name, expected: &[u8]) -> bool {
-    commit <= book.count() && is_text(book.text_at(commit, shop, id), expected)
+    book.horizon() <= commit
+        && commit <= book.count()
+        && is_text(book.text_at(commit, shop, id), expected)
 }
 
 /// Whether a record has the texts of p2 in the book of four commits.
@@ -181,9 +187,10 @@ fn has_two_documents(alloc: Global, book: &Book) -> Result<bool, Fail> {
 
 /// Whether the list of all commits has as many.
 fn lists_all_commits(book: &Book) -> Result<bool, Fail> {
+    let first = book.horizon();
     let last = book.count();
-    let commits = book.commits(0, last)?;
-    Ok(commits.len() as u64 == last)
+    let commits = book.commits(first, last)?;
+    Ok(first == 0 && commits.len() as u64 == last)
 }
 
 #[test]
@@ -224,6 +231,90 @@ fn has_memory(alloc: Global) -> bool {
 fn look_ups_take_no_memory(rt: HostRuntime) -> Result<(), Fail> {
     let book = one_commit(rt.alloc())?;
     assert!(rt; is_p2_found(rt.alloc(), &book)?);
+    assert!(rt; has_memory(rt.alloc()), "the next allocation was refused");
+    Ok(())
+}
+
+/// Drops the rows of a book up to a commit.
+fn drop_rows(book: &mut Book, to: u64) {
+    if book.horizon() <= to && to <= book.count() {
+        book.drop_to(to);
+    }
+}
+
+/// The almost full book, whose rows are all dropped. Of the two short documents the last one stays.
+fn dropped_book(alloc: Global) -> Result<Box<Book>, Fail> {
+    let mut book = almost_full(alloc)?;
+    drop_rows(&mut book, 3);
+    Ok(book)
+}
+
+#[test]
+fn dropped_rows_leave_room(rt: HostRuntime) -> Result<(), Fail> {
+    let mut book = dropped_book(rt.alloc())?;
+    assert!(rt; book.horizon() == 3 && book.bytes() == 65_683);
+    add_short(rt.alloc(), &mut book)?;
+    assert!(rt; book.count() == 4 && book.bytes() == 65_760);
+    Ok(())
+}
+
+/// The book of four commits, of which the first three are dropped: p2 is deleted at the third and put again.
+fn three_dropped(alloc: Global) -> Result<Box<Book>, Fail> {
+    let mut book = four_commits(alloc)?;
+    drop_rows(&mut book, 3);
+    Ok(book)
+}
+
+/// Whether a record has a text at commit 3 and one at commit 4, of a book whose horizon is 3.
+fn has_texts_from_3(book: &Book, shop: &Name, id: &Name, third: &[u8], fourth: &[u8]) -> bool {
+    book.horizon() == 3
+        && book.count() == 4
+        && is_text(book.text_at(3, shop, id), third)
+        && is_text(book.text_at(4, shop, id), fourth)
+}
+
+/// Whether p2 has its text of commit 4 alone, and p10 that of commit 2 at both.
+fn has_texts_of_both(alloc: Global, book: &Book) -> Result<bool, Fail> {
+    let shop = name(alloc, b"shop")?;
+    let short = name(alloc, b"p2")?;
+    let long = name(alloc, b"p10")?;
+    Ok(
+        has_texts_from_3(book, &shop, &short, b"", b"{\"a\":4}")
+            && has_texts_from_3(book, &shop, &long, b"{\"b\":2}", b"{\"b\":2}"),
+    )
+}
+
+#[test]
+fn documents_stay_from_the_horizon_on(rt: HostRuntime) -> Result<(), Fail> {
+    let book = three_dropped(rt.alloc())?;
+    assert!(rt; has_texts_of_both(rt.alloc(), &book)?);
+    assert!(rt; has_two_documents(rt.alloc(), &book)?);
+    Ok(())
+}
+
+/// A book that is empty again: p2 was put and deleted.
+fn emptied_book(alloc: Global) -> Result<Box<Book>, Fail> {
+    let mut book = one_commit(alloc)?;
+    add(alloc, &mut book, b"p2", b"")?;
+    drop_rows(&mut book, 2);
+    Ok(book)
+}
+
+#[test]
+fn a_deleted_document_leaves_the_book_whole(rt: HostRuntime) -> Result<(), Fail> {
+    let mut book = emptied_book(rt.alloc())?;
+    assert!(rt; book.count() == 2 && book.bytes() == 0);
+    add_short(rt.alloc(), &mut book)?;
+    assert!(rt; book.count() == 3 && book.bytes() == 77);
+    Ok(())
+}
+
+/// The allocation at the end is the first one after the set-up.
+#[test]
+fn dropping_takes_no_memory(rt: HostRuntime) -> Result<(), Fail> {
+    let mut book = four_commits(rt.alloc())?;
+    drop_rows(&mut book, 4);
+    assert!(rt; book.horizon() == 4);
     assert!(rt; has_memory(rt.alloc()), "the next allocation was refused");
     Ok(())
 }

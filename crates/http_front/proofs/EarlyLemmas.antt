@@ -39,7 +39,7 @@ use Rattle.http_front.specs.declared.refused.Refused.TheVariants.{BadMethod, Bad
 use Rattle.http_front.specs.declared.routes.Method.{Method}
 use Rattle.http_front.specs.declared.routes.Method.TheVariants.{Get, Head, Post, Put, Delete}
 use Rattle.http_front.specs.declared.routes.Route.{Route}
-use Rattle.http_front.specs.declared.routes.Route.TheVariants.{Record, Query, Filter, Purges, Match, Stats}
+use Rattle.http_front.specs.declared.routes.Route.TheVariants.{Record, Query, Filter, Purges, Match, Horizon, Stats}
 use Rattle.http_front.specs.declared.routes.Served.{Served}
 use Rattle.http_front.specs.Tags.{tags_in}
 use Rattle.http_front.specs.declared.tags.Comparison.TheVariants.{Strong, Weak}
@@ -176,6 +176,7 @@ module _ (m : Message) (path : List ℕ) (method : Method) where
   free_call Filter allowed early = refl
   free_call Purges allowed early = refl
   free_call Match allowed early = refl
+  free_call Horizon allowed early = refl
   free_call Stats allowed early = refl
 
   -- one of a route that takes fields, once these are decoded
@@ -198,6 +199,7 @@ module _ (m : Message) (path : List ℕ) (method : Method) where
   free_fields query Filter early = refl
   free_fields query Purges early = absurd (true≢false (sym early ∙ late_purges (fields_of Purges (pieces_of query))))
   free_fields query Match early = refl
+  free_fields query Horizon early = refl
   free_fields query Stats early = refl
 
   -- fields that were decoded are of a route that takes them, or there is no query

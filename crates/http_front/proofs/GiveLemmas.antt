@@ -9,7 +9,7 @@ use Rattle.http_front.specs.declared.body.ReplyBody.{ReplyBody}
 use Rattle.http_front.specs.declared.head.Head.{Head}
 use Rattle.http_front.specs.declared.shape.Shape.{Shape}
 use Rattle.http_front.specs.declared.told.Told.{Told}
-use Rattle.http_front.specs.declared.told.Told.TheVariants.{Write, Read, Match, Page, Count, Purges, Refusal, Memory}
+use Rattle.http_front.specs.declared.told.Told.TheVariants.{Write, Read, Match, Dropped, Page, Count, Purges, Refusal, Memory}
 
 fitting : (size : ℕ) → size < 2 ^ 64 → up_to_greatest size ≡ size
 fitting size fits = omega arith
@@ -20,6 +20,7 @@ head_up_to : (shape : Shape) (told : Told) (size : ℕ) (close : Bool) → (is_c
 head_up_to shape (Write written) size close fits = ap (λ n. head_of shape (Write written) n close) (fitting size (fits refl))
 head_up_to shape (Read answer) size close fits = ap (λ n. head_of shape (Read answer) n close) (fitting size (fits refl))
 head_up_to shape (Match matched) size close fits = ap (λ n. head_of shape (Match matched) n close) (fitting size (fits refl))
+head_up_to shape (Dropped dropped) size close fits = ap (λ n. head_of shape (Dropped dropped) n close) (fitting size (fits refl))
 head_up_to shape (Page clock) size close fits = ap (λ n. head_of shape (Page clock) n close) (fitting size (fits refl))
 head_up_to shape (Count stats) size close fits = ap (λ n. head_of shape (Count stats) n close) (fitting size (fits refl))
 head_up_to shape (Purges reply) size close fits =

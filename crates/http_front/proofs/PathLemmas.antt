@@ -310,7 +310,7 @@ abbrev kinds : RowsOf Route
 kinds = (codes "d/" ++ 256 ∷ 47 ∷ 256 ∷ [], Record) ∷ rest
 
 rest_lacks : Lacks rest
-rest_lacks = (λ e. cc, (λ e. cc, (λ e. cc, (λ e. cc, (λ e. cc, tt)))))
+rest_lacks = (λ e. cc, (λ e. cc, (λ e. cc, (λ e. cc, (λ e. cc, (λ e. cc, tt))))))
 
 kind_back : (path : List ℕ) → first kinds path ≡ Some Record → Behind (codes "d/") names_row path Record
 unfolding seek

@@ -10,7 +10,7 @@ use Rattle.http_front.specs.Target.{ahead_of, behind}
 use Rattle.http_front.specs.declared.refused.QueryField.{QueryField}
 use Rattle.http_front.specs.declared.refused.QueryField.TheVariants as field
 use Rattle.http_front.specs.declared.routes.Route.{Route}
-use Rattle.http_front.specs.declared.routes.Route.TheVariants.{Record, Query, Filter, Purges, Match, Stats}
+use Rattle.http_front.specs.declared.routes.Route.TheVariants.{Record, Query, Filter, Purges, Match, Horizon, Stats}
 use Rattle.http_front.proofs.CutLemmas.{parted, whole}
 
 among_by : (name rest : List ℕ) (o : Option (List ℕ)) → behind 38 rest ≡ o
@@ -123,6 +123,7 @@ no_fields_of Purges rest takes = absurd (true≢false takes)
 no_fields_of Record rest takes = fields_by Record rest (behind 38 rest) refl refl
 no_fields_of Filter rest takes = fields_by Filter rest (behind 38 rest) refl refl
 no_fields_of Match rest takes = fields_by Match rest (behind 38 rest) refl refl
+no_fields_of Horizon rest takes = fields_by Horizon rest (behind 38 rest) refl refl
 no_fields_of Stats rest takes = fields_by Stats rest (behind 38 rest) refl refl
 
 pub no_fields_in : (route : Route) (query : Option (List ℕ)) (text : List ℕ) → query ≡ Some text → takes_fields route ≡ false

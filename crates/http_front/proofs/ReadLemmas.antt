@@ -21,7 +21,7 @@ use Rattle.http_front.specs.declared.head.Head.{Head}
 use Rattle.http_front.specs.declared.head.MediaType.{MediaType}
 use Rattle.http_front.specs.declared.head.MediaType.TheVariants.{Json, OctetStream}
 use Rattle.http_front.specs.declared.refused.Allow.{Allow}
-use Rattle.http_front.specs.declared.refused.Allow.TheVariants.{Record, Match, Other}
+use Rattle.http_front.specs.declared.refused.Allow.TheVariants.{Record, Post, Other}
 use Rattle.http_front.proofs.DateLemmas.{date_value, one_date}
 use Rattle.http_front.proofs.OriginLemmas.{origin_visible}
 use Rattle.http_front.proofs.StatusLemmas.{phrase_is_value}
@@ -75,7 +75,7 @@ lifetime_good (suc n) =
 
 methods_value : (allow : Allow) → is_trimmed_value (methods_text allow) ≡ true
 methods_value Record = refl
-methods_value Match = refl
+methods_value Post = refl
 methods_value Other = refl
 
 allow_good : (allow : Option Allow) → AreGood (allow_field allow)

@@ -15,7 +15,7 @@ use Rattle.matchit.specs.Seek.{own, step, seek, first, param_step, has_slash, se
 use Rattle.matchit.proofs.OnLiterals.{matchit_on_literals}
 use Rattle.http_front.specs.Routes.{table, route_of}
 use Rattle.http_front.specs.declared.routes.Route.{Route}
-use Rattle.http_front.specs.declared.routes.Route.TheVariants.{Record, Query, Filter, Purges, Match, Stats}
+use Rattle.http_front.specs.declared.routes.Route.TheVariants.{Record, Query, Filter, Purges, Match, Horizon, Stats}
 
 pub All-right : (P : ℕ → Type 0) (xs ys : List ℕ) → All P (xs ++ ys) → All P ys
 All-right P [] ys h = h
@@ -127,7 +127,7 @@ module _ {K : Type 0} where
 -- the table with the routes alone
 abbrev pub rest : RowsOf Route
 rest =
-    (codes "filter", Filter) ∷ (codes "match", Match) ∷ (codes "purges", Purges)
+    (codes "filter", Filter) ∷ (codes "horizon", Horizon) ∷ (codes "match", Match) ∷ (codes "purges", Purges)
     ∷ (codes "q/" ++ 256 ∷ [], Query) ∷ (codes "stats", Stats) ∷ []
 
 abbrev pub under : List ℕ → RowsOf Route → RowsOf Route

@@ -13,7 +13,7 @@ use Rattle.http_front.specs.Routes.{route_of, table}
 use Rattle.http_front.specs.Tags.{members_of, tag_of, tags_in, commits_in}
 use Rattle.http_front.specs.Target.{local_part, path_of, query_of}
 use Rattle.http_front.specs.declared.refused.QueryField.TheVariants as field
-use Rattle.http_front.specs.declared.routes.Route.TheVariants.{Record, Query, Filter, Purges, Match, Stats}
+use Rattle.http_front.specs.declared.routes.Route.TheVariants.{Record, Query, Filter, Purges, Match, Horizon, Stats}
 use Rattle.http_front.specs.declared.tags.Comparison.TheVariants.{Strong, Weak}
 
 -- RFC 9112, section 3.2: the origin form and the absolute form name a path, and the asterisk form does not
@@ -111,6 +111,7 @@ pub routes : (route_of (codes "/v1/d/s/p") ≡ Some Record)
     × (route_of (codes "/v1/filter") ≡ Some Filter)
     × (route_of (codes "/v1/purges") ≡ Some Purges)
     × (route_of (codes "/v1/match") ≡ Some Match)
+    × (route_of (codes "/v1/horizon") ≡ Some Horizon)
     × (route_of (codes "/v1/stats") ≡ Some Stats)
     × (route_of (codes "/v1/d/s") ≡ None)
     × (route_of (codes "/v1/d/s/") ≡ None)
@@ -122,4 +123,4 @@ pub routes : (route_of (codes "/v1/d/s/p") ≡ Some Record)
     × (route_of (codes "/") ≡ None)
     × (route_of (codes "/v1/q/" ++ 255 ∷ []) ≡ None)
 unfolding route_of table matchit_on_literals is_utf8 chars lib.Utf8.encode
-routes = (refl, refl, refl, refl, refl, refl, refl, refl, refl, refl, refl, refl, refl, refl, refl)
+routes = (refl, refl, refl, refl, refl, refl, refl, refl, refl, refl, refl, refl, refl, refl, refl, refl)

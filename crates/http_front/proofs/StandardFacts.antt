@@ -2,7 +2,7 @@
 use Rattle.std.proofs.Common.{◌≡◌, ℕ, ◌-◌, ◌<◌, ◌^◌, min, Bool, true, false, List, [], ◌∷◌, ◌++◌, length, Some, None, codes, refl, ap, ◌∙◌, arith}
 use Rattle.std.specs.Fmt.{digits}
 use Rattle.std.specs.Prelude.{if◌then◌else◌}
-use Rattle.http_front.specs.declared.refused.Allow.TheVariants.{Record, Match as MatchAll, Other}
+use Rattle.http_front.specs.declared.refused.Allow.TheVariants.{Record, Post, Other}
 use Rattle.http_front.specs.declared.refused.DocumentReason.TheVariants.{NotWhole}
 use Rattle.http_front.specs.declared.refused.FilterReason.TheVariants.{Syntax, TooManyPaths}
 use Rattle.http_message.specs.declared.refusal.FramingRefusal.TheVariants.{BodyTooLarge}
@@ -19,7 +19,7 @@ use Rattle.json.specs.Print.{escape_byte}
 use Rattle.http_front.specs.ReplyText.{json_head, purges_body, reply_of}
 use Rattle.http_front.specs.declared.shape.Shape.{Shape}
 use Rattle.http_front.specs.declared.told.Told.{Told}
-use Rattle.http_front.specs.declared.told.Told.TheVariants.{Write, Read, Count, Purges, Refusal, Memory}
+use Rattle.http_front.specs.declared.told.Told.TheVariants.{Write, Read, Dropped, Count, Purges, Refusal, Memory}
 
 -- the methods of the examples
 get : Shape
@@ -92,6 +92,11 @@ counts : text_at_100 get (Count (record { front = 0; commits = 0; clock = 100 })
 unfolding head_text head_fields status_line digits get put head
 counts = refl
 
+-- the horizon after a drop
+horizon : text_at_100 get (Dropped (record { horizon = 3; clock = 100 })) false ≡ codes "HTTP/1.1 200 OK\r\nDate: Thu, 01 Jan 1970 00:01:40 GMT\r\nContent-Type: application/json\r\nContent-Length: 13\r\nCache-Control: no-store\r\n\r\n{\"horizon\":3}"
+unfolding head_text head_fields status_line digits get put head
+horizon = refl
+
 -- a list of purges with a body of this size, of what it tells
 abbrev purges_of_size : Shape → PurgesTold → ℕ → List ℕ
 purges_of_size shape told size =
@@ -128,8 +133,8 @@ method-of-record : text_at_100 get (Refusal (BadMethod Record) 100) false ≡ co
 unfolding head_text head_fields status_line digits get put head
 method-of-record = refl
 
--- or the match
-method-of-match : text_at_100 put (Refusal (BadMethod MatchAll) 100) false ≡ codes "HTTP/1.1 405 Method Not Allowed\r\nDate: Thu, 01 Jan 1970 00:01:40 GMT\r\nContent-Type: application/json\r\nContent-Length: 22\r\nCache-Control: no-store\r\nAllow: POST\r\n\r\n{\"error\":\"bad_method\"}"
+-- or the match and the horizon
+method-of-match : text_at_100 put (Refusal (BadMethod Post) 100) false ≡ codes "HTTP/1.1 405 Method Not Allowed\r\nDate: Thu, 01 Jan 1970 00:01:40 GMT\r\nContent-Type: application/json\r\nContent-Length: 22\r\nCache-Control: no-store\r\nAllow: POST\r\n\r\n{\"error\":\"bad_method\"}"
 unfolding head_text head_fields status_line digits get put head
 method-of-match = refl
 

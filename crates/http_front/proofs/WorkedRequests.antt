@@ -21,7 +21,7 @@ use Rattle.http_front.specs.Routes.{all_routes, route_of, table}
 use Rattle.http_front.specs.Tags.{commits_in, members_of, tag_of, tags_in}
 use Rattle.http_front.specs.Target.{local_part, path_of}
 use Rattle.http_front.specs.declared.ask.Ask.{Ask}
-use Rattle.http_front.specs.declared.ask.Ask.TheVariants.{Read, Purges, MatchAll, Fetch, Stats}
+use Rattle.http_front.specs.declared.ask.Ask.TheVariants.{Read, Purges, MatchAll, Horizon, Fetch, Stats}
 
 -- what a request of these fields asks
 abbrev pub asked_of : ℕ → List ℕ → List ℕ → List Pair → Result Ask Refused
@@ -42,7 +42,8 @@ puts condition =
 
 -- the methods of the routes
 pub methods : (asked (codes "POST") (codes "/v1/d/shop/p1") [] ≡ Err (BadMethod allow.Record))
-    × (asked (codes "PUT") (codes "/v1/match") [] ≡ Err (BadMethod allow.Match))
+    × (asked (codes "PUT") (codes "/v1/match") [] ≡ Err (BadMethod allow.Post))
+    × (asked (codes "GET") (codes "/v1/horizon") [] ≡ Err (BadMethod allow.Post))
     × (asked (codes "DELETE") (codes "/v1/stats") [] ≡ Err (BadMethod allow.Other))
     × (asked (codes "get") (codes "/v1/stats") [] ≡ Err (BadMethod allow.Other))
     × (asked (codes "GET") (codes "/v1/x") [] ≡ Err NoRoute)
@@ -50,9 +51,11 @@ pub methods : (asked (codes "POST") (codes "/v1/d/shop/p1") [] ≡ Err (BadMetho
     × (asked (codes "GET") (codes "http://b/v1/stats") [] ≡ Ok (Stats false))
     × (asked (codes "HEAD") (codes "/v1/filter") [] ≡ Ok (Fetch true))
     × (asked (codes "POST") (codes "/v1/match") [] ≡ Ok MatchAll)
+    × (asked (codes "POST") (codes "/v1/horizon") [] ≡ Ok Horizon)
+    × (asked (codes "POST") (codes "/v1/horizon?to=1") [] ≡ Err BadTarget)
     × (asked (codes "GET") (codes "/v1/stats?x=1") [] ≡ Err BadTarget)
 unfolding ask_of has_host values local_part path_of route_of table matchit_on_literals is_utf8 chars lib.Utf8.encode fields_in decoded percent_decode
-methods = (refl, refl, refl, refl, refl, refl, refl, refl, refl, refl)
+methods = (refl, refl, refl, refl, refl, refl, refl, refl, refl, refl, refl, refl, refl)
 
 -- names, whose escapes are decoded
 pub names : (asked (codes "GET") (codes "/v1/d/shop/P") [] ≡ Err BadTarget)

@@ -32,7 +32,7 @@ use Rattle.http_front.specs.Routes.{route_of, served_of, collection_in, id_in, q
 use Rattle.http_front.specs.Tags.{tags_in}
 use Rattle.http_front.specs.Target.{local_part, path_of, query_of}
 use Rattle.http_front.specs.declared.ask.Ask.{Ask}
-use Rattle.http_front.specs.declared.ask.Ask.TheVariants.{Write, Read, Purges, MatchAll, Fetch, Stats}
+use Rattle.http_front.specs.declared.ask.Ask.TheVariants.{Write, Read, Purges, MatchAll, Horizon, Fetch, Stats}
 use Rattle.http_front.specs.declared.routes.Served.{Served}
 use Rattle.http_front.specs.declared.routes.Route.{Route}
 use Rattle.http_front.specs.declared.routes.Route.TheVariants as route
@@ -186,6 +186,7 @@ ask_by m path method route.Query values = query_by m (queried_in path) values (i
 ask_by m path method route.Filter values = Ok (Fetch (is_head_request method))
 ask_by m path method route.Purges values = Ok (Purges (start_in values) (is_head_request method))
 ask_by m path method route.Match values = Ok MatchAll
+ask_by m path method route.Horizon values = Ok Horizon
 ask_by m path method route.Stats values = Ok (Stats (is_head_request method))
 
 -- a method, where it is one of these

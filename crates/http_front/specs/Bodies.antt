@@ -49,6 +49,7 @@ abbrev pub is_counted_in : Told → Bool
 is_counted_in (told.Write written) = true
 is_counted_in (told.Read answer) = true
 is_counted_in (told.Match matched) = true
+is_counted_in (told.Dropped dropped) = true
 is_counted_in (told.Page clock) = true
 is_counted_in (told.Count stats) = true
 is_counted_in (told.Purges reply) = false

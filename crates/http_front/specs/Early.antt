@@ -6,7 +6,7 @@ use Rattle.http_front.specs.Query.{takes_fields}
 use Rattle.http_front.specs.Routes.{route_of, served_of}
 use Rattle.http_front.specs.Target.{local_part, path_of, query_of}
 use Rattle.http_front.specs.declared.ask.Ask.{Ask}
-use Rattle.http_front.specs.declared.ask.Ask.TheVariants.{Write, Read, Purges, MatchAll, Fetch, Stats}
+use Rattle.http_front.specs.declared.ask.Ask.TheVariants.{Write, Read, Purges, MatchAll, Horizon, Fetch, Stats}
 use Rattle.http_front.specs.declared.refused.Refused.{Refused}
 use Rattle.http_front.specs.declared.refused.Refused.TheVariants.{Framing, BadHost, BadTarget, NoRoute, BadMethod, NoLength, BadEncoding, BadTag, BadFilter, BadDocument}
 use Rattle.http_front.specs.declared.routes.Route.{Route}
@@ -36,16 +36,17 @@ is_early_refusal decodes BadTag = false
 is_early_refusal decodes (BadFilter refusal) = false
 is_early_refusal decodes (BadDocument reason) = false
 
--- such a refusal, or a match, a page or the numbers of the store; and the list of purges, where no fields are decoded
+-- such a refusal, or a match, a drop of old changes, a page or the numbers of the store; and the list of purges, where no fields are decoded
 abbrev pub is_early_answer : Bool → Result Ask Refused → Bool
 is_early_answer decodes (Ok (Write change condition)) = false
 is_early_answer decodes (Ok (Read key tags head)) = false
 is_early_answer decodes (Ok (Purges from head)) = not decodes
 is_early_answer decodes (Ok MatchAll) = true
+is_early_answer decodes (Ok Horizon) = true
 is_early_answer decodes (Ok (Fetch head)) = true
 is_early_answer decodes (Ok (Stats head)) = true
 is_early_answer decodes (Err refused) = is_early_refusal decodes refused
 
--- the request is refused for its Host, target, route, method, length or coding, or asks for a match, a page, the numbers of the store or all purges
+-- the request is refused for its Host, target, route, method, length or coding, or asks for a match, a drop of old changes, a page, the numbers of the store or all purges
 abbrev pub is_early : Served → Message → Bool
 is_early s m = is_early_answer (decodes_in s (local_part m.target)) (ask_of s m)

@@ -6,7 +6,7 @@ use Rattle.http_front.specs.Query.{takes_fields}
 use Rattle.http_front.specs.Routes.{collection_in, id_in, queried_in}
 use Rattle.http_front.specs.declared.refused.Refused.{Refused}
 use Rattle.http_front.specs.declared.routes.Route.{Route}
-use Rattle.http_front.specs.declared.routes.Route.TheVariants.{Record, Query, Filter, Purges, Match, Stats}
+use Rattle.http_front.specs.declared.routes.Route.TheVariants.{Record, Query, Filter, Purges, Match, Horizon, Stats}
 use Rattle.http_front.specs.declared.routes.Method.{Method}
 use Rattle.http_front.specs.declared.routes.Method.TheVariants.{Get, Head, Post, Put, Delete}
 
@@ -38,6 +38,7 @@ is_free_call m path Query method = not (is_ok (name_in (queried_in path)))
 is_free_call m path Filter method = true
 is_free_call m path Purges method = true
 is_free_call m path Match method = true
+is_free_call m path Horizon method = true
 is_free_call m path Stats method = true
 
 -- there is no query, or the route takes no fields

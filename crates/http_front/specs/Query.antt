@@ -8,7 +8,7 @@ use Rattle.http_front.specs.Target.{ahead_of, after}
 use Rattle.http_front.specs.declared.refused.QueryField.{QueryField}
 use Rattle.http_front.specs.declared.refused.QueryField.TheVariants as field
 use Rattle.http_front.specs.declared.routes.Route.{Route}
-use Rattle.http_front.specs.declared.routes.Route.TheVariants.{Record, Query, Filter, Purges, Match, Stats}
+use Rattle.http_front.specs.declared.routes.Route.TheVariants.{Record, Query, Filter, Purges, Match, Horizon, Stats}
 
 -- the fields, split at `&`; an empty query is one empty field
 abbrev pub pieces_of : List ℕ → List (List ℕ)
@@ -42,6 +42,7 @@ field_named Purges name = if bytes_eq name (codes "from") then Some field.From e
 field_named Record name = None
 field_named Filter name = None
 field_named Match name = None
+field_named Horizon name = None
 field_named Stats name = None
 
 -- a query of the route has fields
@@ -51,6 +52,7 @@ takes_fields Purges = true
 takes_fields Record = false
 takes_fields Filter = false
 takes_fields Match = false
+takes_fields Horizon = false
 takes_fields Stats = false
 
 -- a purge's number: from 1 to 2^63

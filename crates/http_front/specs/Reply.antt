@@ -8,7 +8,7 @@ use Rattle.http_front.specs.declared.head.Head.{Head}
 use Rattle.http_front.specs.declared.head.MediaType.{MediaType}
 use Rattle.http_front.specs.declared.head.MediaType.TheVariants.{Json, OctetStream}
 use Rattle.http_front.specs.declared.refused.Allow.{Allow}
-use Rattle.http_front.specs.declared.refused.Allow.TheVariants.{Record, Match, Other}
+use Rattle.http_front.specs.declared.refused.Allow.TheVariants.{Record, Post, Other}
 
 -- What a reply is: its status, its fields in their order, and what follows them.
 pub record Reply : Type 0 where
@@ -61,7 +61,7 @@ lifetime_field (suc n) = (codes "Cache-Control", codes "max-age=" ++ decimal (su
 -- methods as a list
 abbrev pub methods_text : Allow → List ℕ
 methods_text Record = codes "GET, HEAD, PUT, DELETE"
-methods_text Match = codes "POST"
+methods_text Post = codes "POST"
 methods_text Other = codes "GET, HEAD"
 
 -- the methods of the route, where they are listed (RFC 9110, section 10.2.1)

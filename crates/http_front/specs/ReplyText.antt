@@ -28,7 +28,7 @@ use Rattle.http_front.specs.declared.refused.Refused.{Refused}
 use Rattle.http_front.specs.declared.refused.Refused.TheVariants.{Framing, BadHost, BadTarget, NoRoute, BadMethod, NoLength, BadEncoding, BadTag, BadFilter, BadDocument}
 use Rattle.http_front.specs.declared.shape.Shape.{Shape}
 use Rattle.http_front.specs.declared.told.Told.{Told}
-use Rattle.http_front.specs.declared.told.Told.TheVariants.{Write, Read, Match, Page, Count, Purges, Refusal, Memory}
+use Rattle.http_front.specs.declared.told.Told.TheVariants.{Write, Read, Match, Dropped, Page, Count, Purges, Refusal, Memory}
 
 -- the name of a field in a query
 abbrev pub field_name : QueryField → List ℕ
@@ -122,6 +122,7 @@ abbrev pub body_of : Told → List ℕ → List ℕ
 body_of (Write written) page = written_body written
 body_of (Read answer) page = outcome_body answer.result
 body_of (Match matched) page = codes "{\"front\":" ++ decimal matched.front ++ codes "}"
+body_of (Dropped dropped) page = codes "{\"horizon\":" ++ decimal dropped.horizon ++ codes "}"
 body_of (Page clock) page = page
 body_of (Count stats) page = stats_body stats
 body_of (Purges reply) page = purges_body (told_of reply)
@@ -224,6 +225,7 @@ abbrev pub told_head : Shape → Told → ℕ → Bool → Head
 told_head shape (Write written) size close = written_head shape.put written size close
 told_head shape (Read answer) size close = read_head answer answer.result size close
 told_head shape (Match matched) size close = json_head 200 size close
+told_head shape (Dropped dropped) size close = json_head 200 size close
 told_head shape (Page clock) size close = record (json_head 200 size close) { media = Some OctetStream }
 told_head shape (Count stats) size close = json_head 200 size close
 told_head shape (Purges reply) size close = json_head 200 (min size (2 ^ 64 - 1)) close
@@ -245,6 +247,7 @@ abbrev pub clock_of : Told → ℕ
 clock_of (Write written) = written_clock written
 clock_of (Read answer) = answer.clock
 clock_of (Match matched) = matched.clock
+clock_of (Dropped dropped) = dropped.clock
 clock_of (Page clock) = clock
 clock_of (Count stats) = stats.clock
 clock_of (Purges reply) = reply.clock
@@ -257,6 +260,7 @@ is_asked shape (Refusal refused clock) = shape.asks && is_of_method refused
 is_asked shape (Write written) = false
 is_asked shape (Read answer) = false
 is_asked shape (Match matched) = false
+is_asked shape (Dropped dropped) = false
 is_asked shape (Page clock) = false
 is_asked shape (Count stats) = false
 is_asked shape (Purges reply) = false

@@ -11,7 +11,7 @@ use Rattle.http_front.specs.declared.refused.Allow.{Allow}
 use Rattle.http_front.specs.declared.refused.Allow.TheVariants as allow
 use Rattle.http_front.specs.Target.{ahead_of, after}
 use Rattle.http_front.specs.declared.routes.Route.{Route}
-use Rattle.http_front.specs.declared.routes.Route.TheVariants.{Record, Query, Filter, Purges, Match, Stats}
+use Rattle.http_front.specs.declared.routes.Route.TheVariants.{Record, Query, Filter, Purges, Match, Horizon, Stats}
 use Rattle.http_front.specs.declared.routes.Served.{Served}
 use Rattle.http_front.specs.declared.routes.Method.{Method}
 use Rattle.http_front.specs.declared.routes.Method.TheVariants.{Get, Head, Post, Put, Delete}
@@ -33,11 +33,12 @@ added text route rows = added_by (parse_route text) route rows
 unfoldable pub table : Table
 table =
     added (codes "/v1/stats") Stats
+    (added (codes "/v1/horizon") Horizon
     (added (codes "/v1/match") Match
     (added (codes "/v1/purges") Purges
     (added (codes "/v1/filter") Filter
     (added (codes "/v1/q/{collection}") Query
-    (added (codes "/v1/d/{collection}/{id}") Record [])))))
+    (added (codes "/v1/d/{collection}/{id}") Record []))))))
 
 -- the routes are these
 pub record IsTable (rows : Table) : Type 0 where
@@ -54,11 +55,12 @@ serves s Query = s.queries
 serves s Filter = s.page
 serves s Purges = s.purges
 serves s Match = s.matching
+serves s Horizon = s.horizon
 serves s Stats = s.stats
 
 -- every route is served
 abbrev pub all_routes : Served
-all_routes = record { records = true; queries = true; page = true; purges = true; matching = true; stats = true }
+all_routes = record { records = true; queries = true; page = true; purges = true; matching = true; horizon = true; stats = true }
 
 -- a route, where it is served
 abbrev pub served_of : Served → Option Route → Option Route
@@ -94,12 +96,12 @@ method_of text =
     else (if bytes_eq text (codes "PUT") then Some Put
     else (if bytes_eq text (codes "DELETE") then Some Delete else None))))
 
--- the methods that are allowed: of a record, of a match, and of the others
+-- the methods that are allowed: of a record, of a match or a drop, and of the others
 abbrev pub allows : Allow → Method → Bool
 allows allow.Record Post = false
 allows allow.Record method = true
-allows allow.Match Post = true
-allows allow.Match method = false
+allows allow.Post Post = true
+allows allow.Post method = false
 allows allow.Other Get = true
 allows allow.Other Head = true
 allows allow.Other method = false
@@ -107,7 +109,8 @@ allows allow.Other method = false
 -- the methods of a route
 abbrev pub methods_of : Route → Allow
 methods_of Record = allow.Record
-methods_of Match = allow.Match
+methods_of Match = allow.Post
+methods_of Horizon = allow.Post
 methods_of Query = allow.Other
 methods_of Filter = allow.Other
 methods_of Purges = allow.Other

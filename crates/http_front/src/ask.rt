@@ -55,6 +55,8 @@ pub enum Ask {
     },
     /// To match all commits against the issued copies.
     MatchAll,
+    /// To drop all old changes.
+    Horizon,
     /// To fetch the page of the outdated keys.
     Fetch {
         head: bool,
@@ -191,6 +193,7 @@ fn ask_by(
             head,
         })),
         Route::Match => Ok(Ok(Ask::MatchAll)),
+        Route::Horizon => Ok(Ok(Ask::Horizon)),
         Route::Stats => Ok(Ok(Ask::Stats { head })),
     }
 }

@@ -104,6 +104,7 @@ pub(crate) fn body_of<'a>(told: &'a Told, page: &'a [u8], buffer: &'a mut [u8]) 
         Told::Write(written) => written_body(written, buffer),
         Told::Read(answer) => return outcome_body(&answer.result),
         Told::Match(matched) => number_body(b"{\"front\":", matched.front, b"}", buffer),
+        Told::Dropped(dropped) => number_body(b"{\"horizon\":", dropped.horizon, b"}", buffer),
         Told::Page(_) => page,
         Told::Count(stats) => stats_body(stats, buffer),
         Told::Purges(reply) => return ReplyBody::Purges(reply),

@@ -162,7 +162,7 @@ impl<'a> Head<'a> {
         match told {
             Told::Write(written) => Head::of_written(shape.put, written, length, close),
             Told::Read(answer) => Head::of_read(answer, length, close),
-            Told::Match(_) | Told::Count(_) | Told::Purges(_) => {
+            Told::Match(_) | Told::Dropped(_) | Told::Count(_) | Told::Purges(_) => {
                 Head::json(StatusCode::OK, length, close)
             }
             Told::Page(_) => Head {
@@ -240,7 +240,7 @@ fn methods_text(allow: Allow) -> &'static [u8]
 {
     match allow {
         Allow::Record => b"GET, HEAD, PUT, DELETE",
-        Allow::Match => b"POST",
+        Allow::Post => b"POST",
         Allow::Other => b"GET, HEAD",
     }
 }
@@ -253,7 +253,7 @@ fn allow_line(allow: Option<Allow>) -> &'static [u8]
     match allow {
         None => b"",
         Some(Allow::Record) => b"Allow: GET, HEAD, PUT, DELETE\r\n",
-        Some(Allow::Match) => b"Allow: POST\r\n",
+        Some(Allow::Post) => b"Allow: POST\r\n",
         Some(Allow::Other) => b"Allow: GET, HEAD\r\n",
     }
 }

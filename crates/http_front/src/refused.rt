@@ -10,7 +10,7 @@ pub enum Allow {
     /// GET, HEAD, PUT and DELETE.
     Record,
     /// POST.
-    Match,
+    Post,
     /// GET and HEAD.
     Other,
 }

@@ -28,6 +28,8 @@ pub enum Route {
     Purges,
     /// The match of all commits.
     Match,
+    /// The commit up to which old changes are dropped.
+    Horizon,
     /// The numbers of the store.
     Stats,
 }
@@ -49,7 +51,7 @@ impl Route {
     {
         match self {
             Route::Record => Allow::Record,
-            Route::Match => Allow::Match,
+            Route::Match | Route::Horizon => Allow::Post,
             Route::Query | Route::Filter | Route::Purges | Route::Stats => Allow::Other,
         }
     }
@@ -84,7 +86,7 @@ impl Method {
     {
         match methods {
             Allow::Record => self != Method::Post,
-            Allow::Match => self == Method::Post,
+            Allow::Post => self == Method::Post,
             Allow::Other => self == Method::Get || self == Method::Head,
         }
     }
@@ -98,6 +100,7 @@ pub struct Served {
     pub page: bool,
     pub purges: bool,
     pub matching: bool,
+    pub horizon: bool,
     pub stats: bool,
 }
 
@@ -108,6 +111,7 @@ pub const ALL_ROUTES: Served = Served {
     page: true,
     purges: true,
     matching: true,
+    horizon: true,
     stats: true,
 };
 
@@ -122,6 +126,7 @@ impl Served {
             Route::Filter => self.page,
             Route::Purges => self.purges,
             Route::Match => self.matching,
+            Route::Horizon => self.horizon,
             Route::Stats => self.stats,
         }
     }
@@ -163,6 +168,7 @@ impl Routes {
         add(&mut router, "/v1/filter", Route::Filter)?;
         add(&mut router, "/v1/purges", Route::Purges)?;
         add(&mut router, "/v1/match", Route::Match)?;
+        add(&mut router, "/v1/horizon", Route::Horizon)?;
         add(&mut router, "/v1/stats", Route::Stats)?;
         Ok(Routes { router, served })
     }

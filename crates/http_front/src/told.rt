@@ -3,7 +3,7 @@ ghost use Rattle.std.specs.Prelude.{◌≡◌};
 ghost use Rattle.http_front.specs.ReplyText.{written_clock, clock_of};
 
 use crate::refused::Refused;
-use hub_model::{Answer, Matched, PurgeReply, Stats, Written};
+use hub_model::{Answer, Dropped, Matched, PurgeReply, Stats, Written};
 use q_base::Moment;
 
 /// What is answered to a request.
@@ -15,6 +15,8 @@ pub enum Told {
     Read(Answer),
     /// The front after a match.
     Match(Matched),
+    /// The horizon after a drop of old changes.
+    Dropped(Dropped),
     /// A page, whose bytes are in the buffer that it was fetched into. The moment is the clock after
     /// its entry.
     Page(Moment),
@@ -37,6 +39,7 @@ impl Told {
             Told::Write(written) => written_clock(written),
             Told::Read(answer) => answer.clock,
             Told::Match(matched) => matched.clock,
+            Told::Dropped(dropped) => dropped.clock,
             Told::Page(clock) | Told::Refusal(_, clock) => *clock,
             Told::Count(stats) => stats.clock,
             Told::Purges(reply) => reply.clock,

@@ -89,7 +89,7 @@ pub(crate) fn refuses(
 
 #[test]
 fn the_first_cause_is_answered(rt: HostRuntime) -> Result<(), Fail> {
-    let cases: [(&[u8], Refused); 15] = [
+    let cases: [(&[u8], Refused); 17] = [
         (b"GET * HTTP/1.1\r\n\r\n", Refused::BadHost),
         (
             b"GET /v2 HTTP/1.1\r\nHost: a\r\nHost: b\r\n\r\n",
@@ -103,7 +103,15 @@ fn the_first_cause_is_answered(rt: HostRuntime) -> Result<(), Fail> {
         ),
         (
             b"PUT /v1/match HTTP/1.1\r\nHost: a\r\nContent-Length: 0\r\n\r\n",
-            Refused::BadMethod(Allow::Match),
+            Refused::BadMethod(Allow::Post),
+        ),
+        (
+            b"GET /v1/horizon HTTP/1.1\r\nHost: a\r\n\r\n",
+            Refused::BadMethod(Allow::Post),
+        ),
+        (
+            b"POST /v1/horizon?to=1 HTTP/1.1\r\nHost: a\r\n\r\n",
+            Refused::BadTarget,
         ),
         (
             b"DELETE /v1/stats HTTP/1.1\r\nHost: a\r\n\r\n",
@@ -213,6 +221,7 @@ fn words_for(asked: &Asked) -> &'static str {
         ) => "a write in any case",
         Ok(Ask::Fetch { head: false }) => "the page",
         Ok(Ask::MatchAll) => "a match",
+        Ok(Ask::Horizon) => "a drop",
         Ok(Ask::Stats { head: false }) => "the numbers",
         _ => "another",
     }
@@ -226,7 +235,7 @@ fn words_of(alloc: Global, bytes: &[u8]) -> Result<&'static str, Memory> {
 
 #[test]
 fn each_call_is_asked(rt: HostRuntime) -> Result<(), Fail> {
-    let cases: [(&[u8], &str); 6] = [
+    let cases: [(&[u8], &str); 7] = [
         (
             b"HEAD /v1/q/shop HTTP/1.1\r\nHost: a\r\nIf-None-Match: *\r\n\r\n",
             "the head of what is read, whatever is known",
@@ -244,6 +253,7 @@ fn each_call_is_asked(rt: HostRuntime) -> Result<(), Fail> {
             "the page",
         ),
         (b"POST /v1/match HTTP/1.0\r\n\r\n", "a match"),
+        (b"POST /v1/horizon HTTP/1.0\r\n\r\n", "a drop"),
         (b"GET /v1/stats HTTP/1.1\r\nHost: a\r\n\r\n", "the numbers"),
     ];
     for (bytes, wanted) in cases {

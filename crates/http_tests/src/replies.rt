@@ -5,7 +5,7 @@ use http_front::{
     give_reply, reply_text, write_body,
 };
 use http_message::FramingRefusal;
-use hub_model::{Answer, Found, Matched, Outcome, Stats, Written};
+use hub_model::{Answer, Dropped, Found, Matched, Outcome, Stats, Written};
 use q_base::{Commit, Memory, Moment, SharedText, Text};
 use q_outside::EndlessSink;
 use result_kinds::ResultText;
@@ -181,6 +181,12 @@ fn check_other_calls(rt: &impl Abort, room: &mut ReplyRoom, clock: Moment) {
         ),
         (
             PLAIN,
+            Told::Dropped(Dropped { horizon: 3, clock }),
+            false,
+            "HTTP/1.1 200 OK\r\nDate: Thu, 01 Jan 1970 00:01:40 GMT\r\nContent-Type: application/json\r\nContent-Length: 13\r\nCache-Control: no-store\r\n\r\n{\"horizon\":3}",
+        ),
+        (
+            PLAIN,
             Told::Count(counts(clock)),
             true,
             "HTTP/1.1 200 OK\r\nDate: Thu, 01 Jan 1970 00:01:40 GMT\r\nContent-Type: application/json\r\nContent-Length: 35\r\nCache-Control: no-store\r\nConnection: close\r\n\r\n{\"clock\":100,\"commits\":0,\"front\":0}",
@@ -206,7 +212,7 @@ fn check_refusals(rt: &impl Abort, room: &mut ReplyRoom, clock: Moment) {
         ),
         (
             PUT,
-            Told::Refusal(Refused::BadMethod(Allow::Match), clock),
+            Told::Refusal(Refused::BadMethod(Allow::Post), clock),
             false,
             "HTTP/1.1 405 Method Not Allowed\r\nDate: Thu, 01 Jan 1970 00:01:40 GMT\r\nContent-Type: application/json\r\nContent-Length: 22\r\nCache-Control: no-store\r\nAllow: POST\r\n\r\n{\"error\":\"bad_method\"}",
         ),

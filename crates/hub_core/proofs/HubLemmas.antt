@@ -12,14 +12,15 @@ use Rattle.ttl_estimator.specs.Estimator.{Estimated, lifetime}
 use Rattle.ttl_estimator.specs.Records.{ExtendsAll, Names, clocks_of}
 use Rattle.purge_list.specs.Purged.{text_cmp}
 use Rattle.flat_snapshot.specs.PageText.{page_with}
-use Rattle.commit_book.specs.Contents.{Contents, with_commit}
+use Rattle.commit_book.specs.Contents.{Contents, with_commit, with_horizon}
+use Rattle.commit_book.specs.Journal.{is_of, kept_rows}
 use Rattle.commit_book.specs.Names.{AreNamesOf}
 use Rattle.commit_book.specs.declared.change.Change.{Change}
 use Rattle.hub_model.specs.Record.{is_recorded, record_of, bits_of, page_of}
 use Rattle.hub_model.specs.Setting.{Setting}
 use Rattle.hub_model.specs.State.{State, start, at_moment}
 use Rattle.hub_model.specs.Lifetime.{limits_of, ttl_of}
-use Rattle.hub_model.specs.Step.{has_read, has_matched, with_change}
+use Rattle.hub_model.specs.Step.{has_dropped, has_read, has_matched, with_change}
 use Rattle.hub_model.specs.Until.{until_of_outdated}
 use Rattle.hub_model.specs.Purge.{is_purged}
 use Rattle.hub_model.proofs.Kept.{kept-matched}
@@ -75,6 +76,7 @@ sound-passed book front h new before after l later moment sound passes idle kept
     let keeps = lifetimes-passed h new moment passes sound.lean.idle book.journal front l later sound.lean.ready idle sound.lifetimes drops in
     record {
       within = sound.within;
+      kept = sound.kept;
       capacity = sound.capacity ∙ ap (λ (x : Setting). x.capacity) (sym (setting-passed h new moment passes));
       lean = record {
         change = sound.lean.change;
@@ -94,6 +96,7 @@ sound-passed book front h new before after l later moment sound passes idle kept
 pub sound-followed : (book : Contents) (front : ℕ) (h : CopiesView) (before after : List (KeyShape × Following)) (l : Lifetimes) → IsSoundHub book front h before l → KeepsQueries book.journal front h.copies h.idle after → IsSoundHub book front h after l
 sound-followed book front h before after l sound keeps = record {
   within = sound.within;
+  kept = sound.kept;
   capacity = sound.capacity;
   lean = record {
     change = sound.lean.change;
@@ -113,6 +116,7 @@ sound-followed book front h before after l sound keeps = record {
 pub sound-read : (book : Contents) (front : ℕ) (h new : CopiesView) (before after : List (KeyShape × Following)) (l later : Lifetimes) → IsSoundHub book front h before l → KeepsQueries book.journal front new.copies new.idle after → KeepsLifetimes book.journal front new later → new.setting ≡ h.setting → new.idle ≡ [] → new.ready ≡ [] → new.invalidatable ≡ h.invalidatable → later.estimator.records ≡ l.estimator.records → IsSoundHub book front new after later
 sound-read book front h new before after l later sound keeps lives setting idle ready invalidatable records = record {
   within = sound.within;
+  kept = sound.kept;
   capacity = sound.capacity ∙ ap (λ (x : Setting). x.capacity) (sym setting);
   lean = record {
     change = sound.lean.change;
@@ -129,9 +133,10 @@ sound-read book front h new before after l later sound keeps lives setting idle 
 }
 
 -- and when commits were matched, or could not be
-pub sound-matched : (book : Contents) (front later : ℕ) (h new : CopiesView) (before after : List (KeyShape × Following)) (l made : Lifetimes) → IsSoundHub book front h before l → later ≤ length book.journal → KeepsQueries book.journal later new.copies new.idle after → KeepsLifetimes book.journal later new made → new.setting ≡ h.setting → IsLeanCopies new → MakesEntry None l.estimator.records made.estimator.records → IsSoundHub book later new after made
-sound-matched book front later h new before after l made sound within keeps lives setting lean entered = record {
+pub sound-matched : (book : Contents) (front later : ℕ) (h new : CopiesView) (before after : List (KeyShape × Following)) (l made : Lifetimes) → IsSoundHub book front h before l → book.horizon ≤ later → later ≤ length book.journal → KeepsQueries book.journal later new.copies new.idle after → KeepsLifetimes book.journal later new made → new.setting ≡ h.setting → IsLeanCopies new → MakesEntry None l.estimator.records made.estimator.records → IsSoundHub book later new after made
+sound-matched book front later h new before after l made sound kept within keeps lives setting lean entered = record {
   within = within;
+  kept = kept;
   capacity = sound.capacity ∙ ap (λ (x : Setting). x.capacity) (sym setting);
   lean = record {
     change = sound.lean.change;
@@ -149,11 +154,12 @@ sound-matched book front later h new before after l made sound within keeps live
 
 -- and when a change was added
 pub sound-written : (book reserved more : Contents) (front later : ℕ) (h moved new : CopiesView) (before mid after : List (KeyShape × Following)) (l made left : Lifetimes) (noted : Estimated) (change : Change) (moment : ℕ) → IsSoundHub book front h before l → reserved ≡ record book { reserved = Some change } →
-    later ≤ length reserved.journal → IsLeanCopies moved → moved.setting ≡ h.setting → KeepsQueries reserved.journal later moved.copies moved.idle mid → KeepsLifetimes reserved.journal later moved made → Passes moment moved new → new.idle ≡ [] → StayKept moved mid new after → Drops (went_idle moved new) made left →
+    book.horizon ≤ later → later ≤ length reserved.journal → IsLeanCopies moved → moved.setting ≡ h.setting → KeepsQueries reserved.journal later moved.copies moved.idle mid → KeepsLifetimes reserved.journal later moved made → Passes moment moved new → new.idle ≡ [] → StayKept moved mid new after → Drops (went_idle moved new) made left →
     noted ≡ record left.estimator { records = noted.records } →
-    more ≡ with_commit reserved change more.names → AreNamesOf more.journal more.names → ((journal longer : List Change) (entries : List (KeyShape × Following)) → AreFollowing journal entries → AreFollowing (journal ++ longer) entries) → MakesEntry (Some change) l.estimator.records made.estimator.records → MakesEntry (Some change) left.estimator.records noted.records → IsSoundHub more later new after (record left { estimator = noted })
-sound-written book reserved more front later h moved new before mid after l made left noted change moment sound reserved_is within lean setting keeps lives passes idle kept drops noted_is more_is names longer entered written =
+    more ≡ with_commit reserved change more.names → AreNamesOf (kept_rows more.journal more.horizon) more.names → ((journal longer : List Change) (entries : List (KeyShape × Following)) → AreFollowing journal entries → AreFollowing (journal ++ longer) entries) → MakesEntry (Some change) l.estimator.records made.estimator.records → MakesEntry (Some change) left.estimator.records noted.records → IsSoundHub more later new after (record left { estimator = noted })
+sound-written book reserved more front later h moved new before mid after l made left noted change moment sound reserved_is above within lean setting keeps lives passes idle kept drops noted_is more_is names longer entered written =
     let journal : more.journal ≡ reserved.journal ++ change ∷ [] = ap (λ (b : Contents). b.journal) more_is in
+    let dropped : more.horizon ≡ book.horizon = ap (λ (b : Contents). b.horizon) more_is ∙ ap (λ (b : Contents). b.horizon) reserved_is in
     let passed = kept reserved.journal later keeps in
     let size : length more.journal ≡ length reserved.journal + 1 = ap length journal ∙ length-append reserved.journal (change ∷ []) in
     let ready : new.ready ≡ [] = ap (λ (x : CopiesView). x.ready) passes.rest ∙ lean.ready in
@@ -163,6 +169,7 @@ sound-written book reserved more front later h moved new before mid after l made
     let life : KeepsLifetimes more.journal later new (record left { estimator = noted }) = subst (λ (e : Estimated). KeepsLifetimes more.journal later new (record left { estimator = e })) (sym noted_is) (lifetimes-records more.journal later new left noted.records grown) in
     record {
       within = omega (arith, within, size);
+      kept = omega (arith, above, dropped);
       capacity =
           ap (λ (b : Contents). b.capacity) more_is ∙ ap (λ (b : Contents). b.capacity) reserved_is ∙ sound.capacity
           ∙ ap (λ (x : Setting). x.capacity) (sym (setting-passed moved new moment passes ∙ setting));
@@ -182,11 +189,35 @@ sound-written book reserved more front later h moved new before mid after l made
       lifetimes = life;
     }
 
+-- and when old changes were dropped
+pub sound-dropped : (book less : Contents) (front to : ℕ) (h : CopiesView) (entries : List (KeyShape × Following)) (l : Lifetimes) → IsSoundHub book front h entries l → less ≡ with_horizon book to less.names → to ≤ front → AreNamesOf (kept_rows less.journal to) less.names → IsSoundHub less front h entries l
+sound-dropped book less front to h entries l sound less_is within names =
+    let journal : less.journal ≡ book.journal = ap (λ (b : Contents). b.journal) less_is in
+    let dropped : less.horizon ≡ to = ap (λ (b : Contents). b.horizon) less_is in
+    let queried = subst (λ (xs : List Change). KeepsQueries xs front h.copies h.idle entries) (sym journal) sound.queries in
+    record {
+      within = subst (λ (xs : List Change). front ≤ length xs) (sym journal) sound.within;
+      kept = omega (arith, within, dropped);
+      capacity = ap (λ (b : Contents). b.capacity) less_is ∙ sound.capacity;
+      lean = record {
+        change = ap (λ (b : Contents). b.reserved) less_is;
+        names = subst (λ (n : ℕ). AreNamesOf (kept_rows less.journal n) less.names) (sym dropped) names;
+        idle = sound.lean.idle;
+        ready = sound.lean.ready;
+        invalidatable = sound.lean.invalidatable;
+        writes = λ collection id. sound.lean.writes collection id ∙ ap (λ (xs : List Change). list_any (is_of collection id) xs) (sym journal);
+        estimates = sound.lean.estimates;
+        sets = queried;
+      };
+      queries = queried;
+      lifetimes = subst (λ (xs : List Change). KeepsLifetimes xs front h l) (sym journal) sound.lifetimes;
+    }
+
 -- a hub of nothing has come to the first state
-pub hub-begins : (book : Contents) (h : CopiesView) (l : Lifetimes) → book.journal ≡ [] → h.clock ≡ 0 → h.copies ≡ [] → h.outdated ≡ [] → l.estimator.records ≡ [] → l.estimator.keys ≡ [] → l.purges.texts ≡ [] → IsAt (hub_of book 0 h l) start
-hub-begins book h l journal clock copies outdated records keys texts = record {
+pub hub-begins : (book : Contents) (h : CopiesView) (l : Lifetimes) → book.journal ≡ [] → book.horizon ≡ 0 → h.clock ≡ 0 → h.copies ≡ [] → h.outdated ≡ [] → l.estimator.records ≡ [] → l.estimator.keys ≡ [] → l.purges.texts ≡ [] → IsAt (hub_of book 0 h l) start
+hub-begins book h l journal dropped clock copies outdated records keys texts = record {
   time = record { clock = clock; front = refl };
-  book = record { commits = ap length journal; rows = journal };
+  book = record { commits = ap length journal; rows = journal; horizon = dropped };
   copies = λ key test. ap (latest_where key test) copies;
   invalidations = λ key. ap (λ (xs : List (KeyShape × ℕ)). until_in xs key) outdated;
   writes = λ collection id. ap (λ (xs : Names). clocks_of xs collection id) records;
@@ -235,6 +266,7 @@ module _ (book : Contents) (front : ℕ) (h : CopiesView) (entries : List (KeySh
               clock = (copies i).clock;
               commits = length (book_is i).journal;
               rows = (book_is i).journal;
+              horizon = (book_is i).horizon;
               front = front_is i;
               copies = (copies i).copies;
               outdated = (copies i).outdated;
@@ -315,7 +347,7 @@ module _ (book : Contents) (front : ℕ) (h : CopiesView) (l : Lifetimes) (s : S
       let copies : HasCopies new.copies (at_moment s moment) = copies-later h.copies new.copies new.clock moment s is.copies passes.copies now in
       record {
         time = time-moved h.clock front new.clock moment s is.time passes.clock;
-        book = record { commits = is.book.commits; rows = is.book.rows };
+        book = record { commits = is.book.commits; rows = is.book.rows; horizon = is.book.horizon };
         copies = copies;
         invalidations = invalidations-later h.outdated new.outdated new.clock moment s is.invalidations passes.outdated now;
         writes = λ collection id. ap (λ (x : Lifetimes). clocks_of x.estimator.records collection id) drops.rest ∙ is.writes collection id;
@@ -324,17 +356,31 @@ module _ (book : Contents) (front : ℕ) (h : CopiesView) (l : Lifetimes) (s : S
       }
 
   -- with a further commit
-  pub hub-written : (more : Contents) (change : Change) (noted : Estimated) → front ≤ length book.journal → more.journal ≡ book.journal ++ change ∷ [] → HasWrites noted.records (with_change change s) → noted.keys ≡ l.estimator.keys → IsAt (hub_of more front h (record l { estimator = noted })) (with_change change s)
-  hub-written more change noted within longer writes keys =
+  pub hub-written : (more : Contents) (change : Change) (noted : Estimated) → front ≤ length book.journal → more.journal ≡ book.journal ++ change ∷ [] → more.horizon ≡ book.horizon → HasWrites noted.records (with_change change s) → noted.keys ≡ l.estimator.keys → IsAt (hub_of more front h (record l { estimator = noted })) (with_change change s)
+  hub-written more change noted within longer dropped writes keys =
       let rows : more.journal ≡ s.journal ++ change ∷ [] = longer ∙ ap (λ (xs : List Change). xs ++ change ∷ []) is.book.rows in
       let low : s.front ≤ length s.journal = subst (λ (n : ℕ). n ≤ length s.journal) is.time.front (subst (λ (n : ℕ). front ≤ n) is.book.commits within) in
       record {
         time = record { clock = is.time.clock; front = is.time.front };
-        book = record { commits = ap length rows; rows = rows };
+        book = record { commits = ap length rows; rows = rows; horizon = dropped ∙ is.book.horizon };
         copies = is.copies;
         invalidations = invalidations-written h.outdated change s is.invalidations low;
         writes = writes;
         estimates = λ key query. ap (λ (es : Entries). kept_of es key) keys ∙ is.estimates key query;
+        purges = is.purges;
+      }
+
+  -- with old changes dropped
+  pub hub-dropped : (less : Contents) (to : ℕ) → less ≡ with_horizon book to less.names → IsAt (hub_of less front h l) (has_dropped to s)
+  hub-dropped less to less_is =
+      let journal : less.journal ≡ book.journal = ap (λ (b : Contents). b.journal) less_is in
+      record {
+        time = record { clock = is.time.clock; front = is.time.front };
+        book = record { commits = ap length journal ∙ is.book.commits; rows = journal ∙ is.book.rows; horizon = ap (λ (b : Contents). b.horizon) less_is };
+        copies = is.copies;
+        invalidations = is.invalidations;
+        writes = is.writes;
+        estimates = is.estimates;
         purges = is.purges;
       }
 
@@ -349,7 +395,7 @@ module _ (book : Contents) (front : ℕ) (h : CopiesView) (l : Lifetimes) (s : S
       subst (λ (x : CopiesView). IsAt (hub_of book front x later) (has_read g key at (at_moment s moment))) (sym new_is)
       (record {
         time = record { clock = clock ∙ now; front = is.time.front };
-        book = record { commits = is.book.commits; rows = is.book.rows };
+        book = record { commits = is.book.commits; rows = is.book.rows; horizon = is.book.horizon };
         copies = copies-read g moved.copies issued.copies key at ttl moved.clock (at_moment s moment) were now life copies;
         invalidations = λ other. ap (λ (xs : List (KeyShape × ℕ)). until_in xs other) outdated ∙ invalidations-read g moved.outdated key at (at_moment s moment) invalidated (subst (λ (n : ℕ). n ≤ at) is.time.front within) other;
         writes = λ collection id. ap (λ (xs : Names). clocks_of xs collection id) records ∙ is.writes collection id;
@@ -385,7 +431,7 @@ module _ (book : Contents) (front : ℕ) (h : CopiesView) (l : Lifetimes) (s : S
       IsAt (hub_of book to new later) (has_matched g to s)
   hub-matched to new later g invalidations keys forward are outdated clock copies once sorted each limits records texts kept = record {
     time = record { clock = clock ∙ is.time.clock; front = refl };
-    book = record { commits = is.book.commits; rows = is.book.rows };
+    book = record { commits = is.book.commits; rows = is.book.rows; horizon = is.book.horizon };
     copies = λ key test. ap (λ (xs : List Copy). latest_where key test xs) copies ∙ is.copies key test;
     invalidations = λ key.
         outdated key

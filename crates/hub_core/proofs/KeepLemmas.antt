@@ -3,7 +3,7 @@ use Rattle.std.proofs.Common.{◌≡◌, ◌⊎◌, ℕ, ◌<◌, ◌≤◌, ◌
 use Rattle.std.specs.List.{All, Contains, list_any}
 use Rattle.std.specs.Map.{lookup, keys_of}
 use Rattle.std.proofs.lemmas.Bool.{cases_Bool, cases_lt, eqb-true, ltb-true, lt-ltb, le-ltb, leb-true, and_right, and_from, and_parts, or_parts}
-use Rattle.std.proofs.lemmas.List.Elements.{All-nil, All-map, All-push}
+use Rattle.std.proofs.lemmas.List.Elements.{All-nil, All-map, All-push, All-weaker}
 use Rattle.std.proofs.lemmas.Map.Made.{is_some-lookup, keys_of-map_values}
 use Rattle.std.proofs.Math.Bool.{and-false}
 use Rattle.query_normal.specs.Keys.{same_key}
@@ -394,3 +394,9 @@ module _ (journal : List Change) (front : ℕ) (copies : List Copy) (idle : List
           let above : front < n = ltb-true front n parts.0 in
           let low : n ≤ to = leb-true n to parts.1 in
           ap (λ (b : Bool). is_after front to n && b) (changes-are key n is some above (λ k d there. (let far = seen k d there in omega (arith, far, low))))
+
+-- ---- the horizon
+
+-- each query has seen what is not above the front
+pub keeps-seen : (journal : List Change) (front horizon : ℕ) (copies : List Copy) (idle : List KeyShape) (entries : List (KeyShape × Following)) → horizon ≤ front → KeepsQueries journal front copies idle entries → HaveSeen horizon entries
+keeps-seen journal front horizon copies idle entries low keeps = All-weaker (λ e. front ≤ e.1.seen) (λ e. horizon ≤ e.1.seen) (λ e recent. omega (arith, recent, low)) entries keeps.recent

@@ -93,12 +93,13 @@ listed at (t ∷ ts) h = elim (cases_Bool (t == at)) [
 ]
 
 -- a commit that is listed itself is the greatest with its result
-pub itself-greatest : (key : KeyShape) (journal : List Change) (at : ℕ) (tags : List ℕ) → list_any (λ t. t == at) tags ≡ true → IsGreatestSame key journal at tags at
-itself-greatest key journal at tags there = record {
+pub itself-greatest : (key : KeyShape) (journal : List Change) (horizon at : ℕ) (tags : List ℕ) → horizon ≤ at → list_any (λ t. t == at) tags ≡ true → IsGreatestSame key journal horizon at tags at
+itself-greatest key journal horizon at tags kept there = record {
   listed = listed at tags there;
+  kept = kept;
   within = omega arith;
   same = refl;
-  greatest = λ t among low same. low;
+  greatest = λ t among above low same. low;
 }
 
 -- ---- commits that changed nothing
@@ -132,11 +133,12 @@ not-listed from to n above within (m ∷ commits) none =
     ]
 
 -- a tag has the result where no listed commit comes after it
-pub known-unchanged : (key : KeyShape) (journal : List Change) (from at : ℕ) (changed : List ℕ) (tag : ℕ) → AreChangesOf key journal from at changed → from ≤ tag → tag ≤ at → list_any (is_after tag at) changed ≡ false → has_result_of key journal at tag ≡ true
-known-unchanged key journal from at changed tag are since within none =
-    and_from _ _ (le-leb tag at within)
+pub known-unchanged : (key : KeyShape) (journal : List Change) (horizon from at : ℕ) (changed : List ℕ) (tag : ℕ) → AreChangesOf key journal from at changed → horizon ≤ tag → from ≤ tag → tag ≤ at → list_any (is_after tag at) changed ≡ false → has_result_of key journal horizon at tag ≡ true
+known-unchanged key journal horizon from at changed tag are kept since within none =
+    and_from _ _ (le-leb horizon tag kept)
+    (and_from _ _ (le-leb tag at within)
     ((same_finding-Decides (result_at key journal tag) (result_at key journal at)).1
-    (unchanged-same key journal tag at within (λ n above low. sym (are n (omega (arith, above, since)) low) ∙ not-listed tag at n above low changed none)))
+    (unchanged-same key journal tag at within (λ n above low. sym (are n (omega (arith, above, since)) low) ∙ not-listed tag at n above low changed none))))
 
 -- the book keeps the texts of the rows of a query's window
 pub rows-kept : (journal : List Change) (n : ℕ) (query : AQuery) (rows : List Row) → HasDocuments (document_at journal n query.collection) (docs journal n query.collection) → rows ≡ window query (docs journal n query.collection) → AreKept journal n query.collection rows

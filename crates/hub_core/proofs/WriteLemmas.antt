@@ -26,47 +26,47 @@ answered book change result (inl wrong) other = absurd (other wrong)
 answered book change result (inr is) other = is
 
 -- memory is reserved where the change fits the capacity
-pub judged-ok : (book : Contents) (change : Change) (done : Unit {0}) (result : Result (Unit {0}) BookRefusal) → result ≡ Ok done → (result ≡ Err Memory) ⊎ (result ≡ judged book change) → nat_le (kept_with book.journal change) book.capacity ≡ true
-judged-ok book change done result ok told = by (nat_le (kept_with book.journal change) book.capacity) refl
+pub judged-ok : (book : Contents) (change : Change) (done : Unit {0}) (result : Result (Unit {0}) BookRefusal) → result ≡ Ok done → (result ≡ Err Memory) ⊎ (result ≡ judged book change) → nat_le (kept_with book.journal book.horizon change) book.capacity ≡ true
+judged-ok book change done result ok told = by (nat_le (kept_with book.journal book.horizon change) book.capacity) refl
   where
     is : result ≡ judged book change
     is = answered book change result told (λ e. cc)
 
-    by : (b : Bool) → nat_le (kept_with book.journal change) book.capacity ≡ b → nat_le (kept_with book.journal change) book.capacity ≡ true
+    by : (b : Bool) → nat_le (kept_with book.journal book.horizon change) book.capacity ≡ b → nat_le (kept_with book.journal book.horizon change) book.capacity ≡ true
     by true h = h
     by false h =
-        let e : result ≡ Err (Full (kept_with book.journal change)) = is ∙ ap (λ (b : Bool). if b then Ok tt else Err (Full (kept_with book.journal change))) h in
+        let e : result ≡ Err (Full (kept_with book.journal book.horizon change)) = is ∙ ap (λ (b : Bool). if b then Ok tt else Err (Full (kept_with book.journal book.horizon change))) h in
         cc
 
 -- and the sum is told where it does not
 pub judged-full : (book : Contents) (change : Change) (bytes : ℕ) (result : Result (Unit {0}) BookRefusal) → result ≡ Err (Full bytes) → (result ≡ Err Memory) ⊎ (result ≡ judged book change) →
-    (nat_le (kept_with book.journal change) book.capacity ≡ false) × (bytes ≡ kept_with book.journal change)
-judged-full book change bytes result full told = by (nat_le (kept_with book.journal change) book.capacity) refl
+    (nat_le (kept_with book.journal book.horizon change) book.capacity ≡ false) × (bytes ≡ kept_with book.journal book.horizon change)
+judged-full book change bytes result full told = by (nat_le (kept_with book.journal book.horizon change) book.capacity) refl
   where
     is : result ≡ judged book change
     is = answered book change result told (λ e. cc)
 
-    by : (b : Bool) → nat_le (kept_with book.journal change) book.capacity ≡ b → (nat_le (kept_with book.journal change) book.capacity ≡ false) × (bytes ≡ kept_with book.journal change)
+    by : (b : Bool) → nat_le (kept_with book.journal book.horizon change) book.capacity ≡ b → (nat_le (kept_with book.journal book.horizon change) book.capacity ≡ false) × (bytes ≡ kept_with book.journal book.horizon change)
     by true h =
-        let e : result ≡ Ok tt = is ∙ ap (λ (b : Bool). if b then Ok tt else Err (Full (kept_with book.journal change))) h in
+        let e : result ≡ Ok tt = is ∙ ap (λ (b : Bool). if b then Ok tt else Err (Full (kept_with book.journal book.horizon change))) h in
         cc
     by false h =
-        let e : result ≡ Err (Full (kept_with book.journal change)) = is ∙ ap (λ (b : Bool). if b then Ok tt else Err (Full (kept_with book.journal change))) h in
+        let e : result ≡ Err (Full (kept_with book.journal book.horizon change)) = is ∙ ap (λ (b : Bool). if b then Ok tt else Err (Full (kept_with book.journal book.horizon change))) h in
         (h, cc)
 
 -- the change fitted where the answer was Memory
-pub judged-memory : (book : Contents) (change : Change) (result : Result (Unit {0}) BookRefusal) → result ≡ Err Memory → (IsErr (judged book change) → result ≡ judged book change) → nat_le (kept_with book.journal change) book.capacity ≡ true
-judged-memory book change result none full = by (nat_le (kept_with book.journal change) book.capacity) refl
+pub judged-memory : (book : Contents) (change : Change) (result : Result (Unit {0}) BookRefusal) → result ≡ Err Memory → (IsErr (judged book change) → result ≡ judged book change) → nat_le (kept_with book.journal book.horizon change) book.capacity ≡ true
+judged-memory book change result none full = by (nat_le (kept_with book.journal book.horizon change) book.capacity) refl
   where
-    refused : Full (kept_with book.journal change) ≡ Memory → ⊥
+    refused : Full (kept_with book.journal book.horizon change) ≡ Memory → ⊥
     refused e = cc
 
-    by : (b : Bool) → nat_le (kept_with book.journal change) book.capacity ≡ b → nat_le (kept_with book.journal change) book.capacity ≡ true
+    by : (b : Bool) → nat_le (kept_with book.journal book.horizon change) book.capacity ≡ b → nat_le (kept_with book.journal book.horizon change) book.capacity ≡ true
     by true h = h
     by false h =
-        let is : judged book change ≡ Err (Full (kept_with book.journal change)) = ap (λ (b : Bool). if b then Ok tt else Err (Full (kept_with book.journal change))) h in
+        let is : judged book change ≡ Err (Full (kept_with book.journal book.horizon change)) = ap (λ (b : Bool). if b then Ok tt else Err (Full (kept_with book.journal book.horizon change))) h in
         let answer : result ≡ judged book change = full (subst IsErr (sym is) refl) in
-        let wrong : Full (kept_with book.journal change) ≡ Memory = cc in
+        let wrong : Full (kept_with book.journal book.horizon change) ≡ Memory = cc in
         absurd (refused wrong)
 
 -- ---- what helps a write
@@ -107,7 +107,7 @@ left : Change → State → Bool → State
 left change s b = if b then with_change change s else s
 
 -- of a book whose journal is the state's
-module _ (g : Setting) (book : Contents) (s : State) (change : Change) (condition : Condition) (found : Found) (commits : ℕ) (same : book.journal ≡ s.journal)
+module _ (g : Setting) (book : Contents) (s : State) (change : Change) (condition : Condition) (found : Found) (commits : ℕ) (same : book.journal ≡ s.journal) (dropped : book.horizon ≡ s.horizon)
     (is : found ≡ found_of (document_at book.journal (length book.journal) change.collection change.id)) (count : commits ≡ length book.journal) where
   found-now : found ≡ found_now s change
   found-now = is ∙ ap (λ (xs : List Change). found_of (document_at xs (length xs) change.collection change.id)) same
@@ -116,39 +116,42 @@ module _ (g : Setting) (book : Contents) (s : State) (change : Change) (conditio
   met-now b met = ap₂ (is_met condition) (sym found-now) (sym (count ∙ ap length same)) ∙ met
 
   pub refused-unmet : is_met condition found commits ≡ false → is_accepted g s change condition ≡ false
-  refused-unmet unmet = ap (λ (b : Bool). b && nat_le (kept_with s.journal change) g.capacity) (met-now false unmet)
+  refused-unmet unmet = ap (λ (b : Bool). b && nat_le (kept_with s.journal s.horizon change) g.capacity) (met-now false unmet)
 
   pub written-unmet : (clock : ℕ) → clock ≡ s.clock → is_met condition found commits ≡ false → Precondition found clock ≡ written g change condition s
   written-unmet clock now unmet =
       (λ i. Precondition (found-now i) (now i))
-      ∙ sym (ap (λ (b : Bool). if b then (if nat_le (kept_with s.journal change) g.capacity then Done (length s.journal + 1) (found_now s change) s.clock else WrittenFull (kept_with s.journal change) s.clock) else Precondition (found_now s change) s.clock) (met-now false unmet))
+      ∙ sym (ap (λ (b : Bool). if b then (if nat_le (kept_with s.journal s.horizon change) g.capacity then Done (length s.journal + 1) (found_now s change) s.clock else WrittenFull (kept_with s.journal s.horizon change) s.clock) else Precondition (found_now s change) s.clock) (met-now false unmet))
 
   pub leaves-unmet : is_met condition found commits ≡ false → s ≡ wrote g change condition s
   unfolding left
-  leaves-unmet unmet = sym (ap (λ (b : Bool). left change s (b && nat_le (kept_with s.journal change) g.capacity)) (met-now false unmet))
+  leaves-unmet unmet = sym (ap (λ (b : Bool). left change s (b && nat_le (kept_with s.journal s.horizon change) g.capacity)) (met-now false unmet))
 
   -- where the condition is met, by whether the change fits
   module _ (met : is_met condition found commits ≡ true) (limit : book.capacity ≡ g.capacity) where
-    pub accepted-now : (b : Bool) → nat_le (kept_with book.journal change) book.capacity ≡ b → is_accepted g s change condition ≡ b
+    fits-now : nat_le (kept_with s.journal s.horizon change) g.capacity ≡ nat_le (kept_with book.journal book.horizon change) book.capacity
+    fits-now = ap₂ nat_le (ap₂ (λ (xs : List Change) (n : ℕ). kept_with xs n change) (sym same) (sym dropped)) (sym limit)
+
+    pub accepted-now : (b : Bool) → nat_le (kept_with book.journal book.horizon change) book.capacity ≡ b → is_accepted g s change condition ≡ b
     accepted-now b fits =
-        ap₂ (λ (a c : Bool). a && c) (met-now true met) (ap₂ (λ (xs : List Change) (n : ℕ). nat_le (kept_with xs change) n) (sym same) (sym limit) ∙ fits)
+        ap₂ (λ (a c : Bool). a && c) (met-now true met) (fits-now ∙ fits)
 
     -- the reply, by whether it fits
-    written-met : (b : Bool) → nat_le (kept_with book.journal change) book.capacity ≡ b → (if b then Done (length s.journal + 1) (found_now s change) s.clock else WrittenFull (kept_with s.journal change) s.clock) ≡ written g change condition s
+    written-met : (b : Bool) → nat_le (kept_with book.journal book.horizon change) book.capacity ≡ b → (if b then Done (length s.journal + 1) (found_now s change) s.clock else WrittenFull (kept_with s.journal s.horizon change) s.clock) ≡ written g change condition s
     written-met b fits =
-        sym (ap (λ (c : Bool). if c then Done (length s.journal + 1) (found_now s change) s.clock else WrittenFull (kept_with s.journal change) s.clock) (ap₂ (λ (xs : List Change) (n : ℕ). nat_le (kept_with xs change) n) (sym same) (sym limit) ∙ fits))
-        ∙ sym (ap (λ (c : Bool). if c then (if nat_le (kept_with s.journal change) g.capacity then Done (length s.journal + 1) (found_now s change) s.clock else WrittenFull (kept_with s.journal change) s.clock) else Precondition (found_now s change) s.clock) (met-now true met))
+        sym (ap (λ (c : Bool). if c then Done (length s.journal + 1) (found_now s change) s.clock else WrittenFull (kept_with s.journal s.horizon change) s.clock) (fits-now ∙ fits))
+        ∙ sym (ap (λ (c : Bool). if c then (if nat_le (kept_with s.journal s.horizon change) g.capacity then Done (length s.journal + 1) (found_now s change) s.clock else WrittenFull (kept_with s.journal s.horizon change) s.clock) else Precondition (found_now s change) s.clock) (met-now true met))
 
-    pub written-full : (bytes clock : ℕ) → bytes ≡ kept_with book.journal change → clock ≡ s.clock → nat_le (kept_with book.journal change) book.capacity ≡ false → WrittenFull bytes clock ≡ written g change condition s
-    written-full bytes clock sum now full = (let all : bytes ≡ kept_with s.journal change = sum ∙ ap (λ (xs : List Change). kept_with xs change) same in (λ i. WrittenFull (all i) (now i))) ∙ written-met false full
+    pub written-full : (bytes clock : ℕ) → bytes ≡ kept_with book.journal book.horizon change → clock ≡ s.clock → nat_le (kept_with book.journal book.horizon change) book.capacity ≡ false → WrittenFull bytes clock ≡ written g change condition s
+    written-full bytes clock sum now full = (let all : bytes ≡ kept_with s.journal s.horizon change = sum ∙ ap₂ (λ (xs : List Change) (n : ℕ). kept_with xs n change) same dropped in (λ i. WrittenFull (all i) (now i))) ∙ written-met false full
 
-    pub written-done : (commit clock : ℕ) → commit ≡ length book.journal + 1 → clock ≡ s.clock → nat_le (kept_with book.journal change) book.capacity ≡ true → Done commit found clock ≡ written g change condition s
+    pub written-done : (commit clock : ℕ) → commit ≡ length book.journal + 1 → clock ≡ s.clock → nat_le (kept_with book.journal book.horizon change) book.capacity ≡ true → Done commit found clock ≡ written g change condition s
     written-done commit clock next now fits = (let last : commit ≡ length s.journal + 1 = next ∙ ap (λ (xs : List Change). length xs + 1) same in (λ i. Done (last i) (found-now i) (now i))) ∙ written-met true fits
 
-    pub leaves-full : nat_le (kept_with book.journal change) book.capacity ≡ false → s ≡ wrote g change condition s
+    pub leaves-full : nat_le (kept_with book.journal book.horizon change) book.capacity ≡ false → s ≡ wrote g change condition s
     unfolding left
     leaves-full full = sym (ap (left change s) (accepted-now false full))
 
-    pub leaves-done : nat_le (kept_with book.journal change) book.capacity ≡ true → with_change change s ≡ wrote g change condition s
+    pub leaves-done : nat_le (kept_with book.journal book.horizon change) book.capacity ≡ true → with_change change s ≡ wrote g change condition s
     unfolding left
     leaves-done fits = sym (ap (left change s) (accepted-now true fits))

@@ -16,7 +16,7 @@ use Rattle.hub_model.specs.Step.{state_of}
 use Rattle.hub_model.specs.Until.{until_of_outdated}
 use Rattle.commit_book.specs.declared.change.Change.{Change}
 use Rattle.commit_book.specs.Contents.{Contents}
-use Rattle.commit_book.specs.Journal.{is_of}
+use Rattle.commit_book.specs.Journal.{is_of, kept_rows}
 use Rattle.commit_book.specs.Names.{Names, AreNamesOf}
 use Rattle.hub_model.specs.declared.entry.Entry.{Entry}
 use Rattle.hub_model.specs.declared.entry.Entry.TheVariants.{Match}
@@ -33,8 +33,10 @@ pub record HubView : Type 0 where
   pub clock : ℕ
   -- the number of commits
   pub commits : ℕ
-  -- the changes that the book keeps
+  -- all changes, those that the book dropped too
   pub rows : List Change
+  -- the commit up to which the book dropped those that later ones of their record replaced
+  pub horizon : ℕ
   pub front : ℕ
   -- copies of keys, each with its commit and until when it may be kept
   pub copies : List Copy
@@ -66,6 +68,7 @@ hub_of book front h l = record {
   clock = h.clock;
   commits = length book.journal;
   rows = book.journal;
+  horizon = book.horizon;
   front = front;
   copies = h.copies;
   outdated = h.outdated;
@@ -94,10 +97,10 @@ pub record IsAsBefore (old new : HubView) : Type 0 where
   pub rest : new ≡ record old { sets = new.sets }
   pub sets : HaveGoneOn old.sets new.sets
 
--- Nothing is kept but what the history needs: no memory is reserved, no key is idle, the index has the names of the rows alone, the clocks of writes are kept of written records alone, and estimates and match sets of active queries alone. A match set has followed the journal at least up to the front, and lists no commit up to it.
+-- Nothing is kept but what the history needs: no memory is reserved, no key is idle, the index has the names of the kept rows alone, the clocks of writes are kept of written records alone, and estimates and match sets of active queries alone. A match set has followed the journal at least up to the front, and lists no commit up to it.
 pub record IsLean (h : HubView) : Type 0 where
   pub change : h.change ≡ None
-  pub names : AreNamesOf h.rows h.names
+  pub names : AreNamesOf (kept_rows h.rows h.horizon) h.names
   pub idle : h.idle ≡ []
   pub ready : h.ready ≡ []
   pub invalidatable : h.invalidatable ≡ []
@@ -115,9 +118,10 @@ pub record IsLeanCopies (h : CopiesView) : Type 0 where
 abbrev pub help_of : State → ℕ → List Entry
 help_of s moment = if nat_le (s.front + most_unmatched) (length s.journal) then Match moment (length s.journal) ∷ [] else []
 
--- The parts of a hub belong together: the front is a commit, the book has the configured capacity, nothing is kept but what the history needs, and each active query key has its query and its estimate.
+-- The parts of a hub belong together: the front is a commit, which the book has not dropped, the book has the configured capacity, nothing is kept but what the history needs, and each active query key has its query and its estimate.
 pub record IsSoundHub (book : Contents) (front : ℕ) (h : CopiesView) (entries : List (KeyShape × Following)) (l : Lifetimes) : Type 0 where
   pub within : front ≤ length book.journal
+  pub kept : book.horizon ≤ front
   pub capacity : book.capacity ≡ h.setting.capacity
   pub lean : IsLean (hub_with book front h entries l)
   pub queries : KeepsQueries book.journal front h.copies h.idle entries
@@ -136,14 +140,11 @@ pub record HasTime (now covered : ℕ) (s : State) : Type 0 where
   pub clock : now ≡ s.clock
   pub front : covered ≡ s.front
 
--- the rows that a book keeps of a journal are all its changes
-abbrev pub KeepsRowsOf : List Change → List Change → Type 0
-KeepsRowsOf rows journal = rows ≡ journal
-
--- the book keeps the journal of the state, and its number of commits
-pub record HasBook (count : ℕ) (kept : List Change) (s : State) : Type 0 where
+-- the changes, their number and the horizon are the state's
+pub record HasBook (count : ℕ) (changes : List Change) (dropped : ℕ) (s : State) : Type 0 where
   pub commits : count ≡ length s.journal
-  pub rows : KeepsRowsOf kept s.journal
+  pub rows : changes ≡ s.journal
+  pub horizon : dropped ≡ s.horizon
 
 -- whichever key and commits are asked for, the last copy may be kept as long as the state's
 abbrev pub HasCopies : List Copy → State → Type 0
@@ -164,7 +165,7 @@ HasEstimates estimates s = (key : KeyShape) → is_query key ≡ true → kept_o
 -- The hub has come to this state.
 pub record IsAt (h : HubView) (s : State) : Type 0 where
   pub time : HasTime h.clock h.front s
-  pub book : HasBook h.commits h.rows s
+  pub book : HasBook h.commits h.rows h.horizon s
   pub copies : HasCopies h.copies s
   pub invalidations : HasInvalidations h.outdated s
   pub writes : HasWrites h.writes s

@@ -1,12 +1,12 @@
 //! The hub.
-ghost use Rattle.std.specs.Prelude.{◌≡◌, ◌<◌, ◌≤◌, ◌++◌, ◌∷◌, [], length, option_map, Some, true, IfOk, OnOk, OnErr, false};
-ghost use Rattle.hub_model.specs.declared.entry.Entry.TheVariants.{Write, Read, Match, Fetch, Purges, Tick};
-ghost use Rattle.commit_book.specs.Journal.{document_at};
+ghost use Rattle.std.specs.Prelude.{◌≡◌, ◌+◌, ◌^◌, ◌<◌, ◌≤◌, ◌++◌, ◌∷◌, [], length, option_map, Some, true, IfOk, OnOk, OnErr, false};
+ghost use Rattle.hub_model.specs.declared.entry.Entry.TheVariants.{Write, Read, Match, Fetch, Purges, Tick, Horizon};
+ghost use Rattle.commit_book.specs.Journal.{document_at, kept};
 ghost use Rattle.query_normal.specs.declared.key.KeyShape.TheVariants.{Record};
 ghost use Rattle.hub_model.specs.Journal.{result_at};
 ghost use Rattle.hub_model.specs.Known.{known_at};
 ghost use Rattle.hub_model.specs.Record.{is_recorded, page_of, record_of};
-ghost use Rattle.hub_model.specs.Reply.{wrote, read, matched, fetched, purged, counted, outcome_of, reply_in, told_of};
+ghost use Rattle.hub_model.specs.Reply.{wrote, read, matched, fetched, purged, counted, dropped, outcome_of, reply_in, told_of};
 ghost use Rattle.hub_model.specs.State.{State, start};
 ghost use Rattle.hub_model.specs.Step.{found_of, is_accepted, after, after_all};
 ghost use Rattle.hub_model.specs.Helps.{helps_of};
@@ -28,7 +28,7 @@ use active_queries::ActiveQueries;
 use active_queries::laws::queries_follow_longer_journals;
 use commit_book::{Book, BookRefusal};
 use hub_model::{
-    Answer, Change, Condition, Found, Matched, Outcome, PurgeReply, Stats, Tags, Written,
+    Answer, Change, Condition, Dropped, Found, Matched, Outcome, PurgeReply, Stats, Tags, Written,
 };
 use q_base::{Commit, Memory, Moment, Name};
 use query_normal::{Key, KeyShape};
@@ -93,6 +93,8 @@ impl Hub {
         change: &Change,
         condition: &Condition,
     ) -> Result<Written, Memory>
+        requires { self.old.commits + 1 < 2 ^ 64 }
+
         // What Ok means.
         ensures told { IfOk result (λ w. (s : State) → IsAt self.old s → wrote w ≡ reply_in self.old.setting (after_all self.old.setting s (helps_of self.old.setting s (Write moment change.now condition.now))) (Write moment change.now condition.now)) }
         ensures accepted { OnErr result ((s : State) → IsAt self.old s → is_accepted self.old.setting s change.now condition.now ≡ true) }
@@ -212,7 +214,7 @@ impl Hub {
         found: Outcome,
     ) -> Result<Answer, Memory>
         requires kind { is_query key.now ≡ false }
-        requires outcome { found ≡ outcome_of (result_at key.now self.old.rows self.old.commits) (known_at key.now self.old.rows self.old.commits tags.now) }
+        requires outcome { found ≡ outcome_of (result_at key.now self.old.rows self.old.commits) (known_at key.now self.old.rows self.old.horizon self.old.commits tags.now) }
         ensures answers { IfOk result (AnswersRead self.old self.new moment key.now tags.now) }
         ensures setting { self.new.setting ≡ self.old.setting }
         ensures memory { OnErr result (self.new ≡ self.old) }
@@ -358,6 +360,40 @@ impl Hub {
         }
     }
 
+    /// Drops the changes up to a commit, but the last of each record that has a document there, as one
+    /// entry. The bytes that they took are free, and results are known from that commit on. It takes no
+    /// memory, and the time of the changes that it passes.
+    pub fn drop_to(&mut self, moment: Moment, to: Commit) -> Dropped
+        requires above { self.old.horizon < to }
+        requires within { to ≤ self.old.front }
+        ensures told { (s : State) → IsAt self.old s → dropped result ≡ reply_in self.old.setting s (Horizon moment to) }
+        ensures after { (s : State) → IsAt self.old s → IsAt self.new (after self.old.setting s (Horizon moment to)) }
+        ensures setting { self.new.setting ≡ self.old.setting }
+        ensures lean { IsLean self.new }
+    {
+        pass(&mut self.copies, &mut self.queries, &mut self.life, moment);
+        self.book.drop_to(to);
+        Dropped {
+            horizon: to,
+            clock: self.copies.clock(),
+        }
+    }
+
+    /// The commit up to which old changes were dropped.
+    pub fn horizon(&self) -> Commit
+        ensures same { result ≡ self.now.horizon }
+        ensures within { self.now.horizon ≤ self.now.front }
+    {
+        self.book.horizon()
+    }
+
+    /// What the kept changes take of the capacity, in bytes.
+    pub fn bytes(&self) -> u64
+        ensures { result ≡ kept self.now.rows self.now.horizon }
+    {
+        self.book.bytes()
+    }
+
     /// The last commit that was matched.
     pub fn front(&self) -> Commit
         ensures same { result ≡ self.now.front }
@@ -380,6 +416,13 @@ impl Hub {
         self.copies.is_invalidated(key)
     }
 
+    /// The greatest number of bytes that may be kept.
+    pub fn capacity(&self) -> u64
+        ensures { result ≡ self.now.setting.capacity }
+    {
+        self.copies.config().capacity()
+    }
+
     /// The number of keys in the record.
     pub fn record_count(&self) -> u32
         ensures { (s : State) → IsAt self.now s → result ≡ length (record_of s) }
@@ -390,6 +433,7 @@ impl Hub {
 
 /// What the last commit has of the record that a change is of.
 fn found(book: &Book, change: &Change) -> Found
+    requires { book.now.horizon ≤ length book.now.journal }
     ensures { result ≡ found_of (document_at book.now.journal (length book.now.journal) change.now.collection change.now.id) }
 {
     match book.document_at(book.count(), &change.collection, &change.id) {

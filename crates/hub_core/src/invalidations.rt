@@ -38,6 +38,7 @@ pub fn reserve_invalidations(
     requires forward { front ≤ to }
     requires within { to ≤ length book.now.journal }
     requires kept { KeepsQueries book.now.journal front copies.old.copies copies.old.idle queries.old.entries }
+    requires above { book.now.horizon ≤ front }
     ensures invalidations { IfOk result (λ invalidations. AreInvalidationsOf book.now.journal front to copies.old.copies invalidations.items) }
     ensures reserved { IfOk result (λ invalidations. All (λ m. IsInvalidationReserved copies.new m.key) invalidations.items) }
     ensures within { IfOk result (λ invalidations. All (λ m. m.commit ≤ to) invalidations.items) }
@@ -64,6 +65,7 @@ fn record_invalidations(
     front: Commit,
     to: Commit,
 ) -> Result<Vec<Invalidation>, Memory>
+    requires above { book.now.horizon ≤ front }
     requires forward { front ≤ to }
     requires within { to ≤ length book.now.journal }
     ensures invalidations { IfOk result (λ invalidations. AreRecordInvalidationsOf book.now.journal front to invalidations.items) }
@@ -86,6 +88,7 @@ fn push_invalidation(
     commit: Commit,
     invalidations: &mut Vec<Invalidation>,
 ) -> Result<(), Memory>
+    requires { book.now.horizon < commit }
     ensures invalidations { OnOk result ((key : AKey) (n : ℕ) → list_any (is_invalidation key n) invalidations.new.items ≡ (list_any (is_invalidation key n) invalidations.old.items || (is_key key (altered_key book.now.journal commit) && (commit == n)))) }
     ensures reserved { OnOk result (All (λ m. IsInvalidationReserved copies.old m.key) invalidations.old.items → All (λ m. IsInvalidationReserved copies.new m.key) invalidations.new.items) }
     ensures within { OnOk result ((to : ℕ) → commit ≤ to → All (λ m. m.commit ≤ to) invalidations.old.items → All (λ m. m.commit ≤ to) invalidations.new.items) }

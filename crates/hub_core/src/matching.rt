@@ -55,6 +55,7 @@ pub fn match_commits(
     moment: Moment,
     change: Option<&Change>,
 ) -> Result<(), Memory>
+    requires above { book.now.horizon ≤ front }
     requires forward { front ≤ to }
     requires within { to ≤ length book.now.journal }
     requires lean { IsLeanCopies copies.old }
@@ -105,6 +106,7 @@ fn prepare(
     moment: Moment,
     change: Option<&Change>,
 ) -> Result<Prepared, Memory>
+    requires above { book.now.horizon ≤ front }
     requires forward { front ≤ to }
     requires within { to ≤ length book.now.journal }
     requires kept { KeepsQueries book.now.journal front copies.old.copies copies.old.idle queries.old.entries }
@@ -173,6 +175,7 @@ pub fn make_way(
     moment: Moment,
     change: &Change,
 ) -> Result<(), Memory>
+    requires above { book.now.horizon ≤ front.old }
     requires within { front.old ≤ length book.now.journal }
     requires lean { IsLeanCopies copies.old }
     requires kept { KeepsQueries book.now.journal front.old copies.old.copies copies.old.idle queries.old.entries }
@@ -180,6 +183,7 @@ pub fn make_way(
     ensures matches { OnOk result ((s : State) → IsAt (hub_of book.now front.old copies.old life.old) s → IsAt (hub_of book.now front.new copies.new life.new) (after_all copies.old.setting s (help_of s moment))) }
     ensures kept { KeepsQueries book.now.journal front.new copies.new.copies copies.new.idle queries.new.entries }
     ensures lifetimes { KeepsLifetimes book.now.journal front.new copies.new life.new }
+    ensures forward { front.old ≤ front.new }
     ensures within { front.new ≤ length book.now.journal }
     ensures known { OnOk result (IsTrue (has_record life.new.estimator change.now.collection change.now.id)) }
     ensures entered { OnOk result (MakesEntry (Some change.now) life.old.estimator.records life.new.estimator.records) }

@@ -37,10 +37,11 @@ pub fn query_outcome(
     changed: &[Commit],
     tags: &Tags,
 ) -> Result<Outcome, Memory>
+    requires above { book.now.horizon ≤ commit }
     requires within { commit ≤ length book.now.journal }
     requires rows { rows.now ≡ window query.now (docs book.now.journal commit query.now.collection) }
     requires changed { AreChangesOf (QueryKey kind query.now) book.now.journal from commit changed.now }
-    ensures { IfOk result (λ o. o ≡ outcome_of (result_at (QueryKey kind query.now) book.now.journal commit) (known_at (QueryKey kind query.now) book.now.journal commit tags.now)) }
+    ensures { IfOk result (λ o. o ≡ outcome_of (result_at (QueryKey kind query.now) book.now.journal commit) (known_at (QueryKey kind query.now) book.now.journal book.now.horizon commit tags.now)) }
 {
     match tags {
         Tags::Any => Ok(Outcome::Same {
@@ -73,10 +74,11 @@ fn listed_outcome(
     changed: &[Commit],
     tags: &[Commit],
 ) -> Result<Outcome, Memory>
+    requires above { book.now.horizon ≤ commit }
     requires within { commit ≤ length book.now.journal }
     requires rows { rows.now ≡ window query.now (docs book.now.journal commit query.now.collection) }
     requires changed { AreChangesOf (QueryKey kind query.now) book.now.journal from commit changed.now }
-    ensures { IfOk result (λ o. o ≡ outcome_of (result_at (QueryKey kind query.now) book.now.journal commit) (known_at (QueryKey kind query.now) book.now.journal commit (ListedTags tags.now))) }
+    ensures { IfOk result (λ o. o ≡ outcome_of (result_at (QueryKey kind query.now) book.now.journal commit) (known_at (QueryKey kind query.now) book.now.journal book.now.horizon commit (ListedTags tags.now))) }
 {
     the_greatest_same_result_is_told();
     if is_listed(tags, commit) {
@@ -111,7 +113,8 @@ pub(crate) fn rows_at(
     commit: Commit,
     query: &Query,
 ) -> Result<Rows, Memory>
-    requires { commit ≤ length book.now.journal }
+    requires above { book.now.horizon ≤ commit }
+    requires within { commit ≤ length book.now.journal }
     ensures { IfOk result (λ rows. rows ≡ window query.now (docs book.now.journal commit query.now.collection)) }
 {
     collections_have_the_documents_of_their_records();
@@ -133,10 +136,11 @@ fn greatest_known(
     changed: &[Commit],
     tags: &[Commit],
 ) -> Result<Option<Commit>, Memory>
+    requires above { book.now.horizon ≤ commit }
     requires within { commit ≤ length book.now.journal }
     requires rows { rows.now ≡ window query.now (docs book.now.journal commit query.now.collection) }
     requires changed { AreChangesOf (QueryKey kind query.now) book.now.journal from commit changed.now }
-    ensures { IfOk result (λ known. known ≡ reduce max (filter (has_result_of (QueryKey kind query.now) book.now.journal commit) tags.now)) }
+    ensures { IfOk result (λ known. known ≡ reduce max (filter (has_result_of (QueryKey kind query.now) book.now.journal book.now.horizon commit) tags.now)) }
 {
     let mut known = None;
     for tag in tags {
@@ -159,8 +163,8 @@ fn is_better(known: Option<Commit>, tag: Commit) -> bool
     }
 }
 
-/// Whether a tag is a commit with the same result as another, whose rows are given. No row is looked at
-/// where no commit after the tag changed the result.
+/// Whether a tag is a commit with the same result as another, whose rows are given. One below the horizon
+/// is not known. No row is looked at where no commit after the tag changed the result.
 fn is_known(
     alloc: Global,
     book: &Book,
@@ -172,11 +176,16 @@ fn is_known(
     changed: &[Commit],
     tag: Commit,
 ) -> Result<bool, Memory>
+    requires above { book.now.horizon ≤ commit }
     requires within { commit ≤ length book.now.journal }
     requires rows { rows.now ≡ window query.now (docs book.now.journal commit query.now.collection) }
     requires changed { AreChangesOf (QueryKey kind query.now) book.now.journal from commit changed.now }
-    ensures { IfOk result (λ known. known ≡ has_result_of (QueryKey kind query.now) book.now.journal commit tag) }
+    ensures { IfOk result (λ known. known ≡ has_result_of (QueryKey kind query.now) book.now.journal book.now.horizon commit tag) }
 {
+    let horizon = book.horizon();
+    if tag < horizon {
+        return Ok(false);
+    }
     if tag > commit {
         return Ok(false);
     }
@@ -204,6 +213,7 @@ fn text_of(
     kind: Kind,
     rows: &[Row],
 ) -> Result<ResultText, Memory>
+    requires above { book.now.horizon ≤ commit }
     requires within { commit ≤ length book.now.journal }
     requires kept { AreKept book.now.journal commit collection.now rows.now }
     ensures { IfOk result (λ text. text ≡ text_of_result (result_of kind rows.now)) }
@@ -224,6 +234,7 @@ fn kept_rows(
     collection: &Name,
     rows: &[Row],
 ) -> Result<Vec<PrintedRow>, Memory>
+    requires above { book.now.horizon ≤ commit }
     requires within { commit ≤ length book.now.journal }
     requires kept { AreKept book.now.journal commit collection.now rows.now }
     ensures { IfOk result (λ kept. kept.items ≡ map printed_row rows.now) }
@@ -237,6 +248,7 @@ fn kept_rows(
 
 /// A row with its printed document, which the book keeps. It is shared.
 fn kept_row(book: &Book, commit: Commit, collection: &Name, row: &Row) -> Result<PrintedRow, Memory>
+    requires above { book.now.horizon ≤ commit }
     requires within { commit ≤ length book.now.journal }
     requires kept { IsKept book.now.journal commit collection.now row.now }
     ensures { IfOk result (λ kept. kept ≡ printed_row row.now) }

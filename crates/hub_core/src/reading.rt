@@ -12,11 +12,13 @@ ghost use Rattle.ttl_estimator.specs.Estimates.{is_known, kept_of};
 ghost use Rattle.ttl_estimator.specs.Estimator.{lifetime};
 ghost use Rattle.hub_model.specs.Journal.{result_at};
 ghost use Rattle.hub_model.specs.Known.{known_at};
+ghost use Rattle.hub_model.specs.KnownSince.{known_since};
 ghost use Rattle.hub_model.specs.Lifetime.{limits_of, ttl_of};
 ghost use Rattle.hub_model.specs.Reply.{outcome_of};
 ghost use Rattle.hub_model.specs.State.{State, at_moment};
 ghost use Rattle.hub_model.specs.Step.{has_read};
 ghost use Rattle.active_queries.specs.Following.{Follows, AreFollowing};
+ghost use Rattle.active_queries.specs.Queries.{HaveSeen};
 ghost use Rattle.hub_core.specs.ActiveQueries.{is_query, IsAtHand, IsStarted, KeepsQueries, query_at_hand, with_started};
 ghost use Rattle.hub_core.specs.CopiesView.{IsReadyFor, Passes};
 ghost use Rattle.hub_core.specs.HubState.{HaveGoneOn, IsAt, hub_of};
@@ -44,6 +46,8 @@ pub fn follow_or_start(
     queries: &mut ActiveQueries,
     key: &Key,
 ) -> Result<Option<(Key, ActiveQuery)>, Memory>
+    requires seen { HaveSeen book.now.horizon queries.old.entries }
+    requires above { book.now.horizon ≤ length book.now.journal }
     ensures at_hand { IfOk result (λ started. IsAtHand book.now.journal key.now started queries.new) }
     ensures gone_on { HaveGoneOn queries.old.entries queries.new.entries }
     ensures kept { (front : ℕ) (copies : List Copy) (idle : List AKey) → KeepsQueries book.now.journal front copies idle queries.old.entries → KeepsQueries book.now.journal front copies idle queries.new.entries }
@@ -74,6 +78,7 @@ fn start(
     requires query { IsQuery query.now }
     requires key { key.now ≡ QueryKey kind query.now }
     requires absent { lookup (same_key key.now) queries.old.entries ≡ None }
+    requires above { book.now.horizon ≤ length book.now.journal }
     ensures started { IfOk result (λ new. IsStarted book.now.journal key.now new queries.new) }
     ensures entries { queries.new.entries ≡ queries.old.entries }
 {
@@ -94,7 +99,8 @@ pub fn outcome_at(
 ) -> Result<Outcome, Memory>
     requires at_hand { IsAtHand book.now.journal key.now started.now queries.now }
     requires following { AreFollowing book.now.journal queries.now.entries }
-    ensures { IfOk result (λ o. o ≡ outcome_of (result_at key.now book.now.journal (length book.now.journal)) (known_at key.now book.now.journal (length book.now.journal) tags.now)) }
+    requires above { book.now.horizon ≤ length book.now.journal }
+    ensures { IfOk result (λ o. o ≡ outcome_of (result_at key.now book.now.journal (length book.now.journal)) (known_at key.now book.now.journal book.now.horizon (length book.now.journal) tags.now)) }
 {
     match key.shape() {
         KeyShape::Record { collection, id } => {
@@ -133,7 +139,8 @@ fn active_outcome(
 ) -> Result<Outcome, Memory>
     requires follows { Follows kind query.now active.now book.now.journal }
     requires seen { active.now.seen ≡ length book.now.journal }
-    ensures { IfOk result (λ o. o ≡ outcome_of (result_at (QueryKey kind query.now) book.now.journal (length book.now.journal)) (known_at (QueryKey kind query.now) book.now.journal (length book.now.journal) tags.now)) }
+    requires above { book.now.horizon ≤ length book.now.journal }
+    ensures { IfOk result (λ o. o ≡ outcome_of (result_at (QueryKey kind query.now) book.now.journal (length book.now.journal)) (known_at (QueryKey kind query.now) book.now.journal book.now.horizon (length book.now.journal) tags.now)) }
 {
     rows_are_those_of_the_last_commit_seen();
     query_outcome(
@@ -149,8 +156,8 @@ fn active_outcome(
     )
 }
 
-/// The outcome of a read of a record at a commit: the commit by which the caller knows the document, or
-/// the text that the book keeps, which is shared.
+/// The outcome of a read of a record at a commit: the commit by which the caller knows the document, which
+/// is not below the horizon, or the text that the book keeps, which is shared.
 #[tactic(auto, using(crate::proofs::OutcomeLemmas::outcome_rules))]
 pub fn record_outcome(
     book: &Book,
@@ -159,13 +166,14 @@ pub fn record_outcome(
     id: &Name,
     tags: &Tags,
 ) -> Result<Outcome, Memory>
-    requires { commit ≤ length book.now.journal }
-    ensures { IfOk result (λ o. o ≡ outcome_of (result_at (Record collection.now id.now) book.now.journal commit) (known_at (Record collection.now id.now) book.now.journal commit tags.now)) }
+    requires above { book.now.horizon ≤ commit }
+    requires within { commit ≤ length book.now.journal }
+    ensures { IfOk result (λ o. o ≡ outcome_of (result_at (Record collection.now id.now) book.now.journal commit) (known_at (Record collection.now id.now) book.now.journal book.now.horizon commit tags.now)) }
 {
     let Some((version, text)) = book.text_at(commit, collection, id) else {
         return Ok(Outcome::Absent);
     };
-    match tags.known_since(version, commit) {
+    match known_since(book, tags, version, commit) {
         Some(tag) => Ok(Outcome::Same {
             tag,
             version: Some(version),
@@ -175,6 +183,14 @@ pub fn record_outcome(
             version: Some(version),
         }),
     }
+}
+
+/// The commit by which a caller knows a document of this version that is read at a commit. One below the
+/// horizon is not known.
+fn known_since(book: &Book, tags: &Tags, version: Commit, commit: Commit) -> Option<Commit>
+    ensures { result ≡ known_since (max book.now.horizon version) commit tags.now }
+{
+    tags.known_since(book.horizon().max(version), commit)
 }
 
 /// The lifetime of a read of a record's key at the last commit, at a moment, where the read changes nothing:

@@ -7,10 +7,11 @@ ghost use Rattle.hub_model.specs.Desk.{Makes, Learns};
 ghost use Rattle.hub_model.specs.Reply.{wrote, read, purged, counted, told_of};
 ghost use Rattle.hub_model.specs.Setting.{Setting};
 ghost use Rattle.hub_model.specs.Step.{is_accepted, state_of};
-ghost use Rattle.hub_desk.specs.Desk.{MatchesAll, Fetches, IsBehind};
+ghost use Rattle.hub_desk.specs.Desk.{MatchesAll, DropsOld, Fetches, IsBehind};
 
+use crate::trim::Trim;
 use hub_core::PageRoom;
-use hub_model::{Answer, Change, Condition, Matched, PurgeReply, Stats, Tags, Written};
+use hub_model::{Answer, Change, Condition, Dropped, Matched, PurgeReply, Stats, Tags, Written};
 use q_base::{Memory, Moment};
 use query_normal::Key;
 
@@ -86,6 +87,14 @@ pub trait Desk {
         ensures memory { OnErr result (Learns (setting self.old) (seen self.old) (seen self.new) (mine self.old) (mine self.new)) }
         ensures behind { OnErr result (IsBehind (state_of (setting self.old) (seen self.new))) }
         ensures again { OnErr result (is_ready self.new) }
+        ensures anchor { anchor self.new ≡ anchor self.old }
+        ensures setting { setting self.new ≡ setting self.old };
+
+    /// Drops old changes: one entry, which is a tick where the horizon is there already. It takes no
+    /// memory.
+    fn drop_old(&mut self, moment: Moment, trim: Trim) -> Dropped
+        requires { is_ready self.old }
+        ensures made { DropsOld (setting self.old) (seen self.old) (seen self.new) (mine self.old) (mine self.new) moment trim result }
         ensures anchor { anchor self.new ≡ anchor self.old }
         ensures setting { setting self.new ≡ setting self.old };
 

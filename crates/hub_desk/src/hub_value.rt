@@ -2,15 +2,17 @@
 ghost use Rattle.std.specs.Prelude.{◌≡◌, ◌+◌, ◌<◌, ◌≤◌, ◌^◌, [], List, length, true, nat_lt, if◌then◌else◌, IfOk, OnErr};
 ghost use Rattle.hub_core.specs.PageRoom.{IsRoomFor};
 ghost use Rattle.hub_model.specs.declared.entry.Entry.{Entry as AnEntry};
-ghost use Rattle.hub_model.specs.declared.entry.Entry.TheVariants.{Write, Read, Match, Purges, Tick};
-ghost use Rattle.hub_model.specs.Reply.{wrote, read, matched, purged, counted, told_of};
+ghost use Rattle.hub_model.specs.declared.entry.Entry.TheVariants.{Write, Read, Match, Purges, Tick, Horizon};
+ghost use Rattle.hub_model.specs.Reply.{wrote, read, matched, purged, counted, dropped, told_of};
 ghost use Rattle.hub_model.specs.Step.{is_accepted, state_of};
 ghost use Rattle.hub_desk.specs.HubValue.{hub_setting, StandsFor, StandsStill, Adds, AddsPage};
 
 use crate::laws::calls_make_entries;
 use hub_core::{Config, Hub, PageRoom, hubs_represent_histories};
 use hub_model::laws::{front_is_within, helps_are_told_by_the_front};
-use hub_model::{Answer, Change, Condition, Entry, Matched, PurgeReply, Stats, Tags, Written};
+use hub_model::{
+    Answer, Change, Condition, Dropped, Entry, Matched, PurgeReply, Stats, Tags, Written,
+};
 use q_base::{Commit, Memory, Moment};
 use query_normal::Key;
 use std::alloc::Global;
@@ -100,14 +102,16 @@ impl HubValue {
         &self.hub
     }
 
-    /// Writes, as one entry behind those that have to come ahead of it.
+    /// Writes, as one entry behind those that have to come ahead of it. There are no more commits than
+    /// entries.
     pub(crate) fn write(
         &mut self,
         moment: Moment,
         change: &Change,
         condition: &Condition,
     ) -> Result<Written, Memory>
-        requires { self.old.count + 2 < 2 ^ 64 }
+        requires count { self.old.count + 2 < 2 ^ 64 }
+        requires commits { self.old.hub.commits ≤ self.old.count }
         ensures made { IfOk result (λ w. Adds self.old self.new (Write moment change.now condition.now) (wrote w)) }
         ensures accepted { OnErr result ((history : List AnEntry) → StandsFor self.old history → is_accepted (hub_setting self.old) (state_of (hub_setting self.old) history) change.now condition.now ≡ true) }
         ensures memory { OnErr result (StandsStill self.old self.new) }
@@ -151,6 +155,20 @@ impl HubValue {
         let matched = self.hub.match_to(moment, to)?;
         self.count += 1;
         Ok(matched)
+    }
+
+    /// Drops the old changes up to a commit, as one entry. It takes no memory.
+    pub(crate) fn drop_to(&mut self, moment: Moment, to: Commit) -> Dropped
+        requires count { self.old.count + 1 < 2 ^ 64 }
+        requires above { self.old.hub.horizon < to }
+        requires within { to ≤ self.old.hub.front }
+        ensures made { Adds self.old self.new (Horizon moment to) (dropped result) }
+        ensures setting { hub_setting self.new ≡ hub_setting self.old }
+    {
+        calls_make_entries();
+        let dropped = self.hub.drop_to(moment, to);
+        self.count += 1;
+        dropped
     }
 
     /// Writes the page into the buffer, as one entry. It takes no memory.

@@ -6,13 +6,17 @@ mod hub_value;
 mod laws;
 mod owned;
 mod seated;
+mod trim;
 
 pub use desk::Desk;
 pub use hub_core::{Config, ConfigRefusal, Hub, PageRoom};
 pub use hub_model::{
-    Answer, Change, Condition, Entry, Found, Matched, Outcome, PurgeReply, Stats, Tags, Written,
+    Answer, Change, Condition, Dropped, Entry, Found, Matched, Outcome, PurgeReply, Stats, Tags,
+    Written,
 };
 pub use hub_value::{HubValue, Noted};
+pub use laws::all_is_dropped_up_to_the_front;
 pub use owned::Owned;
 pub use seated::Seated;
+pub use trim::Trim;
 pub use turnstile::{Seat, Turnstile};

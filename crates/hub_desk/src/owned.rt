@@ -7,9 +7,14 @@ ghost use Rattle.hub_desk.specs.Desk.{most_entries};
 
 use crate::desk::Desk;
 use crate::laws::calls_make_entries;
+use crate::trim::{Trim, target_of};
 use hub_core::{Config, Hub, PageRoom};
-use hub_model::laws::{front_is_within, helps_are_told_by_the_front, no_entry_is_legal};
-use hub_model::{Answer, Change, Condition, Entry, Matched, PurgeReply, Stats, Tags, Written};
+use hub_model::laws::{
+    commits_are_of_entries, front_is_within, helps_are_told_by_the_front, no_entry_is_legal,
+};
+use hub_model::{
+    Answer, Change, Condition, Dropped, Entry, Matched, PurgeReply, Stats, Tags, Written,
+};
 use q_base::{Commit, Memory, Moment};
 use query_normal::Key;
 use std::alloc::Global;
@@ -119,8 +124,9 @@ impl Desk for Owned {
         change: Change,
         condition: Condition,
     ) -> Result<Written, Memory> {
-        // The law by which the fronts tell what helped a write.
+        // The laws by which the fronts tell what helped a write, and there is a number for the next commit.
         helps_are_told_by_the_front();
+        commits_are_of_entries();
         calls_make_entries();
         let front = self.hub.front();
         let written = self.hub.write(moment, &change, &condition)?;
@@ -168,6 +174,24 @@ impl Desk for Owned {
                 front: stats.front,
                 clock: stats.clock,
             })
+        }
+    }
+
+    fn drop_old(&mut self, moment: Moment, trim: Trim) -> Dropped {
+        calls_make_entries();
+        let horizon = self.hub.horizon();
+        let to = target_of(&self.hub, trim);
+        if horizon < to {
+            let dropped = self.hub.drop_to(moment, to);
+            note(&mut self.entries, Entry::Horizon { moment, to });
+            dropped
+        } else {
+            let stats = self.hub.tick(moment);
+            note(&mut self.entries, Entry::Tick { moment });
+            Dropped {
+                horizon,
+                clock: stats.clock,
+            }
         }
     }
 

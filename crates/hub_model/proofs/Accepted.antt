@@ -1,5 +1,5 @@
 -- Which writes are accepted, and the journal that they make.
-use Rattle.std.proofs.Common.{◌≡◌, ◌↔◌, ℕ, zero, suc, ◌≤◌, Bool, true, false, ◌&&◌, List, [], ◌∷◌, ◌++◌, length, fold, Option, Some, None, refl, sym, ap, ◌∙◌, subst, inl, inr, arith}
+use Rattle.std.proofs.Common.{◌≡◌, ◌↔◌, ℕ, zero, suc, ◌≤◌, Bool, true, false, ◌&&◌, List, [], ◌∷◌, length, fold, Option, Some, None, refl, sym, ap, ◌∙◌, subst, inl, inr, arith}
 use Rattle.std.specs.Prelude.{nat_le, slice_get, if◌then◌else◌, IfSome}
 use Rattle.std.specs.Bool.{Decides}
 use Rattle.std.proofs.lemmas.Bool.{cases_Bool, cases_lt, and_parts, and_from, leb-true, le-leb, both_ways}
@@ -62,57 +62,57 @@ left b s t h = ap (λ (c : Bool). if c then s else t) h
 -- of one write
 module _ (g : Setting) (s : State) (change : Change) (condition : Condition) where
   -- the test decides whether it is accepted
-  pub accepted-Decides : Decides (is_accepted g s change condition) (IsAccepted g s.journal change condition)
+  pub accepted-Decides : Decides (is_accepted g s change condition) (IsAccepted g s.journal s.horizon change condition)
   accepted-Decides =
       let met = met-Decides condition (found_now s change) (length s.journal) in (
         (λ h.
-            let parts = and_parts (is_met condition (found_now s change) (length s.journal)) (nat_le (kept_with s.journal change) g.capacity) h in
-            record { met = met.0 parts.0; fits = leb-true (kept_with s.journal change) g.capacity parts.1 }),
-        (λ h. and_from (is_met condition (found_now s change) (length s.journal)) (nat_le (kept_with s.journal change) g.capacity) (met.1 h.met) (le-leb (kept_with s.journal change) g.capacity h.fits)),
+            let parts = and_parts (is_met condition (found_now s change) (length s.journal)) (nat_le (kept_with s.journal s.horizon change) g.capacity) h in
+            record { met = met.0 parts.0; fits = leb-true (kept_with s.journal s.horizon change) g.capacity parts.1 }),
+        (λ h. and_from (is_met condition (found_now s change) (length s.journal)) (nat_le (kept_with s.journal s.horizon change) g.capacity) (met.1 h.met) (le-leb (kept_with s.journal s.horizon change) g.capacity h.fits)),
       )
 
   -- a write leaves a state or adds its change
   pub wrote-keeps : (P : State → Type 0) → P (with_change change s) → P s → P (wrote g change condition s)
   wrote-keeps P p q = kept_by P (is_accepted g s change condition) (with_change change s) s p q
 
-  wrote-accepted : is_accepted g s change condition ≡ true → (wrote g change condition s).journal ≡ s.journal ++ change ∷ []
-  wrote-accepted h = ap (λ (t : State). t.journal) (chosen (is_accepted g s change condition) (with_change change s) s h)
+  wrote-accepted : is_accepted g s change condition ≡ true → wrote g change condition s ≡ with_change change s
+  wrote-accepted h = chosen (is_accepted g s change condition) (with_change change s) s h
 
-  wrote-refused : is_accepted g s change condition ≡ false → (wrote g change condition s).journal ≡ s.journal
-  wrote-refused h = ap (λ (t : State). t.journal) (left (is_accepted g s change condition) (with_change change s) s h)
+  wrote-refused : is_accepted g s change condition ≡ false → wrote g change condition s ≡ s
+  wrote-refused h = left (is_accepted g s change condition) (with_change change s) s h
 
-  refuses : is_accepted g s change condition ≡ false → IsAccepted g s.journal change condition → ⊥
+  refuses : is_accepted g s change condition ≡ false → IsAccepted g s.journal s.horizon change condition → ⊥
   refuses h a = both_ways (is_accepted g s change condition) h (accepted-Decides.1 a)
 
 -- ---- the journal
 
 -- the fold's journal is that of the accepted writes
-journal-from : (g : Setting) (s : State) (history : List Entry) → IsJournalFrom g s.journal history (fold (after g) s history).journal
+journal-from : (g : Setting) (s : State) (history : List Entry) → IsJournalFrom g s.journal s.horizon history (fold (after g) s history).journal
 journal-from g s [] = refl
 journal-from g s (Write moment change condition ∷ es) =
     let t = at_moment s moment in
     let rest = journal-from g (wrote g change condition t) es in
     elim (cases_Bool (is_accepted g t change condition)) [
-      | inl takes ↦ inl ((accepted-Decides g t change condition).0 takes, subst (λ (l : List Change). IsJournalFrom g l es (fold (after g) (wrote g change condition t) es).journal) (wrote-accepted g t change condition takes) rest)
-      | inr other ↦ inr (refuses g t change condition other, subst (λ (l : List Change). IsJournalFrom g l es (fold (after g) (wrote g change condition t) es).journal) (wrote-refused g t change condition other) rest)
+      | inl takes ↦ inl ((accepted-Decides g t change condition).0 takes, subst (λ (u : State). IsJournalFrom g u.journal u.horizon es (fold (after g) (wrote g change condition t) es).journal) (wrote-accepted g t change condition takes) rest)
+      | inr other ↦ inr (refuses g t change condition other, subst (λ (u : State). IsJournalFrom g u.journal u.horizon es (fold (after g) (wrote g change condition t) es).journal) (wrote-refused g t change condition other) rest)
     ]
 journal-from g s (e ∷ es) = journal-from g (after g s e) es
 
 -- and no other list is
-journal-alone : (g : Setting) (s : State) (history : List Entry) (journal : List Change) → IsJournalFrom g s.journal history journal → journal ≡ (fold (after g) s history).journal
+journal-alone : (g : Setting) (s : State) (history : List Entry) (journal : List Change) → IsJournalFrom g s.journal s.horizon history journal → journal ≡ (fold (after g) s history).journal
 journal-alone g s [] journal h = h
 journal-alone g s (Write moment change condition ∷ es) journal h =
     let t = at_moment s moment in
     let next = wrote g change condition t in
-    let rest : IsJournalFrom g next.journal es journal → journal ≡ (fold (after g) next es).journal = journal-alone g next es journal in
+    let rest : IsJournalFrom g next.journal next.horizon es journal → journal ≡ (fold (after g) next es).journal = journal-alone g next es journal in
     elim (cases_Bool (is_accepted g t change condition)) [
       | inl takes ↦ elim h [
-        | inl took ↦ rest (subst (λ (l : List Change). IsJournalFrom g l es journal) (sym (wrote-accepted g t change condition takes)) took.1)
+        | inl took ↦ rest (subst (λ (u : State). IsJournalFrom g u.journal u.horizon es journal) (sym (wrote-accepted g t change condition takes)) took.1)
         | inr left_out ↦ absurd (left_out.0 ((accepted-Decides g t change condition).0 takes))
       ]
       | inr other ↦ elim h [
         | inl took ↦ absurd (refuses g t change condition other took.0)
-        | inr left_out ↦ rest (subst (λ (l : List Change). IsJournalFrom g l es journal) (sym (wrote-refused g t change condition other)) left_out.1)
+        | inr left_out ↦ rest (subst (λ (u : State). IsJournalFrom g u.journal u.horizon es journal) (sym (wrote-refused g t change condition other)) left_out.1)
       ]
     ]
 journal-alone g s (e ∷ es) journal h = journal-alone g (after g s e) es journal h

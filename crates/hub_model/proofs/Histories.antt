@@ -1,11 +1,11 @@
 -- What one entry more does to a history, and what the fold's clock and front are.
-use Rattle.std.proofs.Common.{◌≡◌, ℕ, ◌≤◌, max, List, [], ◌∷◌, ◌++◌, length, map, fold, Some, None, refl, ap, ◌∙◌, arith, length-append}
+use Rattle.std.proofs.Common.{◌≡◌, ℕ, ◌+◌, ◌≤◌, max, List, [], ◌∷◌, ◌++◌, length, map, fold, Some, None, refl, ap, ◌∙◌, arith, length-append}
 use Rattle.std.specs.Prelude.{unwrap_or}
 use Rattle.std.specs.List.{filter_map, last_or}
 use Rattle.std.proofs.lemmas.List.Sums.{fold-append}
 use Rattle.hub_model.specs.declared.entry.Entry.{Entry}
-use Rattle.hub_model.specs.declared.entry.Entry.TheVariants.{Write, Match}
-use Rattle.hub_model.specs.Direct.{clock_of, to_of, front_of}
+use Rattle.hub_model.specs.declared.entry.Entry.TheVariants.{Write, Match, Horizon}
+use Rattle.hub_model.specs.Direct.{clock_of, to_of, front_of, dropped_to, horizon_of}
 use Rattle.hub_model.specs.Legal.{MayFollow, IsLegalFrom, IsLegal}
 use Rattle.hub_model.specs.Setting.{Setting}
 use Rattle.hub_model.specs.State.{State, start, at_moment}
@@ -95,6 +95,20 @@ pub front-last : (g : Setting) (history : List Entry) → (state_of g history).f
 unfolding state_of
 front-last g history = front-from g start history ∙ last_or-zero (filter_map to_of history)
 
+-- ---- the horizon
+
+horizon-after : (g : Setting) (s : State) (e : Entry) (es : List Entry) → unwrap_or (last_or (Some (after g s e).horizon) (filter_map dropped_to es)) 0 ≡ unwrap_or (last_or (Some s.horizon) (filter_map dropped_to (e ∷ es))) 0
+horizon-after g s (Write moment change condition) es = wrote-keeps g (at_moment s moment) change condition (λ (t : State). unwrap_or (last_or (Some t.horizon) (filter_map dropped_to es)) 0 ≡ unwrap_or (last_or (Some s.horizon) (filter_map dropped_to es)) 0) refl refl
+horizon-after g s e es = refl
+
+horizon-from : (g : Setting) (s : State) (history : List Entry) → (after_all g s history).horizon ≡ unwrap_or (last_or (Some s.horizon) (filter_map dropped_to history)) 0
+horizon-from g s [] = refl
+horizon-from g s (e ∷ es) = horizon-from g (after g s e) es ∙ horizon-after g s e es
+
+pub horizon-last : (g : Setting) (history : List Entry) → (state_of g history).horizon ≡ horizon_of history
+unfolding state_of
+horizon-last g history = horizon-from g start history ∙ last_or-zero (filter_map dropped_to history)
+
 -- ---- what every legal history keeps
 
 -- the front is not above the number of commits
@@ -110,3 +124,33 @@ within-from g s (e ∷ es) h legal = within-from g (after g s e) es (within-afte
 pub front-within : (g : Setting) (history : List Entry) → IsLegal g history → (state_of g history).front ≤ length (state_of g history).journal
 unfolding IsLegal state_of
 front-within g history legal = within-from g start history (omega arith) legal
+
+-- the horizon is not above the front
+kept-after : (g : Setting) (s : State) (e : Entry) → s.horizon ≤ s.front → MayFollow g s e → (after g s e).horizon ≤ (after g s e).front
+kept-after g s (Write moment change condition) h may = wrote-keeps g (at_moment s moment) change condition (λ (t : State). t.horizon ≤ t.front) h h
+kept-after g s (Match moment to) h may = (let up = may.0.0 in omega (arith, h, up))
+kept-after g s (Horizon moment to) h may = may.0.1
+kept-after g s e h may = h
+
+kept-from : (g : Setting) (s : State) (history : List Entry) → s.horizon ≤ s.front → IsLegalFrom g s history → (after_all g s history).horizon ≤ (after_all g s history).front
+kept-from g s [] h legal = h
+kept-from g s (e ∷ es) h legal = kept-from g (after g s e) es (kept-after g s e h legal.0) legal.1
+
+pub horizon-within : (g : Setting) (history : List Entry) → IsLegal g history → (state_of g history).horizon ≤ (state_of g history).front
+unfolding IsLegal state_of
+horizon-within g history legal = kept-from g start history (omega arith) legal
+
+-- ---- the number of commits
+
+-- an entry adds one at most
+more-after : (g : Setting) (s : State) (e : Entry) → length (after g s e).journal ≤ length s.journal + 1
+more-after g s (Write moment change condition) = wrote-keeps g (at_moment s moment) change condition (λ (t : State). length t.journal ≤ length s.journal + 1) (let size = length-append s.journal (change ∷ []) in omega (arith, size)) (omega arith)
+more-after g s e = omega arith
+
+more-from : (g : Setting) (s : State) (history : List Entry) → length (after_all g s history).journal ≤ length s.journal + length history
+more-from g s [] = omega arith
+more-from g s (e ∷ es) = (let first = more-after g s e in let rest = more-from g (after g s e) es in omega (arith, first, rest))
+
+pub commits-few : (g : Setting) (history : List Entry) → length (state_of g history).journal ≤ length history
+unfolding state_of
+commits-few g history = (let few : length (state_of g history).journal ≤ length start.journal + length history = more-from g start history in omega (arith, few))

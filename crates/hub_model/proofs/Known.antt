@@ -27,8 +27,24 @@ not_newer : (o : Option (ℕ × Tree)) (d : ℕ × Tree) (t : ℕ) → IfSome o 
 not_newer None d t within is = absurd (let e = is in cc)
 not_newer (Some x) d t within is = let same : x.0 ≡ d.0 = cc in omega (arith, within, same)
 
+-- from the greater of two commits on is from both on
+both_since : (a b at t : ℕ) → (nat_le a t && is_since b at t) ≡ is_since (max a b) at t
+both_since a b at t = elim (cases_lt t a) [
+  | inl before ↦ (
+      and_left (nat_le a t) (is_since b at t) (lt-leb a t before)
+      ∙ sym (and_left (nat_le (max a b) t) (nat_le t at) (lt-leb (max a b) t (omega (arith, before)))))
+  | inr since ↦ elim (cases_lt t b) [
+    | inl early ↦ (
+        ap (λ (c : Bool). nat_le a t && c) (and_left (nat_le b t) (nat_le t at) (lt-leb b t early)) ∙ and-false (nat_le a t)
+        ∙ sym (and_left (nat_le (max a b) t) (nat_le t at) (lt-leb (max a b) t (omega (arith, early)))))
+    | inr late ↦ (
+        ap (λ (c : Bool). c && is_since b at t) (le-leb a t since)
+        ∙ ap (λ (c : Bool). c && nat_le t at) (le-leb b t late ∙ sym (le-leb (max a b) t (omega (arith, since, late)))))
+  ]
+]
+
 -- of a record with a document at a commit
-module _ (journal : List Change) (collection id : List ℕ) (at : ℕ) (d : ℕ × Tree) (found : document_at journal at collection id ≡ Some d) where
+module _ (journal : List Change) (collection id : List ℕ) (horizon at : ℕ) (d : ℕ × Tree) (found : document_at journal at collection id ≡ Some d) where
   finds : result_at (Record collection id) journal at ≡ present d.0 d.1
   finds = ap document_finding found
 
@@ -47,7 +63,7 @@ module _ (journal : List Change) (collection id : List ℕ) (at : ℕ) (d : ℕ 
   ]
 
   -- a commit finds the same exactly from the version on
-  same-since : (t : ℕ) → has_result_of (Record collection id) journal at t ≡ is_since d.0 at t
+  same-since : (t : ℕ) → (nat_le t at && same_finding (result_at (Record collection id) journal t) (result_at (Record collection id) journal at)) ≡ is_since d.0 at t
   same-since t = elim (cases_lt at t) [
     | inl past ↦ (
         let above : nat_le t at ≡ false = lt-leb t at past in
@@ -63,9 +79,13 @@ module _ (journal : List Change) (collection id : List ℕ) (at : ℕ) (d : ℕ 
     ]
   ]
 
-  pub known-record : (tags : Tags) → known_at (Record collection id) journal at tags ≡ known_since d.0 at tags
+  -- and is known from the horizon on
+  known-since : (t : ℕ) → has_result_of (Record collection id) journal horizon at t ≡ is_since (max horizon d.0) at t
+  known-since t = ap (λ (b : Bool). nat_le horizon t && b) (same-since t) ∙ both_since horizon d.0 at t
+
+  pub known-record : (tags : Tags) → known_at (Record collection id) journal horizon at tags ≡ known_since (max horizon d.0) at tags
   known-record Any = refl
-  known-record (Listed tags) = ap (λ (test : ℕ → Bool). reduce max (filter test tags)) (λ i t. same-since t i)
+  known-record (Listed tags) = ap (λ (test : ℕ → Bool). reduce max (filter test tags)) (λ i t. known-since t i)
 
 -- ---- the greatest of some numbers
 
@@ -127,41 +147,51 @@ none-there (x ∷ xs) is u c = cc
 
 -- ---- the commit that is told
 
-module _ (key : KeyShape) (journal : List Change) (at : ℕ) (tags : List ℕ) where
-  finds_same : (t : ℕ) → t ≤ at → result_at key journal t ≡ result_at key journal at → has_result_of key journal at t ≡ true
-  finds_same t within is = and_from (nat_le t at) (same_finding (result_at key journal t) (result_at key journal at)) (le-leb t at within) ((same_finding-Decides (result_at key journal t) (result_at key journal at)).1 is)
+module _ (key : KeyShape) (journal : List Change) (horizon at : ℕ) (tags : List ℕ) where
+  finds_same : (t : ℕ) → horizon ≤ t → t ≤ at → result_at key journal t ≡ result_at key journal at → has_result_of key journal horizon at t ≡ true
+  finds_same t kept within is =
+      and_from (nat_le horizon t) (nat_le t at && same_finding (result_at key journal t) (result_at key journal at)) (le-leb horizon t kept)
+      (and_from (nat_le t at) (same_finding (result_at key journal t) (result_at key journal at)) (le-leb t at within) ((same_finding-Decides (result_at key journal t) (result_at key journal at)).1 is))
 
-  greatest-told : (tag : ℕ) → known_at key journal at (Listed tags) ≡ Some tag → IsGreatestSame key journal at tags tag
+  -- what passes is kept, not above, and the same
+  passes : (t : ℕ) → has_result_of key journal horizon at t ≡ true → (horizon ≤ t) × (t ≤ at) × (result_at key journal t ≡ result_at key journal at)
+  passes t h =
+      let parts = and_parts (nat_le horizon t) (nat_le t at && same_finding (result_at key journal t) (result_at key journal at)) h in
+      let rest = and_parts (nat_le t at) (same_finding (result_at key journal t) (result_at key journal at)) parts.1 in
+      (leb-true horizon t parts.0, leb-true t at rest.0, (same_finding-Decides (result_at key journal t) (result_at key journal at)).0 rest.1)
+
+  greatest-told : (tag : ℕ) → known_at key journal horizon at (Listed tags) ≡ Some tag → IsGreatestSame key journal horizon at tags tag
   greatest-told tag told =
-      let top = reduce-tops (filter (has_result_of key journal at) tags) tag told in
-      let kept = filter-parts (has_result_of key journal at) tags tag top.0 in
-      let parts = and_parts (nat_le tag at) (same_finding (result_at key journal tag) (result_at key journal at)) kept.1 in
+      let top = reduce-tops (filter (has_result_of key journal horizon at) tags) tag told in
+      let among = filter-parts (has_result_of key journal horizon at) tags tag top.0 in
+      let parts = passes tag among.1 in
       record {
-        listed = kept.0;
-        within = leb-true tag at parts.0;
-        same = (same_finding-Decides (result_at key journal tag) (result_at key journal at)).0 parts.1;
-        greatest = λ t among within same. top.1 t (filter-from (has_result_of key journal at) tags t among (finds_same t within same));
+        listed = among.0;
+        kept = parts.0;
+        within = parts.1;
+        same = parts.2;
+        greatest = λ t listed kept within same. top.1 t (filter-from (has_result_of key journal horizon at) tags t listed (finds_same t kept within same));
       }
 
-  told-greatest : (tag : ℕ) → IsGreatestSame key journal at tags tag → known_at key journal at (Listed tags) ≡ Some tag
+  told-greatest : (tag : ℕ) → IsGreatestSame key journal horizon at tags tag → known_at key journal horizon at (Listed tags) ≡ Some tag
   told-greatest tag g =
-      tops-reduce (filter (has_result_of key journal at) tags) tag (
-        filter-from (has_result_of key journal at) tags tag g.listed (finds_same tag g.within g.same),
-        λ u among.
-            let kept = filter-parts (has_result_of key journal at) tags u among in
-            let parts = and_parts (nat_le u at) (same_finding (result_at key journal u) (result_at key journal at)) kept.1 in
-            g.greatest u kept.0 (leb-true u at parts.0) ((same_finding-Decides (result_at key journal u) (result_at key journal at)).0 parts.1),
+      tops-reduce (filter (has_result_of key journal horizon at) tags) tag (
+        filter-from (has_result_of key journal horizon at) tags tag g.listed (finds_same tag g.kept g.within g.same),
+        λ u passing.
+            let among = filter-parts (has_result_of key journal horizon at) tags u passing in
+            let parts = passes u among.1 in
+            g.greatest u among.0 parts.0 parts.1 parts.2,
       )
 
-  pub known-greatest : (tag : ℕ) → (known_at key journal at (Listed tags) ≡ Some tag) ↔ IsGreatestSame key journal at tags tag
+  pub known-greatest : (tag : ℕ) → (known_at key journal horizon at (Listed tags) ≡ Some tag) ↔ IsGreatestSame key journal horizon at tags tag
   known-greatest tag = (greatest-told tag, told-greatest tag)
 
-  pub none-known : (known_at key journal at (Listed tags) ≡ None) ↔ ((t : ℕ) → Contains tags t → t ≤ at → result_at key journal t ≢ result_at key journal at)
+  pub none-known : (known_at key journal horizon at (Listed tags) ≡ None) ↔ ((t : ℕ) → Contains tags t → horizon ≤ t → t ≤ at → result_at key journal t ≢ result_at key journal at)
   none-known = (
-    (λ told t among within same. none-there (filter (has_result_of key journal at) tags) told t (filter-from (has_result_of key journal at) tags t among (finds_same t within same))),
-    (λ none. by none (known_at key journal at (Listed tags)) refl),
+    (λ told t among kept within same. none-there (filter (has_result_of key journal horizon at) tags) told t (filter-from (has_result_of key journal horizon at) tags t among (finds_same t kept within same))),
+    (λ none. by none (known_at key journal horizon at (Listed tags)) refl),
   )
     where
-      by : ((t : ℕ) → Contains tags t → t ≤ at → result_at key journal t ≢ result_at key journal at) → (told : Option ℕ) → known_at key journal at (Listed tags) ≡ told → told ≡ None
+      by : ((t : ℕ) → Contains tags t → horizon ≤ t → t ≤ at → result_at key journal t ≢ result_at key journal at) → (told : Option ℕ) → known_at key journal horizon at (Listed tags) ≡ told → told ≡ None
       by none None is = refl
-      by none (Some tag) is = (let g = greatest-told tag is in absurd (none tag g.listed g.within g.same))
+      by none (Some tag) is = (let g = greatest-told tag is in absurd (none tag g.listed g.kept g.within g.same))

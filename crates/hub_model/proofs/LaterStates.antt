@@ -2,7 +2,7 @@
 use Rattle.std.proofs.Common.{◌≡◌, ℕ, ◌≤◌, List, [], ◌∷◌, ◌++◌, refl, sym, ap, ◌∙◌, subst, append_assoc, append-nil, arith}
 use Rattle.std.proofs.lemmas.List.Elements.{All-nil, All-cons, All-append, All-weaker}
 use Rattle.hub_model.specs.declared.entry.Entry.{Entry}
-use Rattle.hub_model.specs.declared.entry.Entry.TheVariants.{Write, Read, Match}
+use Rattle.hub_model.specs.declared.entry.Entry.TheVariants.{Write, Read, Match, Horizon}
 use Rattle.hub_model.specs.Desk.{IsPrefix}
 use Rattle.hub_model.specs.Later.{IsLater}
 use Rattle.hub_model.specs.Legal.{MayFollow, IsLegalFrom, IsLegal}
@@ -25,6 +25,7 @@ later_clock s moment late =
     record {
       clock = late;
       front = omega arith;
+      horizon = omega arith;
       commits = [];
       journal = sym (append-nil s.journal);
       issued = [];
@@ -41,9 +42,11 @@ joined xs ys zs more others first second = second ∙ ap (λ l. l ++ others) fir
 pub later_onward : (s t u : State) → IsLater s t → IsLater t u → IsLater s u
 later_onward s t u a b =
     let rises = a.front in
+    let dropped = a.horizon in
     record {
       clock = (let x = a.clock in let y = b.clock in omega (arith, x, y));
       front = (let y = b.front in omega (arith, rises, y));
+      horizon = (let y = b.horizon in omega (arith, dropped, y));
       commits = a.commits ++ b.commits;
       journal = joined s.journal t.journal u.journal a.commits b.commits a.journal b.journal;
       issued = a.issued ++ b.issued;
@@ -57,13 +60,15 @@ later_onward s t u a b =
 later_after : (g : Setting) (s : State) (e : Entry) → MayFollow g s e → IsLater s (after g s e)
 later_after g s (Write moment change condition) may =
     wrote-keeps g (at_moment s moment) change condition (λ (t : State). IsLater s t)
-    (record { clock = omega arith; front = omega arith; commits = change ∷ []; journal = refl; issued = []; copies = sym (append-nil s.copies); fresh = All-nil (IsFrom s) })
+    (record { clock = omega arith; front = omega arith; horizon = omega arith; commits = change ∷ []; journal = refl; issued = []; copies = sym (append-nil s.copies); fresh = All-nil (IsFrom s) })
     (later_clock s (at_moment s moment).clock (omega arith))
 later_after g s (Read moment key tags at) may =
     let r : IssuedCopy = record { key = key; at = at; clock = (at_moment s moment).clock; ttl = ttl_of g (at_moment s moment) key at } in
-    record { clock = omega arith; front = omega arith; commits = []; journal = sym (append-nil s.journal); issued = r ∷ []; copies = refl; fresh = All-cons (IsFrom s) r [] may.0.0 (All-nil (IsFrom s)) }
+    record { clock = omega arith; front = omega arith; horizon = omega arith; commits = []; journal = sym (append-nil s.journal); issued = r ∷ []; copies = refl; fresh = All-cons (IsFrom s) r [] may.0.0 (All-nil (IsFrom s)) }
 later_after g s (Match moment to) may =
-    record { clock = omega arith; front = (let up = may.0.0 in omega (arith, up)); commits = []; journal = sym (append-nil s.journal); issued = []; copies = sym (append-nil s.copies); fresh = All-nil (IsFrom s) }
+    record { clock = omega arith; front = (let up = may.0.0 in omega (arith, up)); horizon = omega arith; commits = []; journal = sym (append-nil s.journal); issued = []; copies = sym (append-nil s.copies); fresh = All-nil (IsFrom s) }
+later_after g s (Horizon moment to) may =
+    record { clock = omega arith; front = omega arith; horizon = (let up = may.0.0 in omega (arith, up)); commits = []; journal = sym (append-nil s.journal); issued = []; copies = sym (append-nil s.copies); fresh = All-nil (IsFrom s) }
 later_after g s e may = later_clock s (at_moment s (moment_of e)).clock (omega arith)
 
 later_from : (g : Setting) (s : State) (es : List Entry) → IsLegalFrom g s es → IsLater s (after_all g s es)
@@ -86,3 +91,7 @@ later_longer g history longer begins legal =
 -- the front never falls
 pub front-never_falls : (g : Setting) (history more : List Entry) → IsLegal g (history ++ more) → (state_of g history).front ≤ (state_of g (history ++ more)).front
 front-never_falls g history more legal = (later_longer g history (history ++ more) (more, refl) legal).front
+
+-- nor does the horizon
+pub horizon-never_falls : (g : Setting) (history more : List Entry) → IsLegal g (history ++ more) → (state_of g history).horizon ≤ (state_of g (history ++ more)).horizon
+horizon-never_falls g history more legal = (later_longer g history (history ++ more) (more, refl) legal).horizon

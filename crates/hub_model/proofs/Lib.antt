@@ -18,3 +18,4 @@ pub mod Results
 mod Rows
 pub mod Untils
 mod Unmatched
+mod WorkedDrops

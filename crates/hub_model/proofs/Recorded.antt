@@ -13,7 +13,7 @@ use Rattle.query_normal.specs.SameKey.{same_key-Decides}
 use Rattle.commit_book.specs.declared.change.Change.{Change}
 use Rattle.hub_model.specs.declared.entry.Condition.{Condition}
 use Rattle.hub_model.specs.declared.entry.Entry.{Entry}
-use Rattle.hub_model.specs.declared.entry.Entry.TheVariants.{Write, Read, Tick}
+use Rattle.hub_model.specs.declared.entry.Entry.TheVariants.{Write, Read, Tick, Horizon}
 use Rattle.hub_model.specs.declared.entry.Tags.{Tags}
 use Rattle.hub_model.specs.Copies.{IsActive, issues, live, some_copy, active_keys, is_active}
 use Rattle.hub_model.specs.Journal.{result_at, same_finding}
@@ -172,3 +172,9 @@ write-records_nothing g history moment change condition legal =
     ap record_of (state_of-push g history (Write moment change condition))
     ∙ wrote-keeps g (at_moment (state_of g history) moment) change condition (λ (t : State). record_of t ≡ record_of (at_moment (state_of g history) moment)) (record-longer (at_moment (state_of g history) moment) (change ∷ []) (front-within g history legal)) refl
     ∙ ap record_of (sym (state_of-push g history (Tick moment)))
+
+-- ---- drops
+
+-- the record does not look at the horizon
+pub drop-records_nothing : (g : Setting) (history : List Entry) (moment to : ℕ) → record_of (state_of g (history ++ Horizon moment to ∷ [])) ≡ record_of (state_of g (history ++ Tick moment ∷ []))
+drop-records_nothing g history moment to = ap record_of (state_of-push g history (Horizon moment to)) ∙ ap record_of (sym (state_of-push g history (Tick moment)))

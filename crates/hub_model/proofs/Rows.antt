@@ -39,18 +39,18 @@ use Rattle.hub_model.specs.Lifetime.{ttl_of}
 use Rattle.hub_model.specs.Outdated.{is_outdated, is_changed}
 
 -- every lifetime is 60 seconds
-abbrev sixty : Setting
+abbrev pub sixty : Setting
 sixty = record default_setting { ttl_low = 60; ttl_high = 60 }
 
-abbrev p1 : KeyShape
+abbrev pub p1 : KeyShape
 p1 = Record (codes "shop") (codes "p1")
 
 -- `{"a":n}`
-abbrev a_is : ℕ → Tree
+abbrev pub a_is : ℕ → Tree
 a_is n = object (member (codes "a") (number (pos n)) no_members)
 
 -- puts `{"a":n}` as p1 of the collection shop
-abbrev put_p1 : ℕ → Change
+abbrev pub put_p1 : ℕ → Change
 put_p1 n = record { collection = codes "shop"; id = codes "p1"; document = Some (a_is n) }
 
 -- ---- a copy of commit 1 until 160, and then commit 2, which is matched
@@ -128,10 +128,10 @@ read_again_at_160 = (refl, refl)
 abbrev put_elsewhere : ℕ → Change
 put_elsewhere n = record { collection = codes "other"; id = codes "p1"; document = Some (a_is n) }
 
-abbrev put_p2 : ℕ → Change
+abbrev pub put_p2 : ℕ → Change
 put_p2 n = record { collection = codes "shop"; id = codes "p2"; document = Some (a_is n) }
 
-abbrev delete_p1 : Change
+abbrev pub delete_p1 : Change
 delete_p1 = record { collection = codes "shop"; id = codes "p1"; document = None }
 
 abbrev undone : List Change
@@ -194,7 +194,7 @@ one_active = (refl, refl, refl, refl)
 -- ---- what a write asks of its record
 
 -- commits 1 and 4 put p1, and the others p2
-abbrev seven : List Entry
+abbrev pub seven : List Entry
 seven =
     Write 100 (put_p1 1) Always
     ∷ Write 100 (put_p2 2) Always
@@ -238,7 +238,7 @@ equal_documents = (refl, refl, refl, refl)
 abbrev told_at_7 : Tags → Replied
 told_at_7 tags = reply sixty seven (Read 100 p1 tags 7)
 
-abbrev answer_at_7 : Outcome → Replied
+abbrev pub answer_at_7 : Outcome → Replied
 answer_at_7 result = read (record { commit = 7; clock = 100; ttl = 60; result = result })
 
 -- commit 4 put what is there: the greatest listed commit from there to 7 is told, and else the whole
@@ -265,7 +265,7 @@ refused = (refl, refl, refl)
 
 -- ---- what a write takes: each put of p1 or p2 is 77 bytes, and its deletion 70
 
-abbrev few_bytes : ℕ → Setting
+abbrev pub few_bytes : ℕ → Setting
 few_bytes n = record sixty { capacity = n }
 
 capacities : (reply (few_bytes 154) (Write 100 (put_p1 1) Always ∷ []) (Write 100 (put_p2 2) Always) ≡ wrote (Done 2 Missing 100))
@@ -278,7 +278,7 @@ capacities = (refl, refl, refl, refl)
 -- ---- what a query finds, and its reader knows
 
 -- `a = 1` in the collection shop
-abbrev where_a_is_1 : Kind → KeyShape
+abbrev pub where_a_is_1 : Kind → KeyShape
 where_a_is_1 kind = Query kind (record { collection = codes "shop"; filter = compared (codes "a" ∷ []) Equal (number (pos 1)); order = []; skip = 0; take = 100 })
 
 -- p1 is put, p2 beside it, the same record elsewhere, and p1 again
@@ -400,7 +400,7 @@ query_undone = (refl, refl, refl, refl, refl)
 
 -- a state after n puts of p1, of which none is matched
 abbrev after_puts : ℕ → State
-after_puts n = record { clock = 100; journal = replicate n (put_p1 1); writes = []; front = 0; copies = []; estimates = []; purges = [] }
+after_puts n = record { clock = 100; journal = replicate n (put_p1 1); writes = []; front = 0; horizon = 0; copies = []; estimates = []; purges = [] }
 
 abbrev put_more : Entry
 put_more = Write 100 (put_p1 2) Always

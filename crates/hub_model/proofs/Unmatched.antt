@@ -5,7 +5,7 @@ use Rattle.std.proofs.lemmas.Bool.{and_parts, leb-true, leb-false, lt-ltb, le-lt
 use Rattle.commit_book.specs.declared.change.Change.{Change}
 use Rattle.hub_model.specs.declared.entry.Condition.{Condition}
 use Rattle.hub_model.specs.declared.entry.Entry.{Entry}
-use Rattle.hub_model.specs.declared.entry.Entry.TheVariants.{Write, Read, Match, Fetch, Purges, Tick}
+use Rattle.hub_model.specs.declared.entry.Entry.TheVariants.{Write, Read, Match, Fetch, Purges, Tick, Horizon}
 use Rattle.hub_model.specs.Helps.{helps_of, match_between}
 use Rattle.hub_model.specs.Legal.{most_unmatched, HasFewUnmatched, Admits, IsLegalFrom, IsLegal}
 use Rattle.hub_model.specs.Setting.{Setting}
@@ -83,6 +83,7 @@ admitted-follows g s (Match moment to) within few admits = ((admits, (let up = a
 admitted-follows g s (Fetch moment) within few admits = ((tt, few), tt)
 admitted-follows g s (Purges moment from) within few admits = ((tt, few), tt)
 admitted-follows g s (Tick moment) within few admits = ((tt, few), tt)
+admitted-follows g s (Horizon moment to) within few admits = ((admits, few), tt)
 
 -- ---- every legal history
 

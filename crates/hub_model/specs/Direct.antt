@@ -1,4 +1,4 @@
--- Internal. What a history has come to, said of its entries: the clock, the journal and the front of these alone, the copies with the lifetimes that the states before them give.
+-- Internal. What a history has come to, said of its entries: the clock, the journal, the front and the horizon of these alone, the copies with the lifetimes that the states before them give.
 use Rattle.std.specs.Prelude.{◌≡◌, ◌⊎◌, ◌≤◌, Contains, ℕ, max, List, [], ◌∷◌, ◌++◌, length, map, fold, Option, Some, None, unwrap_or}
 use Rattle.std.specs.List.{filter_map, last_or}
 use Rattle.q_doc.specs.Tree.{Tree}
@@ -10,7 +10,7 @@ use Rattle.hub_model.specs.declared.entry.Condition.TheVariants.{Always, Present
 use Rattle.hub_model.specs.declared.entry.Found.{Found}
 use Rattle.hub_model.specs.declared.entry.Found.TheVariants.{Missing, At}
 use Rattle.hub_model.specs.declared.entry.Entry.{Entry}
-use Rattle.hub_model.specs.declared.entry.Entry.TheVariants.{Write, Read, Match}
+use Rattle.hub_model.specs.declared.entry.Entry.TheVariants.{Write, Read, Match, Horizon}
 use Rattle.hub_model.specs.declared.entry.Tags.{Tags}
 use Rattle.hub_model.specs.declared.entry.Tags.TheVariants.{Any, Listed}
 use Rattle.hub_model.specs.Lifetime.{ttl_of}
@@ -43,22 +43,23 @@ pub record IsEqualAtOne (journal : List Change) (change : Change) (tags : List �
   pub now : document_at journal (length journal) change.collection change.id ≡ Some found
   pub then : document_at journal tag change.collection change.id ≡ Some found
 
--- A write is accepted behind some changes: its condition is true of what they leave, and with it they take no more than the capacity.
-pub record IsAccepted (g : Setting) (journal : List Change) (change : Change) (condition : Condition) : Type 0 where
+-- A write is accepted behind some changes, of which those up to a horizon are dropped where later ones replaced them: its condition is true of what they leave, and with it what is kept takes no more than the capacity.
+pub record IsAccepted (g : Setting) (journal : List Change) (horizon : ℕ) (change : Change) (condition : Condition) : Type 0 where
   pub met : IsMet condition (found_behind journal change) (length journal)
-  pub fits : kept_with journal change ≤ g.capacity
+  pub fits : kept_with journal horizon change ≤ g.capacity
 
--- the changes that are accepted behind some, and those together: an accepted write adds its change, and nothing else does
-abbrev pub IsJournalFrom : Setting → List Change → List Entry → List Change → Type 0
-IsJournalFrom g before [] journal = journal ≡ before
-IsJournalFrom g before (Write moment change condition ∷ es) journal =
-    (IsAccepted g before change condition × IsJournalFrom g (before ++ change ∷ []) es journal)
-    ⊎ ((IsAccepted g before change condition → ⊥) × IsJournalFrom g before es journal)
-IsJournalFrom g before (e ∷ es) journal = IsJournalFrom g before es journal
+-- the changes that are accepted behind some and a horizon, and those together: an accepted write adds its change, and nothing else does
+abbrev pub IsJournalFrom : Setting → List Change → ℕ → List Entry → List Change → Type 0
+IsJournalFrom g before horizon [] journal = journal ≡ before
+IsJournalFrom g before horizon (Write moment change condition ∷ es) journal =
+    (IsAccepted g before horizon change condition × IsJournalFrom g (before ++ change ∷ []) horizon es journal)
+    ⊎ ((IsAccepted g before horizon change condition → ⊥) × IsJournalFrom g before horizon es journal)
+IsJournalFrom g before horizon (Horizon moment to ∷ es) journal = IsJournalFrom g before to es journal
+IsJournalFrom g before horizon (e ∷ es) journal = IsJournalFrom g before horizon es journal
 
 -- the changes of the accepted writes, in order
 abbrev pub IsJournalOf : Setting → List Entry → List Change → Type 0
-IsJournalOf g history journal = IsJournalFrom g [] history journal
+IsJournalOf g history journal = IsJournalFrom g [] 0 history journal
 
 -- the commit that a match goes up to
 abbrev pub to_of : Entry → Option ℕ
@@ -68,6 +69,15 @@ to_of e = None
 -- the commit that the last match goes up to, and 0 without one
 abbrev pub front_of : List Entry → ℕ
 front_of history = unwrap_or (last_or None (filter_map to_of history)) 0
+
+-- the commit that a drop goes up to
+abbrev pub dropped_to : Entry → Option ℕ
+dropped_to (Horizon moment to) = Some to
+dropped_to e = None
+
+-- the commit that the last drop goes up to, and 0 without one
+abbrev pub horizon_of : List Entry → ℕ
+horizon_of history = unwrap_or (last_or None (filter_map dropped_to history)) 0
 
 -- the history has a read of the key at that commit, with that clock after it and that lifetime
 pub record IsRead (g : Setting) (history : List Entry) (key : KeyShape) (at clock ttl : ℕ) : Type 0 where

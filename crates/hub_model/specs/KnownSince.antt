@@ -16,9 +16,10 @@ abbrev pub known_since : ℕ → ℕ → Tags → Option ℕ
 known_since version at Any = Some at
 known_since version at (Listed tags) = reduce max (filter (is_since version at) tags)
 
--- The greatest of the listed commits that are not above another and find the same.
-pub record IsGreatestSame (key : KeyShape) (journal : List Change) (at : ℕ) (tags : List ℕ) (tag : ℕ) : Type 0 where
+-- The greatest of the listed commits that are not below the horizon and not above another, and find the same.
+pub record IsGreatestSame (key : KeyShape) (journal : List Change) (horizon at : ℕ) (tags : List ℕ) (tag : ℕ) : Type 0 where
   pub listed : Contains tags tag
+  pub kept : horizon ≤ tag
   pub within : tag ≤ at
   pub same : result_at key journal tag ≡ result_at key journal at
-  pub greatest : (t : ℕ) → Contains tags t → t ≤ at → result_at key journal t ≡ result_at key journal at → t ≤ tag
+  pub greatest : (t : ℕ) → Contains tags t → horizon ≤ t → t ≤ at → result_at key journal t ≡ result_at key journal at → t ≤ tag

@@ -7,6 +7,7 @@ use Rattle.hub_model.specs.State.{IssuedCopy, State}
 pub record IsLater (s t : State) : Type 0 where
   pub clock : s.clock ≤ t.clock
   pub front : s.front ≤ t.front
+  pub horizon : s.horizon ≤ t.horizon
   -- the changes that were accepted meanwhile
   pub commits : List Change
   pub journal : t.journal ≡ s.journal ++ commits

@@ -8,8 +8,9 @@ use Rattle.hub_model.specs.declared.entry.Answer.{Answer}
 use Rattle.commit_book.specs.declared.change.Change.{Change}
 use Rattle.commit_book.specs.Journal.{kept_with}
 use Rattle.hub_model.specs.declared.entry.Condition.{Condition}
+use Rattle.hub_model.specs.declared.entry.Dropped.{Dropped}
 use Rattle.hub_model.specs.declared.entry.Entry.{Entry}
-use Rattle.hub_model.specs.declared.entry.Entry.TheVariants.{Write, Read, Match, Fetch, Purges, Tick}
+use Rattle.hub_model.specs.declared.entry.Entry.TheVariants.{Write, Read, Match, Fetch, Purges, Tick, Horizon}
 use Rattle.hub_model.specs.declared.entry.Matched.{Matched}
 use Rattle.hub_model.specs.declared.entry.Outcome.{Outcome}
 use Rattle.hub_model.specs.declared.entry.Outcome.TheVariants.{Whole, Same, Absent}
@@ -24,7 +25,7 @@ use Rattle.hub_model.specs.Lifetime.{ttl_of}
 use Rattle.hub_model.specs.Record.{page_of}
 use Rattle.hub_model.specs.Setting.{Setting}
 use Rattle.hub_model.specs.State.{State, at_moment}
-use Rattle.hub_model.specs.Step.{found_now, is_met, has_matched, state_of}
+use Rattle.hub_model.specs.Step.{found_now, is_met, has_dropped, has_matched, state_of}
 use Rattle.result_kinds.specs.Results.{text_of_result}
 
 -- What the hub replies to a caller who asks for the purges from a number on.
@@ -49,12 +50,13 @@ pub data Replied : Type 0 where
   fetched : Page → Replied
   purged : PurgesTold → Replied
   counted : Stats → Replied
+  dropped : Dropped → Replied
 
 -- the reply to a write, in a state whose clock is that of the write
 abbrev pub written : Setting → Change → Condition → State → Written
 written g change condition s =
     if is_met condition (found_now s change) (length s.journal)
-    then (if nat_le (kept_with s.journal change) g.capacity then Done (length s.journal + 1) (found_now s change) s.clock else Full (kept_with s.journal change) s.clock)
+    then (if nat_le (kept_with s.journal s.horizon change) g.capacity then Done (length s.journal + 1) (found_now s change) s.clock else Full (kept_with s.journal s.horizon change) s.clock)
     else Precondition (found_now s change) s.clock
 
 -- the outcome of a read that finds this, and that the caller may know as the result of a commit: nothing is never told as known
@@ -71,12 +73,16 @@ answered g key tags at s = record {
   commit = at;
   clock = s.clock;
   ttl = ttl_of g s key at;
-  result = outcome_of (result_at key s.journal at) (known_at key s.journal at tags);
+  result = outcome_of (result_at key s.journal at) (known_at key s.journal s.horizon at tags);
 }
 
 -- the front and the clock of a state
 abbrev pub matched_in : State → Matched
 matched_in s = record { front = s.front; clock = s.clock }
+
+-- the horizon and the clock of a state
+abbrev pub dropped_in : State → Dropped
+dropped_in s = record { horizon = s.horizon; clock = s.clock }
 
 -- how many purges one reply tells at most
 abbrev pub most_purges : ℕ
@@ -98,6 +104,7 @@ reply_in g s (Match moment to) = matched (matched_in (has_matched g to (at_momen
 reply_in g s (Fetch moment) = fetched (page_of g (at_moment s moment))
 reply_in g s (Purges moment from) = purged (purges_from from (at_moment s moment))
 reply_in g s (Tick moment) = counted (stats_of (at_moment s moment))
+reply_in g s (Horizon moment to) = dropped (dropped_in (has_dropped to (at_moment s moment)))
 
 -- the reply to an entry after a history
 unfoldable pub reply : Setting → List Entry → Entry → Replied

@@ -33,6 +33,8 @@ pub record State : Type 0 where
   pub writes : List WriteClock
   -- the last commit that was matched
   pub front : ℕ
+  -- the commit up to which changes that a later one of their record replaced are dropped; the journal has them still
+  pub horizon : ℕ
   -- the copy that each read issued, the newest last; one with a lifetime of 0 may not be kept at all
   pub copies : List IssuedCopy
   -- the estimates that were made of the lifetimes of keys, the newest first
@@ -42,7 +44,7 @@ pub record State : Type 0 where
 
 -- the state of no entry
 abbrev pub start : State
-start = record { clock = 0; journal = []; writes = []; front = 0; copies = []; estimates = []; purges = [] }
+start = record { clock = 0; journal = []; writes = []; front = 0; horizon = 0; copies = []; estimates = []; purges = [] }
 
 -- each entry first moves the clock
 abbrev pub at_moment : State → ℕ → State

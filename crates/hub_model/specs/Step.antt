@@ -7,7 +7,7 @@ use Rattle.commit_book.specs.declared.change.Change.{Change}
 use Rattle.hub_model.specs.declared.entry.Condition.{Condition}
 use Rattle.hub_model.specs.declared.entry.Condition.TheVariants.{Always, Present, Absent, Unchanged}
 use Rattle.hub_model.specs.declared.entry.Entry.{Entry}
-use Rattle.hub_model.specs.declared.entry.Entry.TheVariants.{Write, Read, Match, Fetch, Purges, Tick}
+use Rattle.hub_model.specs.declared.entry.Entry.TheVariants.{Write, Read, Match, Fetch, Purges, Tick, Horizon}
 use Rattle.hub_model.specs.declared.entry.Found.{Found}
 use Rattle.hub_model.specs.declared.entry.Found.TheVariants.{Missing, At}
 use Rattle.hub_model.specs.declared.entry.Tags.TheVariants.{Any, Listed}
@@ -38,9 +38,9 @@ is_met (Unchanged tags) Missing commits = false
 is_met (Unchanged Any) (At version) commits = true
 is_met (Unchanged (Listed tags)) (At version) commits = list_any (λ t. nat_le version t && nat_le t commits) tags
 
--- whether a write is accepted: its condition is met, and it fits into the capacity
+-- whether a write is accepted: its condition is met, and it fits into the capacity beside what is kept
 abbrev pub is_accepted : Setting → State → Change → Condition → Bool
-is_accepted g s change condition = is_met condition (found_now s change) (length s.journal) && nat_le (kept_with s.journal change) g.capacity
+is_accepted g s change condition = is_met condition (found_now s change) (length s.journal) && nat_le (kept_with s.journal s.horizon change) g.capacity
 
 -- each in a state whose clock is that of the entry
 
@@ -70,6 +70,10 @@ has_matched g to s = record s {
   estimates = map (λ key. (key, estimate_after g s key)) (purged_keys s to) ++ s.estimates;
 }
 
+-- a drop moves the horizon, and nothing else
+abbrev pub has_dropped : ℕ → State → State
+has_dropped to s = record s { horizon = to }
+
 -- the moment of an entry
 abbrev pub moment_of : Entry → ℕ
 moment_of (Write moment change condition) = moment
@@ -78,12 +82,14 @@ moment_of (Match moment to) = moment
 moment_of (Fetch moment) = moment
 moment_of (Purges moment from) = moment
 moment_of (Tick moment) = moment
+moment_of (Horizon moment to) = moment
 
--- what an entry makes of a state: each moves the clock, and a write, a read and a match do more
+-- what an entry makes of a state: each moves the clock, and a write, a read, a match and a drop do more
 abbrev pub after : Setting → State → Entry → State
 after g s (Write moment change condition) = wrote g change condition (at_moment s moment)
 after g s (Read moment key tags at) = has_read g key at (at_moment s moment)
 after g s (Match moment to) = has_matched g to (at_moment s moment)
+after g s (Horizon moment to) = has_dropped to (at_moment s moment)
 after g s e = at_moment s (moment_of e)
 
 -- what entries make of a state, one after another

@@ -62,6 +62,11 @@ pub enum Entry {
     Tick {
         moment: Moment,
     },
+    /// The changes up to a commit were dropped, but the last of each record that has a document there.
+    Horizon {
+        moment: Moment,
+        to: Commit,
+    },
 }
 
 /// What a record has before a write.
@@ -160,5 +165,14 @@ pub struct Stats {
     /// The number of commits.
     pub commits: Commit,
     /// The clock after the tick.
+    pub clock: Moment,
+}
+
+/// The reply to a drop of old changes.
+#[derive(Clone, Copy, Debug, PartialEq, Eq)]
+pub struct Dropped {
+    /// The commit from which on results are known, and below which none is.
+    pub horizon: Commit,
+    /// The clock after the drop.
     pub clock: Moment,
 }

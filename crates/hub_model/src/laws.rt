@@ -15,12 +15,12 @@ ghost use Rattle.commit_book.specs.declared.change.Change.{Change as AChange};
 ghost use Rattle.hub_model.specs.declared.entry.Condition.{Condition as ACondition};
 ghost use Rattle.hub_model.specs.declared.entry.Condition.TheVariants.{Unchanged};
 ghost use Rattle.hub_model.specs.declared.entry.Entry.{Entry as AnEntry};
-ghost use Rattle.hub_model.specs.declared.entry.Entry.TheVariants.{Write, Read, Tick};
+ghost use Rattle.hub_model.specs.declared.entry.Entry.TheVariants.{Write, Read, Tick, Horizon};
 ghost use Rattle.hub_model.specs.declared.entry.Tags.{Tags as SomeTags};
 ghost use Rattle.hub_model.specs.declared.entry.Tags.TheVariants.{Listed};
 ghost use Rattle.hub_model.specs.Copies.{IsActive, live, active_keys, is_active};
 ghost use Rattle.hub_model.specs.Desk.{IsPrefix};
-ghost use Rattle.hub_model.specs.Direct.{clock_of, front_of, found_behind, IsMet, IsAccepted, IsEqualAtOne, IsJournalOf, IsRead};
+ghost use Rattle.hub_model.specs.Direct.{clock_of, front_of, horizon_of, found_behind, IsMet, IsAccepted, IsEqualAtOne, IsJournalOf, IsRead};
 ghost use Rattle.commit_book.specs.Documents.{docs};
 ghost use Rattle.commit_book.specs.Journal.{is_of, document_at};
 ghost use Rattle.result_kinds.specs.Same.{same_result};
@@ -53,7 +53,7 @@ pub fn outdated_is_tested()
 
 /// The test of what a write asks is true exactly where it is accepted.
 pub fn acceptance_is_tested()
-    ensures { (g : Setting) (s : State) (change : AChange) (condition : ACondition) → IsTrue (is_accepted g s change condition) ↔ IsAccepted g s.journal change condition }
+    ensures { (g : Setting) (s : State) (change : AChange) (condition : ACondition) → IsTrue (is_accepted g s change condition) ↔ IsAccepted g s.journal s.horizon change condition }
 {}
 
 /// What is listed is unchanged exactly where there is a document, and a listed commit had it in the
@@ -62,16 +62,16 @@ pub fn listed_results_are_unchanged()
     ensures { (journal : List AChange) (change : AChange) (tags : List ℕ) → IsMet (Unchanged (Listed tags)) (found_behind journal change) (length journal) ↔ IsEqualAtOne journal change tags }
 {}
 
-/// A read whose caller lists commits is told the greatest of those that are not above its own and find
-/// the same, and no commit exactly where none of them does.
+/// A read whose caller lists commits is told the greatest of those from the horizon on that are not above
+/// its own and find the same, and no commit exactly where none of them does.
 pub fn the_greatest_same_result_is_told()
-    ensures told { (key : KeyShape) (journal : List AChange) (at : ℕ) (tags : List ℕ) (tag : ℕ) → (known_at key journal at (Listed tags) ≡ Some tag) ↔ IsGreatestSame key journal at tags tag }
-    ensures none { (key : KeyShape) (journal : List AChange) (at : ℕ) (tags : List ℕ) → (known_at key journal at (Listed tags) ≡ None) ↔ ((t : ℕ) → Contains tags t → t ≤ at → result_at key journal t ≢ result_at key journal at) }
+    ensures told { (key : KeyShape) (journal : List AChange) (horizon at : ℕ) (tags : List ℕ) (tag : ℕ) → (known_at key journal horizon at (Listed tags) ≡ Some tag) ↔ IsGreatestSame key journal horizon at tags tag }
+    ensures none { (key : KeyShape) (journal : List AChange) (horizon at : ℕ) (tags : List ℕ) → (known_at key journal horizon at (Listed tags) ≡ None) ↔ ((t : ℕ) → Contains tags t → horizon ≤ t → t ≤ at → result_at key journal t ≢ result_at key journal at) }
 {}
 
-/// A caller knows a record's document exactly by the commits from its version on.
+/// A caller knows a record's document exactly by the commits from its version and the horizon on.
 pub fn records_are_known_since_their_version()
-    ensures { (journal : List AChange) (collection id : List ℕ) (at : ℕ) (found : ℕ × Tree) (tags : SomeTags) → document_at journal at collection id ≡ Some found → known_at (KeyShape.Record collection id) journal at tags ≡ known_since found.0 at tags }
+    ensures { (journal : List AChange) (collection id : List ℕ) (horizon at : ℕ) (found : ℕ × Tree) (tags : SomeTags) → document_at journal at collection id ≡ Some found → known_at (KeyShape.Record collection id) journal horizon at tags ≡ known_since (max horizon found.0) at tags }
 {}
 
 /// A key is among the active keys, each of which is listed once, exactly where it is active.
@@ -113,8 +113,8 @@ pub fn clock_is_greatest()
     ensures { (g : Setting) (history : List AnEntry) → (state_of g history).clock ≡ clock_of history }
 {}
 
-/// The journal is the changes of the accepted writes, each judged by those before it, and no other
-/// list is.
+/// The journal is the changes of the accepted writes, each judged by those before it and by the horizon
+/// there, and no other list is. No drop takes a change out of it.
 pub fn journal_is_of_writes()
     ensures { (g : Setting) (history : List AnEntry) (journal : List AChange) → IsJournalOf g history journal ↔ (journal ≡ (state_of g history).journal) }
 {}
@@ -122,6 +122,11 @@ pub fn journal_is_of_writes()
 /// The front is that of the last match.
 pub fn front_is_last()
     ensures { (g : Setting) (history : List AnEntry) → (state_of g history).front ≡ front_of history }
+{}
+
+/// The horizon is that of the last drop.
+pub fn horizon_is_last()
+    ensures { (g : Setting) (history : List AnEntry) → (state_of g history).horizon ≡ horizon_of history }
 {}
 
 /// The copies are the reads, each with the clock after it and its lifetime.
@@ -190,9 +195,19 @@ pub fn later_states_are_ordered()
     ensures onward { (s t u : State) → IsLater s t → IsLater t u → IsLater s u }
 {}
 
+/// There are no more commits than entries, since an entry adds one at most.
+pub fn commits_are_of_entries()
+    ensures { (g : Setting) (history : List AnEntry) → length (state_of g history).journal ≤ length history }
+{}
+
 /// The front is not above the number of commits.
 pub fn front_is_within()
     ensures { (g : Setting) (history : List AnEntry) → IsLegal g history → (state_of g history).front ≤ length (state_of g history).journal }
+{}
+
+/// The horizon is not above the front: what a page or a match looks at is kept.
+pub fn horizon_is_within()
+    ensures { (g : Setting) (history : List AnEntry) → IsLegal g history → (state_of g history).horizon ≤ (state_of g history).front }
 {}
 
 /// No more than so many commits come after the front.
@@ -219,6 +234,11 @@ pub fn front_never_falls()
     ensures { (g : Setting) (history more : List AnEntry) → IsLegal g (history ++ more) → (state_of g history).front ≤ (state_of g (history ++ more)).front }
 {}
 
+/// The horizon never falls.
+pub fn horizon_never_falls()
+    ensures { (g : Setting) (history more : List AnEntry) → IsLegal g (history ++ more) → (state_of g history).horizon ≤ (state_of g (history ++ more)).horizon }
+{}
+
 /// A read adds nothing to the outdated copies.
 pub fn read_outdates_nothing()
     ensures { (g : Setting) (history : List AnEntry) (moment : ℕ) (key : KeyShape) (tags : SomeTags) (at : ℕ) → IsLegal g (history ++ Read moment key tags at ∷ []) → outdated_copies (state_of g (history ++ Read moment key tags at ∷ [])) ≡ outdated_copies (state_of g history) }
@@ -227,6 +247,11 @@ pub fn read_outdates_nothing()
 /// A write changes the record by its clock alone, as a tick at its moment does.
 pub fn write_records_nothing()
     ensures { (g : Setting) (history : List AnEntry) (moment : ℕ) (change : AChange) (condition : ACondition) → IsLegal g history → record_of (state_of g (history ++ Write moment change condition ∷ [])) ≡ record_of (state_of g (history ++ Tick moment ∷ [])) }
+{}
+
+/// A drop of old changes alters the record by its clock alone, as a tick at its moment does.
+pub fn drop_records_nothing()
+    ensures { (g : Setting) (history : List AnEntry) (moment to : ℕ) → record_of (state_of g (history ++ Horizon moment to ∷ [])) ≡ record_of (state_of g (history ++ Tick moment ∷ [])) }
 {}
 
 /// A copy that a match outdates is newly outdated by no later match: a key is purged once for the same

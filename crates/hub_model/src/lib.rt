@@ -10,7 +10,7 @@ mod tags;
 pub use commit_book::Change;
 pub use commits::Commits;
 pub use entry::{
-    Answer, Condition, Entry, Found, Matched, Outcome, PurgeReply, Stats, Tags, Written,
+    Answer, Condition, Dropped, Entry, Found, Matched, Outcome, PurgeReply, Stats, Tags, Written,
 };
 
 #[cfg(test)]

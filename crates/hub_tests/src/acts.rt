@@ -1,4 +1,6 @@
-//! What the tests of queries do to a hub: each function does one thing. Keys are written as texts.
+//! What the tests of queries and drops do to a hub: each function does one thing. Keys are written as
+//! texts.
+ghost use Rattle.std.specs.Prelude.{◌+◌, ◌^◌, ◌<◌, OnOk};
 
 use hub_core::{Config, Hub};
 use hub_model::{Change, Commits, Condition, Outcome, Tags};
@@ -30,6 +32,16 @@ fn document(alloc: Global, text: &[u8]) -> Result<Option<Doc>, Fail> {
     }
 }
 
+/// That there are so few commits that there is a number for the next. No test makes as many as that.
+pub fn has_few(hub: &Hub) -> Result<(), Memory>
+    ensures { OnOk result (hub.now.commits + 1 < 2 ^ 64) }
+{
+    if hub.commits() > 9_999 {
+        return Err(Memory);
+    }
+    Ok(())
+}
+
 /// Changes a record of the collection shop; an empty text is a deletion.
 pub fn write(alloc: Global, hub: &mut Hub, id: &[u8], text: &[u8]) -> Result<(), Fail> {
     let change = Change {
@@ -37,6 +49,7 @@ pub fn write(alloc: Global, hub: &mut Hub, id: &[u8], text: &[u8]) -> Result<(),
         id: Name::read(alloc, id)?,
         document: document(alloc, text)?,
     };
+    has_few(hub)?;
     hub.write(Moment::of(100), &change, &Condition::Always)?;
     Ok(())
 }

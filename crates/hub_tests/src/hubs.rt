@@ -4,6 +4,7 @@ ghost use Rattle.std.specs.Prelude.{◌≡◌, IfOk};
 ghost use Rattle.hub_model.specs.Setting.{default_setting};
 ghost use Rattle.hub_core.specs.PageRoom.{IsRoomFor};
 
+use crate::acts::has_few;
 use flat_snapshot::{set_bit, write_head};
 use hub_core::{Config, Hub, PageRoom};
 use hub_model::{Change, Commits, Condition, Found, Outcome, Tags, Written};
@@ -124,6 +125,7 @@ fn is_right(alloc: Global, hub: &mut Hub, room: &mut PageRoom, step: HubCall) ->
     match step {
         HubCall::Put(moment, text, commit, found) => {
             let change = change_to(alloc, text)?;
+            has_few(hub)?;
             let written = hub.write(Moment::of(moment), &change, &Condition::Always)?;
             Ok(match written {
                 Written::Done {
@@ -252,6 +254,7 @@ fn write(
         document,
     };
     let condition = condition(alloc, asks)?;
+    has_few(hub)?;
     Ok(match hub.write(Moment::of(100), &change, &condition)? {
         Written::Done { commit, before, .. } => WriteReply::Done(commit, before),
         Written::Precondition { found, .. } => WriteReply::Precondition(found),
@@ -350,6 +353,7 @@ fn writes_are_judged_by_what_they_find_and_take(rt: HostRuntime) -> Result<(), F
 fn write_and_read(hub: &mut Hub, change: &Change, key: &Key) -> Result<(), Fail>
     ensures { hub.new.setting ≡ hub.old.setting }
 {
+    has_few(hub)?;
     hub.write(Moment::of(1), change, &Condition::Always)?;
     hub.read(Moment::of(1), key, &Tags::Any)?;
     Ok(())
@@ -370,6 +374,7 @@ fn match_all(hub: &mut Hub) -> Result<(), Fail>
 fn write_and_match(hub: &mut Hub, change: &Change) -> Result<(), Fail>
     ensures { hub.new.setting ≡ hub.old.setting }
 {
+    has_few(hub)?;
     hub.write(Moment::of(1), change, &Condition::Always)?;
     match_all(hub)
 }

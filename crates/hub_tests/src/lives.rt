@@ -1,5 +1,6 @@
 //! Lifetimes of replies, and purges: worked histories, whose answers come from the definitions.
 
+use crate::acts::has_few;
 use hub_core::{Config, Hub};
 use hub_model::{Change, Commits, Condition, Tags};
 use q_base::{Moment, Name};
@@ -23,6 +24,7 @@ fn put(alloc: Global, hub: &mut Hub, second: u64, id: &[u8], text: &[u8]) -> Res
         id: Name::read(alloc, id)?,
         document: Some(Doc::read(alloc, text)?),
     };
+    has_few(hub)?;
     hub.write(Moment::of(second), &change, &Condition::Always)?;
     Ok(())
 }

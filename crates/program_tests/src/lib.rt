@@ -16,6 +16,8 @@ mod faults;
 #[cfg(test)]
 mod helped;
 #[cfg(test)]
+mod horizon;
+#[cfg(test)]
 mod limits;
 #[cfg(test)]
 mod purges;

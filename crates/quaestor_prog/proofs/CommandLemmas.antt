@@ -33,12 +33,12 @@ five a b c d e f pb pc pd pe pf =
     pf ∙ ap (λ x. with_rule x (option_rule (codes "grace"))) (pe ∙ ap (λ x. with_rule x (option_rule (codes "least-rate")))
     (pd ∙ ap (λ x. with_rule x (option_rule (codes "reply-time"))) (pc ∙ ap (λ x. with_rule x (option_rule (codes "head-time"))) pb)))
 
-pub serve_is : (a b c d e f g h i : App) → a ≡ versioned (codes "serve") → b ≡ with_rule a (word_rule (codes "ADDR")) → c ≡ with_setting_rules b → d ≡ with_rule c (option_rule (codes "places")) → e ≡ with_rule d (option_rule (codes "workers"))
-    → f ≡ with_rule e (option_rule (codes "matchers")) → g ≡ with_rule f (option_rule (codes "connections")) → h ≡ with_limit_rules g → i ≡ with_rule h (option_rule (codes "allow-origin")) → i ≡ serve_app
-serve_is a b c d e f g h i pa pb pc pd pe pf pg ph pi =
-    pi ∙ ap (λ x. with_rule x (option_rule (codes "allow-origin"))) (ph ∙ ap with_limit_rules (pg ∙ ap (λ x. with_rule x (option_rule (codes "connections"))) (pf ∙ ap (λ x. with_rule x (option_rule (codes "matchers")))
+pub serve_is : (a b c d e f k g h i : App) → a ≡ versioned (codes "serve") → b ≡ with_rule a (word_rule (codes "ADDR")) → c ≡ with_setting_rules b → d ≡ with_rule c (option_rule (codes "places")) → e ≡ with_rule d (option_rule (codes "workers"))
+    → f ≡ with_rule e (option_rule (codes "matchers")) → k ≡ with_rule f (option_rule (codes "keep")) → g ≡ with_rule k (option_rule (codes "connections")) → h ≡ with_limit_rules g → i ≡ with_rule h (option_rule (codes "allow-origin")) → i ≡ serve_app
+serve_is a b c d e f k g h i pa pb pc pd pe pf pk pg ph pi =
+    pi ∙ ap (λ x. with_rule x (option_rule (codes "allow-origin"))) (ph ∙ ap with_limit_rules (pg ∙ ap (λ x. with_rule x (option_rule (codes "connections"))) (pk ∙ ap (λ x. with_rule x (option_rule (codes "keep"))) (pf ∙ ap (λ x. with_rule x (option_rule (codes "matchers")))
     (pe ∙ ap (λ x. with_rule x (option_rule (codes "workers"))) (pd ∙ ap (λ x. with_rule x (option_rule (codes "places")))
-    (pc ∙ ap with_setting_rules (pb ∙ ap (λ x. with_rule x (word_rule (codes "ADDR"))) pa)))))))
+    (pc ∙ ap with_setting_rules (pb ∙ ap (λ x. with_rule x (word_rule (codes "ADDR"))) pa))))))))
 
 pub read_is : (a b c d : App) → a ≡ versioned (codes "read") → b ≡ with_rule a (word_rule (codes "ADDR")) → c ≡ with_rule b (word_rule (codes "LEVEL")) → d ≡ with_rule c (word_rule (codes "KEY")) → d ≡ read_app
 read_is a b c d pa pb pc pd =

@@ -9,10 +9,12 @@ use Rattle.client_core.specs.declared.level.Level.TheVariants as level
 use Rattle.query_lang.proofs.KeyReading.{texts_tell}
 use Rattle.hub_core.specs.Config.{configured}
 use Rattle.hub_core.specs.declared.config.ConfigRefusal.{ConfigRefusal}
+use Rattle.hub_desk.specs.declared.trim.Trim.{Trim}
+use Rattle.hub_desk.specs.declared.trim.Trim.TheVariants.{Below, Full}
 use Rattle.hub_model.specs.Setting.{Setting, IsWithinLimits}
 use Rattle.q_outside.specs.declared.limits.Limits.{Limits}
-use Rattle.quaestor_prog.specs.declared.ranges.TheConstants.{MOST_PLACES, DEFAULT_PLACES, MOST_WORKERS, DEFAULT_WORKERS, MOST_MATCHERS, DEFAULT_MATCHERS, MOST_CONNECTIONS, MOST_SECONDS, DEFAULT_IDLE, DEFAULT_HEAD_TIME, DEFAULT_REPLY_TIME, MOST_RATE, DEFAULT_RATE, DEFAULT_GRACE, MOST_SEED, MOST_STEPS}
-use Rattle.quaestor_prog.specs.Words.{IsCount, IsNumber, IsNumberIn, IsClock, IsConfiguration, IsPipe, IsServe, IsRead, IsWorld, AreLimits, AreOrigins, AreServeOptions, AreReadOptions, ReadAsk, ServeAsk, are_origins, level_word}
+use Rattle.quaestor_prog.specs.declared.ranges.TheConstants.{MOST_PLACES, DEFAULT_PLACES, MOST_WORKERS, DEFAULT_WORKERS, MOST_MATCHERS, DEFAULT_MATCHERS, MOST_KEPT, MOST_CONNECTIONS, MOST_SECONDS, DEFAULT_IDLE, DEFAULT_HEAD_TIME, DEFAULT_REPLY_TIME, MOST_RATE, DEFAULT_RATE, DEFAULT_GRACE, MOST_SEED, MOST_STEPS}
+use Rattle.quaestor_prog.specs.Words.{IsCount, IsNumber, IsNumberIn, IsClock, IsConfiguration, IsPipe, IsServe, IsRead, IsTrim, IsWorld, AreLimits, AreOrigins, AreServeOptions, AreReadOptions, ReadAsk, ServeAsk, are_origins, level_word}
 
 -- the first word, as a text
 pub first_is : {A : Type 0} (f : A → Text) (xs : List A) (x : A) (t : Text) → slice_get xs 0 ≡ Some x → f x ≡ t → slice_get (map f xs) 0 ≡ Some t
@@ -107,8 +109,22 @@ one_count : (given : Option Text) (m n : ℕ) → IsCount given m → IsCount gi
 one_count None m n p q = omega (arith, p, q)
 one_count (Some text) m n p q = decimal_injective m n (small _ MOST_CONNECTIONS (omega arith) p.2) (small _ MOST_CONNECTIONS (omega arith) q.2) (sym p.0 ∙ q.0)
 
-same_ask : (a b : ServeAsk) → a.address ≡ b.address → a.setting ≡ b.setting → a.places ≡ b.places → a.workers ≡ b.workers → a.matchers ≡ b.matchers → a.connections ≡ b.connections → a.limits ≡ b.limits → a ≡ b
-same_ask a b p q o r s t u = λ i. record { address = p i; setting = q i; places = o i; workers = r i; matchers = s i; connections = t i; limits = u i }
+-- how far old changes are dropped by a text, and where none is given
+pub trim_some : (given : Option Text) (t : Text) (n : ℕ) → given ≡ Some t → (t ≡ decimal n) × (0 ≤ n) × (n ≤ MOST_KEPT) → IsTrim given (Below n)
+trim_some given t n e p = subst (λ o. IsTrim o (Below n)) (sym e) (n, refl, p.0, p.2)
+
+pub trim_none : (given : Option Text) → given ≡ None → IsTrim given Full
+trim_none given e = subst (λ o. IsTrim o Full) (sym e) refl
+
+pub trim_is : (given : Option Text) (t : Text) (trim : Trim) → given ≡ Some t → IsTrim given trim → (n : ℕ) × (trim ≡ Below n) × (t ≡ decimal n) × (n ≤ MOST_KEPT)
+trim_is given t trim e p = subst (λ o. IsTrim o trim) e p
+
+one_trim : (given : Option Text) (a b : Trim) → IsTrim given a → IsTrim given b → a ≡ b
+one_trim None a b p q = p ∙ sym q
+one_trim (Some text) a b p q = p.1 ∙ (ap Below (decimal_injective p.0 q.0 (small _ MOST_KEPT (omega arith) p.3) (small _ MOST_KEPT (omega arith) q.3) (sym p.2 ∙ q.2)) ∙ sym q.1)
+
+same_ask : (a b : ServeAsk) → a.address ≡ b.address → a.setting ≡ b.setting → a.places ≡ b.places → a.workers ≡ b.workers → a.matchers ≡ b.matchers → a.trim ≡ b.trim → a.connections ≡ b.connections → a.limits ≡ b.limits → a ≡ b
+same_ask a b p q o r s d t u = λ i. record { address = p i; setting = q i; places = o i; workers = r i; matchers = s i; trim = d i; connections = t i; limits = u i }
 
 same_limits : (a b : Limits) → a.idle ≡ b.idle → a.head_time ≡ b.head_time → a.reply_time ≡ b.reply_time → a.least_rate ≡ b.least_rate → a.grace ≡ b.grace → a ≡ b
 same_limits a b p q r s t = λ i. record { idle = p i; head_time = q i; reply_time = r i; least_rate = s i; grace = t i }
@@ -177,6 +193,7 @@ one_options found a b p q = same_ask a b
     (one_number_in found (codes "places") 1 MOST_PLACES DEFAULT_PLACES a.places b.places (omega arith) p.places q.places)
     (one_number_in found (codes "workers") 1 MOST_WORKERS DEFAULT_WORKERS a.workers b.workers (omega arith) p.workers q.workers)
     (one_number_in found (codes "matchers") 1 MOST_MATCHERS DEFAULT_MATCHERS a.matchers b.matchers (omega arith) p.matchers q.matchers)
+    (one_trim (first_of (codes "keep") found) a.trim b.trim p.trim q.trim)
     (one_count (first_of (codes "connections") found) a.connections b.connections p.connections q.connections)
     (one_limits found a.limits b.limits p.limits q.limits)
 

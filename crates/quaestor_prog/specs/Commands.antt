@@ -34,8 +34,8 @@ with_limit_rules app = with_rule (with_rule (with_rule (with_rule (with_rule app
 
 -- the command `serve`
 abbrev pub serve_app : App
-serve_app = with_rule (with_limit_rules (with_rule (with_rule (with_rule (with_rule (with_setting_rules (with_rule (versioned (codes "serve")) (word_rule (codes "ADDR"))))
-    (option_rule (codes "places"))) (option_rule (codes "workers"))) (option_rule (codes "matchers"))) (option_rule (codes "connections"))))
+serve_app = with_rule (with_limit_rules (with_rule (with_rule (with_rule (with_rule (with_rule (with_setting_rules (with_rule (versioned (codes "serve")) (word_rule (codes "ADDR"))))
+    (option_rule (codes "places"))) (option_rule (codes "workers"))) (option_rule (codes "matchers"))) (option_rule (codes "keep"))) (option_rule (codes "connections"))))
     (option_rule (codes "allow-origin"))
 
 -- the command `read`

@@ -44,7 +44,7 @@ module _ {D S K C : Type 0} (source_at : S → End) (sink_at : K → End) (ended
   -- The connections were served that came through the doors, and then the last line was given, or a part of it.
   pub record IsServed (ask : ServeAsk) (sink sink' : End) (doors doors' : D) (status : Status) : Type 0 where
     pub end : ServeEnd
-    pub serves : Serves source_at sink_at ended_at tick may ask.setting (doors_at doors) (doors_at doors') ask.connections end
+    pub serves : Serves source_at sink_at ended_at tick may ask.setting ask.trim (doors_at doors) (doors_at doors') ask.connections end
     pub last_line : EndsWith sink sink' (served_line end.connections) (status_of_server end.why) status
 
   -- the first line, with the address as it is told, was given in part; or whole, and what came then

@@ -6,6 +6,8 @@ use Rattle.clap.specs.declared.error.kind.ErrorKind.{ErrorKind}
 use Rattle.clap.specs.declared.error.kind.ErrorKind.TheVariants as kind
 use Rattle.client_core.specs.declared.level.Level.{Level}
 use Rattle.client_core.specs.declared.level.Level.TheVariants as level
+use Rattle.hub_desk.specs.declared.trim.Trim.{Trim}
+use Rattle.hub_desk.specs.declared.trim.Trim.TheVariants.{Below, Full}
 use Rattle.hub_model.specs.Setting.{Setting, IsWithinLimits, default_setting}
 use Rattle.query_lang.specs.KeyTexts.{read_key}
 use Rattle.query_lang.specs.declared.key_reader.KeyRefusal.TheVariants.{BadKey}
@@ -16,7 +18,7 @@ use Rattle.quaestor_prog.specs.Commands.{pipe_app, serve_app, read_app, world_ap
 use Rattle.quaestor_prog.specs.Help.{IsHelpOf}
 use Rattle.quaestor_prog.specs.declared.help.HelpText.{HelpText}
 use Rattle.quaestor_prog.specs.declared.help.HelpText.TheVariants.{Version}
-use Rattle.quaestor_prog.specs.declared.ranges.TheConstants.{MOST_PLACES, DEFAULT_PLACES, MOST_WORKERS, DEFAULT_WORKERS, MOST_MATCHERS, DEFAULT_MATCHERS, MOST_CONNECTIONS, MOST_SECONDS, DEFAULT_IDLE, DEFAULT_HEAD_TIME, DEFAULT_REPLY_TIME, MOST_RATE, DEFAULT_RATE, DEFAULT_GRACE, MOST_SEED, MOST_STEPS}
+use Rattle.quaestor_prog.specs.declared.ranges.TheConstants.{MOST_PLACES, DEFAULT_PLACES, MOST_WORKERS, DEFAULT_WORKERS, MOST_MATCHERS, DEFAULT_MATCHERS, MOST_KEPT, MOST_CONNECTIONS, MOST_SECONDS, DEFAULT_IDLE, DEFAULT_HEAD_TIME, DEFAULT_REPLY_TIME, MOST_RATE, DEFAULT_RATE, DEFAULT_GRACE, MOST_SEED, MOST_STEPS}
 use Rattle.quaestor_prog.specs.declared.refusal.BadValue.{BadValue}
 use Rattle.quaestor_prog.specs.declared.refusal.BadValue.TheVariants.{Number, Lifetimes, Argument, NoLevel, NoKey, NoOrigins}
 use Rattle.quaestor_prog.specs.declared.refusal.Refusal.{Refusal}
@@ -86,6 +88,8 @@ pub record ServeAsk : Type 0 where
   pub places : ℕ
   pub workers : ℕ
   pub matchers : ℕ
+  -- up to where those drop old changes
+  pub trim : Trim
   -- how many connections are served in all
   pub connections : ℕ
   -- the limits of time
@@ -98,6 +102,10 @@ IsNumberIn found option least most default n = IsNumber (first_of option found) 
 -- the option shows a number of connections, or is not given and has the greatest number of 64 bits
 abbrev pub IsCount : Option Text → ℕ → Type 0
 IsCount given n = MatchOption given (n + 1 ≡ 2 ^ 64) (λ text. (text ≡ decimal n) × (1 ≤ n) × (n ≤ MOST_CONNECTIONS))
+
+-- the option shows how many commits below the front are kept, or is not given, and old changes are dropped where the store fills
+abbrev pub IsTrim : Option Text → Trim → Type 0
+IsTrim given trim = MatchOption given (trim ≡ Full) (λ text. (n : ℕ) × (trim ≡ Below n) × (text ≡ decimal n) × (n ≤ MOST_KEPT))
 
 -- The limits of time that options ask for, by what clap found for each.
 pub record AreLimits (found : List Row) (l : Limits) : Type 0 where
@@ -115,6 +123,7 @@ pub record AreServeOptions (found : List Row) (ask : ServeAsk) : Type 0 where
   pub places : IsNumberIn found (codes "places") 1 MOST_PLACES DEFAULT_PLACES ask.places
   pub workers : IsNumberIn found (codes "workers") 1 MOST_WORKERS DEFAULT_WORKERS ask.workers
   pub matchers : IsNumberIn found (codes "matchers") 1 MOST_MATCHERS DEFAULT_MATCHERS ask.matchers
+  pub trim : IsTrim (first_of (codes "keep") found) ask.trim
   pub connections : IsCount (first_of (codes "connections") found) ask.connections
   pub limits : AreLimits found ask.limits
 
@@ -188,6 +197,7 @@ IsRange option least most =
     ⊎ ((option ≡ codes "places") × (least ≡ 1) × (most ≡ MOST_PLACES))
     ⊎ ((option ≡ codes "workers") × (least ≡ 1) × (most ≡ MOST_WORKERS))
     ⊎ ((option ≡ codes "matchers") × (least ≡ 1) × (most ≡ MOST_MATCHERS))
+    ⊎ ((option ≡ codes "keep") × (least ≡ 0) × (most ≡ MOST_KEPT))
     ⊎ ((option ≡ codes "connections") × (least ≡ 1) × (most ≡ MOST_CONNECTIONS))
     ⊎ ((option ≡ codes "idle") × (least ≡ 0) × (most ≡ MOST_SECONDS))
     ⊎ ((option ≡ codes "head-time") × (least ≡ 1) × (most ≡ MOST_SECONDS))
@@ -234,6 +244,7 @@ ask_of s = record {
   places = s.places;
   workers = s.workers;
   matchers = s.matchers;
+  trim = s.trim;
   connections = s.connections;
   limits = s.limits;
 }

@@ -40,7 +40,8 @@ pub(crate) fn serve_command<'a>(alloc: Global) -> Result<Command<'a>, AllocError
     let places = with_number(alloc, config, "places")?;
     let workers = with_number(alloc, places, "workers")?;
     let matchers = with_number(alloc, workers, "matchers")?;
-    let connections = with_number(alloc, matchers, "connections")?;
+    let keep = with_number(alloc, matchers, "keep")?;
+    let connections = with_number(alloc, keep, "connections")?;
     let limits = with_limits(alloc, connections)?;
     let origins = with_option(alloc, limits, "allow-origin", "ORIGINS")?;
     Ok(origins)

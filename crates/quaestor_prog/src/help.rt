@@ -58,6 +58,9 @@ Options:
       --workers <N>             At most N of them are served at the same time, 1 to 64
                                 [default: 16]
       --matchers <N>            N threads look for outdated copies, 1 to 16 [default: 1]
+      --keep <N>                Entity tags of the last N commits stay known, and older changes
+                                are dropped, 0 to 1099511627776 [default: they are dropped
+                                while more than three quarters of the capacity are full]
       --connections <N>         Ends after N connections, 1 to 1099511627776
                                 [default: it does not end by their number]
       --idle <N>                A connection waits at most N seconds for its next request,

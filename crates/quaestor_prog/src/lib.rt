@@ -13,6 +13,7 @@ mod reading;
 mod refusal;
 mod serving;
 mod status;
+mod trim;
 mod words;
 
 pub use help::HelpText;

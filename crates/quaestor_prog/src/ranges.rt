@@ -19,6 +19,9 @@ pub(crate) const MOST_MATCHERS: u64 = 16;
 /// That number where none is given.
 pub(crate) const DEFAULT_MATCHERS: u64 = 1;
 
+/// How many commits below the front may be kept, 2^40.
+pub(crate) const MOST_KEPT: u64 = 1_099_511_627_776;
+
 /// How many connections may be asked for in all, 2^40.
 pub(crate) const MOST_CONNECTIONS: u64 = 1_099_511_627_776;
 

@@ -101,6 +101,7 @@ where
         places: options.places,
         workers: options.workers,
         matchers: options.matchers,
+        trim: options.trim,
     };
     let end = serve(
         rt,

@@ -17,11 +17,13 @@ use crate::ranges::{
     MOST_SECONDS, MOST_SEED, MOST_STEPS, MOST_WORKERS,
 };
 use crate::refusal::{BadValue, Refusal};
+use crate::trim::trim_of;
 use clap::error::ErrorKind;
 use clap::{ArgMatches, Error};
 use client_core::Level;
 use q_base::{Memory, SharedText};
 use q_outside::Limits;
+use quaestor_serve::Trim;
 use quaestor_server::Config;
 use query_lang::{KeyRefusal, read_key};
 use query_normal::Key;
@@ -49,6 +51,8 @@ pub struct ServeOptions<'a> {
     pub workers: u32,
     /// How many threads match.
     pub matchers: u32,
+    /// Up to where they drop old changes.
+    pub trim: Trim,
     /// How many connections are served in all; 2^64 - 1 where no number was given.
     pub connections: u64,
     /// The limits of time.
@@ -237,6 +241,7 @@ fn options_at<'a>(
     let places = number_of(matches, "places", 1, MOST_PLACES, DEFAULT_PLACES)?;
     let workers = number_of(matches, "workers", 1, MOST_WORKERS, DEFAULT_WORKERS)?;
     let matchers = number_of(matches, "matchers", 1, MOST_MATCHERS, DEFAULT_MATCHERS)?;
+    let trim = trim_of(matches)?;
     let connections = connections_of(matches)?;
     let limits = limits_of(matches)?;
     let origins = origins_of(matches)?;
@@ -246,6 +251,7 @@ fn options_at<'a>(
         places: places as u32,
         workers: workers as u32,
         matchers: matchers as u32,
+        trim,
         connections,
         limits,
     };

@@ -60,7 +60,12 @@ use Rattle.http_front.proofs.reply.ReplyRoom.TheSendSync as TheReply
 use Rattle.http_front.proofs.routes.Route.TheSendSync as TheTarget
 use Rattle.http_front.specs.contracts.routes.Route as Target
 use Rattle.http_front.specs.contracts.routes.Routes as Routes
+use Rattle.commit_book.proofs.past.Past.TheLaws.TheKnot as ThePast
+use Rattle.commit_book.specs.contracts.base.Base as Base
 use Rattle.commit_book.specs.contracts.book.Book as Book
+use Rattle.commit_book.specs.contracts.index.Record as Record
+use Rattle.commit_book.specs.contracts.index.Slot as Slot
+use Rattle.commit_book.specs.contracts.past.Past as Past
 use Rattle.commit_book.specs.contracts.row.Reserved as Reserved
 use Rattle.commit_book.specs.contracts.row.Row as Row
 use Rattle.match_sets.specs.contracts.set.MatchSet as MatchSet
@@ -80,6 +85,8 @@ use Rattle.turnstile.specs.contracts.view.View as View
 use Rattle.hub_desk.specs.contracts.hub_value.HubValue as HubValue
 use Rattle.hub_desk.specs.contracts.hub_value.HubValueStands.TheImpl as TheStands
 use Rattle.hub_desk.specs.contracts.hub_value.Noted as Noted
+use Rattle.hub_desk.specs.contracts.trim.Trim as Trim
+use Rattle.hub_desk.proofs.trim.Trim.TheSendSync as TheTrim
 use Rattle.quaestor_server.specs.contracts.connection.Room as Room
 use Rattle.quaestor_serve.specs.contracts.begun.Done as Done
 use Rattle.quaestor_serve.specs.contracts.endings.Endings as Endings
@@ -93,11 +100,25 @@ doc_send = search (TheDocument.crosses, crosses, sendable) depth 60 fits 20000
 pub row_send : IsSend Row.the_row
 row_send = search (doc_send, TheName.the_send, TheText.the_send, TheDocument.crosses, crosses, sendable) depth 60 fits 20000
 
+-- what stays of a record behind a drop of its rows, and where its next commit goes
+pub base_send : IsSend Base.the_row
+base_send = search (doc_send, TheText.the_send, TheDocument.crosses, crosses, sendable) depth 60 fits 20000
+
+pub record_send : IsSend Record.the_row
+record_send = search (base_send, crosses, sendable) depth 60 fits 20000
+
+pub slot_send : IsSend Slot.the_row
+slot_send = search (record_send, TheName.the_send, TheMap.the_send, crosses, sendable) depth 60 fits 20000
+
 pub reserved_send : IsSend Reserved.the_row
-reserved_send = search (row_send, crosses, sendable) depth 60 fits 20000
+reserved_send = declared_send Reserved.the_type (row_send, (slot_send, tt))
+
+-- the changes that were made hold the changes before them
+pub past_send : IsSend Past.the_row
+past_send = search (ThePast.crosses, crosses, sendable) depth 60 fits 20000
 
 pub book_send : IsSend Book.the_row
-book_send = search (row_send, reserved_send, TheName.the_send, TheMap.the_send, crosses, sendable) depth 60 fits 20000
+book_send = search (row_send, record_send, reserved_send, past_send, TheName.the_send, TheMap.the_send, crosses, sendable) depth 60 fits 20000
 
 -- a query holds a filter, which holds itself
 pub filter_row_send : IsSend Filter.the_row
@@ -262,8 +283,8 @@ pub done_send : (S K : RattleType) → IsSend S → IsSend K → IsSend (Done.th
 done_send S K source sink = declared_send (Done.the_type S K) (seat_send, (as_row_send (row_field S) source, (as_row_send (row_field K) sink, (TheServed.the_send, tt))))
 
 -- what a matcher's thread gets, and what a connection's thread gets; the name is that of a closure
-pub matcher_send : (name : Sym) (R C : RattleType) → IsSend R → IsSend C → IsSend (TupleAt name (R ∷ SharedRow TurnstileRow ∷ SeatRow ∷ C ∷ SharedRow Stop.the_row ∷ []))
-matcher_send name R C handle clock = search (shared_turnstile_send, seat_send, shared_stop_send, crosses, sendable) depth 60 fits 20000
+pub matcher_send : (name : Sym) (R C : RattleType) → IsSend R → IsSend C → IsSend (TupleAt name (R ∷ SharedRow TurnstileRow ∷ SeatRow ∷ C ∷ Trim.the_row ∷ SharedRow Stop.the_row ∷ []))
+matcher_send name R C handle clock = search (shared_turnstile_send, seat_send, TheTrim.the_send, shared_stop_send, crosses, sendable) depth 60 fits 20000
 
 pub connection_send : (name : Sym) (R G S K C : RattleType) → IsSend R → IsSend G → IsSend S → IsSend K → IsSend C → IsSend (TupleAt name (R ∷ Global.the_row ∷ SharedRow TurnstileRow ∷ SharedRow Endings.the_row ∷ G ∷ UInt w32 ∷ SeatRow ∷ S ∷ K ∷ C ∷ SharedRow Pool.the_row ∷ []))
 connection_send name R G S K C handle gate source sink clock = search (shared_turnstile_send, shared_endings_send, shared_pool_send, seat_send, crosses, sendable) depth 60 fits 20000

@@ -5,6 +5,7 @@ use Rattle.std.specs.Arc.{arc_value}
 use Rattle.std.specs.List.Sorted.{IsPermutation}
 use Rattle.std.proofs.lemmas.List.Sorted.{IsPermutation-map, length_permutation}
 use Rattle.hub_desk.specs.HubValue.{hub_setting}
+use Rattle.hub_desk.specs.declared.trim.Trim.{Trim}
 use Rattle.hub_model.specs.declared.entry.Entry.{Entry}
 use Rattle.hub_model.specs.Desk.{IsPrefix}
 use Rattle.hub_model.specs.Legal.{IsLegal}
@@ -166,15 +167,15 @@ module _ {S K C : Type 0} where
       }
 
   -- a matcher's seat was joined to the main one
-  pub gathered : (tick : C → ℕ → C → Type 0) (may : C → Type 0) (h l : Hall S K C) (clock : C) (rested : Rested C) → arc_value l.turnstile ≡ arc_value h.turnstile → may clock → HasRested tick (arc_value h.turnstile) clock rested → IsPrefix (seen_in h) (seen_in l) → IsPrefix (seen rested.seat) (seen_in l) → met_in l ≡ met_in h ++ (mine rested.seat ++ met rested.seat) → Distinct (met_in l) → Gathers tick may h l
-  gathered tick may h l clock rested same allowed matched this that met_is once =
+  pub gathered : (tick : C → ℕ → C → Type 0) (trim : Trim) (may : C → Type 0) (h l : Hall S K C) (clock : C) (rested : Rested C) → arc_value l.turnstile ≡ arc_value h.turnstile → may clock → HasRested tick trim (arc_value h.turnstile) clock rested → IsPrefix (seen_in h) (seen_in l) → IsPrefix (seen rested.seat) (seen_in l) → met_in l ≡ met_in h ++ (mine rested.seat ++ met rested.seat) → Distinct (met_in l) → Gathers tick trim may h l
+  gathered tick trim may h l clock rested same allowed matched this that met_is once =
       let setting : setting_in h ≡ setting_in l = ap setting_at (sym same) in
       record {
         own = mine rested.seat;
         turnstile = same;
         grew = this;
         met = met_is ∙ ap (λ (xs : List (ℕ × Entry)). met_in h ++ (mine rested.seat ++ xs)) matched.met ∙ ap (λ (xs : List (ℕ × Entry)). met_in h ++ xs) (append-nil (mine rested.seat));
-        matching = matched_by tick may (setting_in l) (seen rested.seat) (seen_in l) clock rested.clock matched.moments (mine rested.seat) allowed matched.ticks that
-            (subst (λ (g : Setting). AllOf (IsMatchingAt g (seen rested.seat) matched.moments) (mine rested.seat)) setting matched.matching);
+        matching = matched_by tick may (setting_in l) trim (seen rested.seat) (seen_in l) clock rested.clock matched.moments (mine rested.seat) allowed matched.ticks that
+            (subst (λ (g : Setting). AllOf (IsMatchingAt g trim (seen rested.seat) matched.moments) (mine rested.seat)) setting matched.matching);
         once = λ _. once;
       }

@@ -6,6 +6,7 @@ use Rattle.std.specs.List.Sorted.{IsPermutation}
 use Rattle.std.proofs.lemmas.List.{length-map}
 use Rattle.std.proofs.lemmas.List.FromFn.{length-enumerate_from}
 use Rattle.std.proofs.lemmas.List.Sorted.{IsPermutation-refl, length_permutation}
+use Rattle.hub_desk.specs.declared.trim.Trim.{Trim}
 use Rattle.hub_model.specs.declared.entry.Entry.{Entry}
 use Rattle.hub_model.specs.Desk.{IsPrefix}
 use Rattle.hub_model.specs.Legal.{IsLegal}
@@ -58,37 +59,37 @@ pub none_of : {X : Type 0} (size : ℕ) (xs : List X) → size ≡ length xs →
 none_of size [] is none = refl
 none_of size (x ∷ xs) is none = absurd (omega (arith, is, none))
 
-module _ {C : Type 0} (tick : C → ℕ → C → Type 0) where
+module _ {C : Type 0} (tick : C → ℕ → C → Type 0) (trim : Trim) where
   -- a matcher whose clock is one that it may have
-  pub works_with : (may : C → Type 0) (clock : C) (given turnstile : HubTurnstile) (m : Matcher C) → given ≡ turnstile → may clock → WorksAt tick (λ c. c ≡ clock) given m → WorksAt tick may turnstile m
-  works_with may clock given turnstile (Thread handle stop) same allowed works = (works.0 ∙ same, subst may (sym works.1) allowed)
-  works_with may clock given turnstile (Here rested) same allowed works = (works.0, subst may (sym works.1) allowed, subst (λ (t : HubTurnstile). HasRested tick t works.0 rested) same works.2)
+  pub works_with : (may : C → Type 0) (clock : C) (given turnstile : HubTurnstile) (m : Matcher C) → given ≡ turnstile → may clock → WorksAt tick trim (λ c. c ≡ clock) given m → WorksAt tick trim may turnstile m
+  works_with may clock given turnstile (Thread handle stop) same allowed works = (works.0 ∙ same, subst may (sym works.1) allowed, works.2)
+  works_with may clock given turnstile (Here rested) same allowed works = (works.0, subst may (sym works.1) allowed, subst (λ (t : HubTurnstile). HasRested tick trim t works.0 rested) same works.2)
 
-module _ {C : Type 0} (tick : C → ℕ → C → Type 0) (may : C → Type 0) where
+module _ {C : Type 0} (tick : C → ℕ → C → Type 0) (trim : Trim) (may : C → Type 0) where
   -- one matcher more works at the turnstile
-  pub work_more : (turnstile : HubTurnstile) (old new : List (Matcher C)) (last : Matcher C) → new ≡ old ++ last ∷ [] → AllOf (λ (m : Matcher C). WorksAt tick may turnstile m) old → WorksAt tick may turnstile last → AllOf (λ (m : Matcher C). WorksAt tick may turnstile m) new
+  pub work_more : (turnstile : HubTurnstile) (old new : List (Matcher C)) (last : Matcher C) → new ≡ old ++ last ∷ [] → AllOf (λ (m : Matcher C). WorksAt tick trim may turnstile m) old → WorksAt tick trim may turnstile last → AllOf (λ (m : Matcher C). WorksAt tick trim may turnstile m) new
   work_more turnstile old new last items work works =
-      subst (λ (ms : List (Matcher C)). AllOf (λ (m : Matcher C). WorksAt tick may turnstile m) ms) (sym items) (all_append (λ (m : Matcher C). WorksAt tick may turnstile m) old (last ∷ []) work (works, tt))
+      subst (λ (ms : List (Matcher C)). AllOf (λ (m : Matcher C). WorksAt tick trim may turnstile m) ms) (sym items) (all_append (λ (m : Matcher C). WorksAt tick trim may turnstile m) old (last ∷ []) work (works, tt))
 
   -- the first had its turn, and is behind the others
-  pub work_turned : (turnstile : HubTurnstile) (old left new : List (Matcher C)) (first last : Matcher C) → old ≡ first ∷ left → new ≡ left ++ last ∷ [] → AllOf (λ (m : Matcher C). WorksAt tick may turnstile m) old → WorksAt tick may turnstile last → AllOf (λ (m : Matcher C). WorksAt tick may turnstile m) new
+  pub work_turned : (turnstile : HubTurnstile) (old left new : List (Matcher C)) (first last : Matcher C) → old ≡ first ∷ left → new ≡ left ++ last ∷ [] → AllOf (λ (m : Matcher C). WorksAt tick trim may turnstile m) old → WorksAt tick trim may turnstile last → AllOf (λ (m : Matcher C). WorksAt tick trim may turnstile m) new
   work_turned turnstile old left new first last taken items work works =
-      let all : AllOf (λ (m : Matcher C). WorksAt tick may turnstile m) (first ∷ left) = subst (λ (ms : List (Matcher C)). AllOf (λ (m : Matcher C). WorksAt tick may turnstile m) ms) taken work in
+      let all : AllOf (λ (m : Matcher C). WorksAt tick trim may turnstile m) (first ∷ left) = subst (λ (ms : List (Matcher C)). AllOf (λ (m : Matcher C). WorksAt tick trim may turnstile m) ms) taken work in
       work_more turnstile left new last items all.1 works
 
-module _ {S K C : Type 0} (tick : C → ℕ → C → Type 0) (may : C → Type 0) where
+module _ {S K C : Type 0} (tick : C → ℕ → C → Type 0) (trim : Trim) (may : C → Type 0) where
   -- the matchers that are left still work in the hall, once the first has ended
-  pub work_rest : (h l : Hall S K C) (old new : List (Matcher C)) (first : Matcher C) → old ≡ first ∷ new → arc_value l.turnstile ≡ arc_value h.turnstile → WorkIn tick may h old → WorkIn tick may l new
+  pub work_rest : (h l : Hall S K C) (old new : List (Matcher C)) (first : Matcher C) → old ≡ first ∷ new → arc_value l.turnstile ≡ arc_value h.turnstile → WorkIn tick trim may h old → WorkIn tick trim may l new
   work_rest h l old new first left same work =
-      let all : AllOf (λ (m : Matcher C). WorksAt tick may (arc_value h.turnstile) m) (first ∷ new) = subst (λ (ms : List (Matcher C)). AllOf (λ (m : Matcher C). WorksAt tick may (arc_value h.turnstile) m) ms) left work in
-      subst (λ (t : HubTurnstile). AllOf (λ (m : Matcher C). WorksAt tick may t m) new) (sym same) all.1
+      let all : AllOf (λ (m : Matcher C). WorksAt tick trim may (arc_value h.turnstile) m) (first ∷ new) = subst (λ (ms : List (Matcher C)). AllOf (λ (m : Matcher C). WorksAt tick trim may (arc_value h.turnstile) m) ms) left work in
+      subst (λ (t : HubTurnstile). AllOf (λ (m : Matcher C). WorksAt tick trim may t m) new) (sym same) all.1
 
   -- so do all, where the turnstile is the same
-  pub work_stays : (h l : Hall S K C) (matchers : List (Matcher C)) → arc_value l.turnstile ≡ arc_value h.turnstile → WorkIn tick may h matchers → WorkIn tick may l matchers
-  work_stays h l matchers same work = subst (λ (t : HubTurnstile). AllOf (λ (m : Matcher C). WorksAt tick may t m) matchers) (sym same) work
+  pub work_stays : (h l : Hall S K C) (matchers : List (Matcher C)) → arc_value l.turnstile ≡ arc_value h.turnstile → WorkIn tick trim may h matchers → WorkIn tick trim may l matchers
+  work_stays h l matchers same work = subst (λ (t : HubTurnstile). AllOf (λ (m : Matcher C). WorksAt tick trim may t m) matchers) (sym same) work
 
   -- no matcher was joined
-  pub gathered_none : (h : Hall S K C) → Gathers tick may h h
+  pub gathered_none : (h : Hall S K C) → Gathers tick trim may h h
   gathered_none h = record {
     own = [];
     turnstile = refl;
@@ -99,7 +100,7 @@ module _ {S K C : Type 0} (tick : C → ℕ → C → Type 0) (may : C → Type 
   }
 
   -- no matcher was joined, though the main seat may have seen more
-  pub gathered_seen : (h l : Hall S K C) → arc_value l.turnstile ≡ arc_value h.turnstile → IsPrefix (seen_in h) (seen_in l) → met_in l ≡ met_in h → Gathers tick may h l
+  pub gathered_seen : (h l : Hall S K C) → arc_value l.turnstile ≡ arc_value h.turnstile → IsPrefix (seen_in h) (seen_in l) → met_in l ≡ met_in h → Gathers tick trim may h l
   gathered_seen h l same grew met_same = record {
     own = [];
     turnstile = same;
@@ -110,7 +111,7 @@ module _ {S K C : Type 0} (tick : C → ℕ → C → Type 0) (may : C → Type 
   }
 
   -- matchers were joined, and then others
-  pub gathered_both : (a b c : Hall S K C) → Gathers tick may a b → Gathers tick may b c → Gathers tick may a c
+  pub gathered_both : (a b c : Hall S K C) → Gathers tick trim may a b → Gathers tick trim may b c → Gathers tick trim may a c
   gathered_both a b c p q =
       let setting : setting_in c ≡ setting_in b = ap setting_at q.turnstile in
       record {
@@ -118,8 +119,8 @@ module _ {S K C : Type 0} (tick : C → ℕ → C → Type 0) (may : C → Type 
         turnstile = q.turnstile ∙ p.turnstile;
         grew = prefix_trans (seen_in a) (seen_in b) (seen_in c) p.grew q.grew;
         met = q.met ∙ ap (λ (l : List (ℕ × Entry)). l ++ q.own) p.met ∙ append_assoc (met_in a) p.own q.own;
-        matching = all_append (IsMatched tick may (setting_in c) (seen_in c)) p.own q.own
-            (matched_longer tick may (setting_in c) (seen_in b) (seen_in c) p.own q.grew (subst (λ (g : Setting). AllOf (IsMatched tick may g (seen_in b)) p.own) (sym setting) p.matching))
+        matching = all_append (IsMatched tick may (setting_in c) trim (seen_in c)) p.own q.own
+            (matched_longer tick may (setting_in c) trim (seen_in b) (seen_in c) p.own q.grew (subst (λ (g : Setting). AllOf (IsMatched tick may g trim (seen_in b)) p.own) (sym setting) p.matching))
             q.matching;
         once = λ once. q.once (p.once once);
       }
@@ -140,9 +141,9 @@ module _ {S K C : Type 0} (source_at : S → End) (sink_at : K → End) (ended_a
   )
 
   -- a server that has ended at once has served no connection
-  pub serves_at_once : (g : Setting) (first : DoorsView S K) (most : ℕ) (end : ServeEnd) → end.connections ≡ 0 → closings_by end.why ≡ 0 → EndsBy end.why first first end.connections most → Serves source_at sink_at ended_at tick may g first first most end
+  pub serves_at_once : (g : Setting) (trim : Trim) (first : DoorsView S K) (most : ℕ) (end : ServeEnd) → end.connections ≡ 0 → closings_by end.why ≡ 0 → EndsBy end.why first first end.connections most → Serves source_at sink_at ended_at tick may g trim first first most end
   unfolding IsLegal
-  serves_at_once g first most end nobody not_closed ends = record {
+  serves_at_once g trim first most end nobody not_closed ends = record {
     history = [];
     legal = tt;
     came = [];
@@ -161,12 +162,12 @@ module _ {S K C : Type 0} (source_at : S → End) (sink_at : K → End) (ended_a
   }
 
   -- so has one that had no memory for the first connection
-  pub serves_none : (g : Setting) (first : DoorsView S K) (most : ℕ) (end : ServeEnd) → 0 < most → IsUnbegun end → Serves source_at sink_at ended_at tick may g first first most end
-  serves_none g first most end some unbegun = serves_at_once g first most end unbegun.0 (none_closed end unbegun) (ends_unbegun first most end some unbegun)
+  pub serves_none : (g : Setting) (trim : Trim) (first : DoorsView S K) (most : ℕ) (end : ServeEnd) → 0 < most → IsUnbegun end → Serves source_at sink_at ended_at tick may g trim first first most end
+  serves_none g trim first most end some unbegun = serves_at_once g trim first most end unbegun.0 (none_closed end unbegun) (ends_unbegun first most end some unbegun)
 
   -- once all connections were handed back and the matchers joined, the server has served them
-  pub serves_all : (g : Setting) (first last : DoorsView S K) (h l : Hall S K C) (most : ℕ) (end : ServeEnd) → setting_in h ≡ g → h.running.items ≡ [] → IsLegal (setting_in l) (seen_in l) → IsWholeIn l → Gathers tick may h l → EndsBy end.why first last end.connections most → Going source_at sink_at ended_at tick may first last h [] end.connections (closings_by end.why) → Serves source_at sink_at ended_at tick may g first last most end
-  serves_all g first last h l most end setting none legal whole gathers ends going =
+  pub serves_all : (g : Setting) (trim : Trim) (first last : DoorsView S K) (h l : Hall S K C) (most : ℕ) (end : ServeEnd) → setting_in h ≡ g → h.running.items ≡ [] → IsLegal (setting_in l) (seen_in l) → IsWholeIn l → Gathers tick trim may h l → EndsBy end.why first last end.connections most → Going source_at sink_at ended_at tick may first last h [] end.connections (closings_by end.why) → Serves source_at sink_at ended_at tick may g trim first last most end
+  serves_all g trim first last h l most end setting none legal whole gathers ends going =
       let nobody : begun_in h ≡ [] = ap (λ (rs : List (Running S K C)). map begun_of rs) none in
       let given : map given_of going.visits ++ map began_with (open_in [] h) ≡ map given_of going.visits = ap (λ (bs : List (Begun S K C)). map given_of going.visits ++ map began_with bs) nobody ∙ append-nil (map given_of going.visits) in
       let came_are : IsPermutation (enumerate_from 0 going.came) (map given_of going.visits) = subst (λ (xs : List (ℕ × (S × K))). IsPermutation (enumerate_from 0 going.came) xs) given going.came_are in
@@ -182,7 +183,7 @@ module _ {S K C : Type 0} (source_at : S → End) (sink_at : K → End) (ended_a
         each = all_stay source_at sink_at ended_at tick may g (seen_in h) (seen_in l) going.visits gathers.grew (subst (λ (s : Setting). AllOf (IsWell source_at sink_at ended_at tick may s (seen_in h)) going.visits) setting going.each);
         ordered = going.ordered;
         others = gathers.own;
-        matching = subst (λ (s : Setting). AllOf (IsMatched tick may s (seen_in l)) gathers.own) last_setting gathers.matching;
+        matching = subst (λ (s : Setting). AllOf (IsMatched tick may s trim (seen_in l)) gathers.own) last_setting gathers.matching;
         apart = subst (λ (ps : List (ℕ × Entry)). Distinct ps) all (gathers.once going.once);
         at_positions = subst (λ (ps : List (ℕ × Entry)). AreAt (seen_in l) ps) all whole.1;
         whole = whole.0 ∙ ap length all;

@@ -2,6 +2,7 @@
 use Rattle.std.specs.Prelude.{◌≡◌, ℕ, ◌<◌, List, [], ◌++◌, map, length}
 use Rattle.std.specs.List.{enumerate_from, flat_map}
 use Rattle.std.specs.List.Sorted.{IsPermutation}
+use Rattle.hub_desk.specs.declared.trim.Trim.{Trim}
 use Rattle.hub_model.specs.declared.entry.Entry.{Entry}
 use Rattle.hub_model.specs.Legal.{IsLegal}
 use Rattle.hub_model.specs.Setting.{Setting}
@@ -40,8 +41,8 @@ module _ {S K C : Type 0} (source_at : S → End) (sink_at : K → End) (ended_a
   abbrev pub Ends : (first now : DoorsView S K) → Hall S K C → ℕ → ServeEnd → Type 0
   Ends first now h most end = Going source_at sink_at ended_at tick may first now h [] end.connections (closings_by end.why) × EndsBy end.why first now end.connections most
 
-  -- Each connection that came was handed back once, in the order in which they ended, with how it was served: well, in one legal history, by entries of its own. Each knew at its beginning all that was known at the end of each that was handed back before it came. Matchers made entries that match all commits before them, and no others. Each position of the history belongs to one of them: the history began empty, and nobody else made entries. The cause of the end is exact.
-  pub record Serves (g : Setting) (first last : DoorsView S K) (most : ℕ) (end : ServeEnd) : Type 0 where
+  -- Each connection that came was handed back once, in the order in which they ended, with how it was served: well, in one legal history, by entries of its own. Each knew at its beginning all that was known at the end of each that was handed back before it came. Matchers made entries that match all commits before them or drop old changes as far as the trim says, and no others. Each position of the history belongs to one of them: the history began empty, and nobody else made entries. The cause of the end is exact.
+  pub record Serves (g : Setting) (trim : Trim) (first last : DoorsView S K) (most : ℕ) (end : ServeEnd) : Type 0 where
     pub history : List Entry
     pub legal : IsLegal g history
     -- the connections in the order in which they came, and in that in which they were handed back
@@ -53,7 +54,7 @@ module _ {S K C : Type 0} (source_at : S → End) (sink_at : K → End) (ended_a
     pub ordered : AreOrdered (given_at first) visits
     -- the entries of the matchers, each with its position
     pub others : List (ℕ × Entry)
-    pub matching : AllOf (IsMatched tick may g history) others
+    pub matching : AllOf (IsMatched tick may g trim history) others
     pub apart : Distinct (flat_map own_of visits ++ others)
     pub at_positions : AreAt history (flat_map own_of visits ++ others)
     pub whole : length history ≡ length (flat_map own_of visits ++ others)

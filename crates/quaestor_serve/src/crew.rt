@@ -1,6 +1,8 @@
 //! How many there are of what a server has.
 
-/// How many connections, buffers and matchers a server has.
+use hub_desk::Trim;
+
+/// How many connections, buffers and matchers a server has, and what its matchers drop.
 #[derive(Clone, Copy, Debug, PartialEq, Eq)]
 pub struct Crew {
     /// How many connections may be there at the same time, each with a thread of its own.
@@ -9,4 +11,6 @@ pub struct Crew {
     pub workers: u32,
     /// How many threads match.
     pub matchers: u32,
+    /// Up to where they drop old changes.
+    pub trim: Trim,
 }

@@ -18,6 +18,7 @@ mod threads;
 mod visits;
 
 pub use crew::Crew;
+pub use hub_desk::Trim;
 pub use matching::work_until_stopped;
 pub use serve_end::{ServeEnd, ServeWhy};
 pub use serving::serve;

@@ -1,7 +1,7 @@
-//! One who matches, in a thread of its own.
+//! One who matches and drops old changes, in a thread of its own.
 
 use crate::stop::Stop;
-use hub_desk::{HubValue, Seat, Turnstile};
+use hub_desk::{HubValue, Seat, Trim, Turnstile};
 use q_outside::Clock;
 use std::alloc::Global;
 use std::snapshot::Snapshot;
@@ -13,6 +13,7 @@ use std::thread::{Promise, PromisedHandle};
 pub struct Place<C> {
     pub turnstile: Snapshot<Turnstile<HubValue>>,
     pub clock: Snapshot<C>,
+    pub trim: Snapshot<Trim>,
 }
 
 /// A matcher that rests, with its seat and its clock.
@@ -25,7 +26,7 @@ pub struct Rested<C> {
 impl<C: Clock> Promise<Rested<C>> for Place<C> {
     ghost use Rattle.quaestor_serve.specs.Matchers.{HasRested};
 
-    ghost kept_by = { λ place rested. HasRested C.tick place.turnstile.value place.clock.value rested };
+    ghost kept_by = { λ place rested. HasRested C.tick place.trim.value place.turnstile.value place.clock.value rested };
 }
 
 /// One who matches.

@@ -9,11 +9,12 @@ ghost use Rattle.turnstile.specs.Places.{AllOf};
 ghost use Rattle.turnstile.specs.Seats.{IsSeatOf, IsIdle, HasOut};
 ghost use Rattle.quaestor_serve.specs.Matchers.{HasMatched, HasRested, WorksAt, WorkIn, IsAsBefore, Gathers};
 
+use crate::crew::Crew;
 use crate::hall::Hall;
 use crate::matcher::{Matcher, Place, Rested};
-use crate::matching::{match_once, work_until_stopped};
+use crate::matching::{LastDrop, match_and_drop, work_until_stopped};
 use crate::stop::Stop;
-use hub_desk::{HubValue, Seat, Seated, Turnstile};
+use hub_desk::{HubValue, Seat, Seated, Trim, Turnstile};
 use q_base::Memory;
 use q_outside::{Clock, Sink, Source};
 use std::alloc::Global;
@@ -23,19 +24,20 @@ use std::sync::{Arc, Wait};
 use std::thread;
 use std::thread::Threads;
 
-/// Matches in a thread until the flag is set.
+/// Matches and drops in a thread until the flag is set.
 fn match_there<R: Wait + Copy, C: Clock>(
     rt: R,
     turnstile: Arc<Turnstile<HubValue>, Global>,
     seat: Seat<HubValue>,
     mut clock: C,
+    trim: Trim,
     stop: Arc<Stop, Global>,
 ) -> Rested<C>
     requires { IsFreshAt (arc_value turnstile) seat }
-    ensures { HasRested C.tick (arc_value turnstile) clock result }
+    ensures { HasRested C.tick trim (arc_value turnstile) clock result }
 {
     let mut desk = Seated::new(&rt, &turnstile, seat);
-    work_until_stopped(&rt, &mut desk, &mut clock, &stop);
+    work_until_stopped(&rt, &mut desk, &mut clock, trim, &stop);
     Rested {
         seat: desk.into_seat(),
         clock,
@@ -49,6 +51,7 @@ fn begin_matcher<C, R>(
     turnstile: Arc<Turnstile<HubValue>, Global>,
     seat: Seat<HubValue>,
     clock: C,
+    trim: Trim,
     stop: Arc<Stop, Global>,
     flag: Arc<Stop, Global>,
 ) -> Matcher<C>
@@ -56,15 +59,16 @@ where
     C: Clock + Send + Drop + 'static,
     R: Threads + Wait + Copy + Send + 'static,
     requires { IsFreshAt (arc_value turnstile) seat }
-    ensures { WorksAt C.tick (λ c. c ≡ clock) (arc_value turnstile) result }
+    ensures { WorksAt C.tick trim (λ c. c ≡ clock) (arc_value turnstile) result }
 {
     let handle = *rt;
     let place = Place {
         turnstile: Snapshot::of(&*turnstile),
         clock: Snapshot::of(&clock),
+        trim: Snapshot::of(&trim),
     };
     let spawned = thread::spawn_with(rt, place, move || {
-        match_there(handle, turnstile, seat, clock, stop)
+        match_there(handle, turnstile, seat, clock, trim, stop)
     });
     match spawned {
         Ok(handle) => Matcher::Thread { handle, stop: flag },
@@ -76,14 +80,14 @@ where
     }
 }
 
-/// Starts this number of matchers. Where memory runs out, those that were started go on.
+/// Starts the matchers of a crew. Where memory runs out, those that were started go on.
 pub(crate) fn start_matchers<S, K, C, R>(
     rt: &R,
     alloc: Global,
     hall: &mut Hall<S, K, C>,
     matchers: &mut VecDeque<Matcher<C>>,
     clock: &C,
-    count: u32,
+    crew: Crew,
 ) -> Result<(), Memory>
 where
     S: Source + Drop,
@@ -92,76 +96,79 @@ where
     R: Threads + Wait + Copy + Send + 'static,
     requires ready { IsReady hall.old }
     requires none { matchers.old.items ≡ [] }
-    requires capacity { count ≤ deque_capacity matchers.old }
+    requires capacity { crew.matchers ≤ deque_capacity matchers.old }
     ensures ready { IsReady hall.new }
     ensures same { IsAsBefore hall.old hall.new }
     ensures out { (others : ℕ) → HasOut others hall.old.seat → HasOut (others + length matchers.new.items) hall.new.seat }
-    ensures work { WorkIn C.tick (C.is_clone clock.now) hall.new matchers.new.items }
+    ensures work { WorkIn C.tick crew.trim (C.is_clone clock.now) hall.new matchers.new.items }
 {
-    for _n in 0..count {
+    for _n in 0..crew.matchers {
         let clock = clock.clone()?;
         let turnstile = Arc::try_clone(&hall.turnstile)?;
         let stop = Arc::new(alloc, Stop::new())?;
         let flag = Arc::try_clone(&stop)?;
         let seat = hall.turnstile.split(&mut hall.seat);
-        let matcher = begin_matcher(rt, turnstile, seat, clock, stop, flag);
+        let matcher = begin_matcher(rt, turnstile, seat, clock, crew.trim, stop, flag);
         matchers.push_back_reserved(matcher);
     }
     Ok(())
 }
 
-/// Matches once, and rests again.
+/// Matches and drops once, and rests again.
 fn match_here<C: Clock, R: Wait>(
     rt: &R,
     turnstile: &Turnstile<HubValue>,
+    trim: Trim,
     rested: Rested<C>,
 ) -> Rested<C>
     requires { IsSeatOf hub_setting turnstile.now rested.seat × IsIdle rested.seat }
-    ensures { (begun : C) → HasRested C.tick turnstile.now begun rested → HasRested C.tick turnstile.now begun result }
+    ensures { (begun : C) → HasRested C.tick trim turnstile.now begun rested → HasRested C.tick trim turnstile.now begun result }
 {
     let Rested { seat, mut clock } = rested;
     let mut desk = Seated::new(rt, turnstile, seat);
-    match_once(&mut desk, &mut clock);
+    match_and_drop(&mut desk, &mut clock, trim, LastDrop::none());
     Rested {
         seat: desk.into_seat(),
         clock,
     }
 }
 
-/// Matches once, where the matcher has no thread. Of the clock that was given, of which each matcher has
-/// a clone, only the contract speaks.
+/// Matches and drops once, where the matcher has no thread. Of the clock that was given, of which each
+/// matcher has a clone, only the contract speaks.
 #[tactic(auto, using(crate::proofs::RestLemmas::works_on))]
 fn step<C: Clock + Clone + Drop, R: Wait>(
     rt: &R,
     turnstile: &Turnstile<HubValue>,
+    trim: Trim,
     matcher: Matcher<C>,
     _given: &C,
 ) -> Matcher<C>
-    requires { WorksAt C.tick (C.is_clone _given.now) turnstile.now matcher }
-    ensures { WorksAt C.tick (C.is_clone _given.now) turnstile.now result }
+    requires { WorksAt C.tick trim (C.is_clone _given.now) turnstile.now matcher }
+    ensures { WorksAt C.tick trim (C.is_clone _given.now) turnstile.now result }
 {
     match matcher {
         Matcher::Thread { handle, stop } => Matcher::Thread { handle, stop },
-        Matcher::Here(rested) => Matcher::Here(match_here(rt, turnstile, rested)),
+        Matcher::Here(rested) => Matcher::Here(match_here(rt, turnstile, trim, rested)),
     }
 }
 
-/// Lets each matcher that has no thread match once.
+/// Lets each matcher that has no thread match and drop once.
 pub(crate) fn step_all<C: Clock + Clone + Drop, R: Wait>(
     rt: &R,
     turnstile: &Turnstile<HubValue>,
+    trim: Trim,
     matchers: &mut VecDeque<Matcher<C>>,
     given: &C,
 )
-    requires { AllOf (λ m. WorksAt C.tick (C.is_clone given.now) turnstile.now m) matchers.old.items }
-    ensures work { AllOf (λ m. WorksAt C.tick (C.is_clone given.now) turnstile.now m) matchers.new.items }
+    requires { AllOf (λ m. WorksAt C.tick trim (C.is_clone given.now) turnstile.now m) matchers.old.items }
+    ensures work { AllOf (λ m. WorksAt C.tick trim (C.is_clone given.now) turnstile.now m) matchers.new.items }
     ensures count { length matchers.new.items ≡ length matchers.old.items }
 {
     for _n in 0..matchers.len() {
         let Some(matcher) = matchers.pop_front() else {
             return;
         };
-        let matcher = step(rt, turnstile, matcher, given);
+        let matcher = step(rt, turnstile, trim, matcher, given);
         matchers.push_back_reserved(matcher);
     }
 }
@@ -170,11 +177,12 @@ pub(crate) fn step_all<C: Clock + Clone + Drop, R: Wait>(
 fn finish_matcher<C: Clock + Clone + Drop, R: Threads>(
     rt: &R,
     turnstile: &Turnstile<HubValue>,
+    _trim: Trim,
     matcher: Matcher<C>,
     _given: &C,
 ) -> Rested<C>
-    requires { WorksAt C.tick (C.is_clone _given.now) turnstile.now matcher }
-    ensures { (clock : C) × C.is_clone _given.now clock × HasRested C.tick turnstile.now clock result }
+    requires { WorksAt C.tick _trim (C.is_clone _given.now) turnstile.now matcher }
+    ensures { (clock : C) × C.is_clone _given.now clock × HasRested C.tick _trim turnstile.now clock result }
 {
     match matcher {
         Matcher::Thread { handle, stop: _ } => handle.join(rt),
@@ -183,19 +191,25 @@ fn finish_matcher<C: Clock + Clone + Drop, R: Threads>(
 }
 
 /// Waits for the end of a matcher, and joins its seat to the main one.
-fn end_matcher<S, K, C, R>(rt: &R, hall: &mut Hall<S, K, C>, matcher: Matcher<C>, given: &C)
+fn end_matcher<S, K, C, R>(
+    rt: &R,
+    hall: &mut Hall<S, K, C>,
+    trim: Trim,
+    matcher: Matcher<C>,
+    given: &C,
+)
 where
     S: Source + Drop,
     K: Sink + Drop,
     C: Clock + Clone + Drop,
     R: Threads,
     requires ready { IsReady hall.old }
-    requires work { WorksAt C.tick (C.is_clone given.now) (arc_value hall.old.turnstile) matcher }
+    requires work { WorksAt C.tick trim (C.is_clone given.now) (arc_value hall.old.turnstile) matcher }
     ensures ready { IsReady hall.new }
-    ensures gathers { Gathers C.tick (C.is_clone given.now) hall.old hall.new }
+    ensures gathers { Gathers C.tick trim (C.is_clone given.now) hall.old hall.new }
     ensures out { (others : ℕ) → HasOut (others + 1) hall.old.seat → HasOut others hall.new.seat }
 {
-    let Rested { seat, clock: _ } = finish_matcher(rt, &hall.turnstile, matcher, given);
+    let Rested { seat, clock: _ } = finish_matcher(rt, &hall.turnstile, trim, matcher, given);
     hall.turnstile.join(&mut hall.seat, seat);
 }
 
@@ -203,6 +217,7 @@ where
 fn join_matchers<S, K, C, R>(
     rt: &R,
     hall: &mut Hall<S, K, C>,
+    trim: Trim,
     mut matchers: VecDeque<Matcher<C>>,
     given: &C,
 )
@@ -212,16 +227,16 @@ where
     C: Clock + Clone + Drop,
     R: Threads,
     requires ready { IsReady hall.old }
-    requires work { WorkIn C.tick (C.is_clone given.now) hall.old matchers.items }
+    requires work { WorkIn C.tick trim (C.is_clone given.now) hall.old matchers.items }
     ensures ready { IsReady hall.new }
-    ensures gathers { Gathers C.tick (C.is_clone given.now) hall.old hall.new }
+    ensures gathers { Gathers C.tick trim (C.is_clone given.now) hall.old hall.new }
     ensures out { (others : ℕ) → HasOut (others + length matchers.items) hall.old.seat → HasOut others hall.new.seat }
 {
     for _n in 0..matchers.len() {
         let Some(matcher) = matchers.pop_front() else {
             return;
         };
-        end_matcher(rt, hall, matcher, given);
+        end_matcher(rt, hall, trim, matcher, given);
     }
 }
 
@@ -230,6 +245,7 @@ where
 pub(crate) fn stop_matchers<S, K, C, R>(
     rt: &R,
     hall: &mut Hall<S, K, C>,
+    trim: Trim,
     matchers: VecDeque<Matcher<C>>,
     given: &C,
 )
@@ -239,9 +255,9 @@ where
     C: Clock + Clone + Drop,
     R: Threads,
     requires ready { IsReady hall.old }
-    requires work { WorkIn C.tick (C.is_clone given.now) hall.old matchers.items }
+    requires work { WorkIn C.tick trim (C.is_clone given.now) hall.old matchers.items }
     ensures ready { IsReady hall.new }
-    ensures gathers { Gathers C.tick (C.is_clone given.now) hall.old hall.new }
+    ensures gathers { Gathers C.tick trim (C.is_clone given.now) hall.old hall.new }
     ensures whole { HasOut (length matchers.items) hall.old.seat → IsWholeIn hall.new }
 {
     for matcher in matchers.iter() {
@@ -249,6 +265,6 @@ where
             stop.set();
         }
     }
-    join_matchers(rt, hall, matchers, given);
+    join_matchers(rt, hall, trim, matchers, given);
     hall.turnstile.settle(&mut hall.seat);
 }

@@ -16,7 +16,7 @@ use crate::matchers::{start_matchers, step_all, stop_matchers};
 use crate::pool::Pool;
 use crate::rounds::{Round, drain, ring};
 use crate::serve_end::{ServeEnd, ServeWhy};
-use hub_desk::{Config, HubValue, Turnstile};
+use hub_desk::{Config, HubValue, Trim, Turnstile};
 use hub_model::laws::no_entry_is_legal;
 use q_base::Memory;
 use q_outside::{Clock, Doors, Gate, Sink, Source};
@@ -96,6 +96,7 @@ fn ring_all<P, C, G, R>(
     clock: &C,
     gate: &G,
     matchers: &mut VecDeque<Matcher<C>>,
+    trim: Trim,
     connections: u64,
 ) -> ServeEnd
 where
@@ -105,19 +106,19 @@ where
     R: Threads + Wait + Copy + Send + 'static,
     requires ready { IsReady hall.old }
     requires room { HaveRoom (P.at doors.old) hall.old 0 }
-    requires work { WorkIn C.tick (C.is_clone clock.now) hall.old matchers.old.items }
+    requires work { WorkIn C.tick trim (C.is_clone clock.now) hall.old matchers.old.items }
     ensures stays { Stays hall.old hall.new }
     ensures ready { IsReady hall.new }
     ensures room { HaveRoom (P.at doors.new) hall.new 0 }
     ensures out { KeepsOut hall.old hall.new }
     ensures count { length matchers.new.items ≡ length matchers.old.items }
-    ensures work { WorkIn C.tick (C.is_clone clock.now) hall.new matchers.new.items }
+    ensures work { WorkIn C.tick trim (C.is_clone clock.now) hall.new matchers.new.items }
     ensures ends { (first : DoorsView P.From P.To) → Going P.From.at P.To.at P.To.ended C.tick (C.is_clone clock.now) first (P.at doors.old) hall.old [] 0 0 → Ends P.From.at P.To.at P.To.ended C.tick (C.is_clone clock.now) first (P.at doors.new) hall.new connections result }
 {
     for given in 0..connections {
         let why = match ring(rt, alloc, doors, hall, clock, gate, given) {
             Round::Came => {
-                step_all(rt, &hall.turnstile, matchers, clock);
+                step_all(rt, &hall.turnstile, trim, matchers, clock);
                 continue;
             }
             Round::NoMemory => ServeWhy::Memory,
@@ -144,7 +145,7 @@ fn serve_all<P, C, G, R>(
     clock: &C,
     gate: &G,
     matchers: &mut VecDeque<Matcher<C>>,
-    count: u32,
+    crew: Crew,
     connections: u64,
 ) -> ServeEnd
 where
@@ -155,19 +156,29 @@ where
     requires ready { IsReady hall.old }
     requires empty { (hall.old.running.items ≡ []) × (met_in hall.old ≡ []) }
     requires none { matchers.old.items ≡ [] }
-    requires capacity { count ≤ deque_capacity matchers.old }
+    requires capacity { crew.matchers ≤ deque_capacity matchers.old }
     requires some { 0 < connections }
     ensures setting { setting_in hall.new ≡ setting_in hall.old }
     ensures ready { IsReady hall.new }
     ensures room { HaveRoom (P.at doors.new) hall.new 0 }
     ensures out { HasOut 0 hall.old.seat → HasOut (length matchers.new.items + length hall.new.running.items) hall.new.seat }
-    ensures work { WorkIn C.tick (C.is_clone clock.now) hall.new matchers.new.items }
+    ensures work { WorkIn C.tick crew.trim (C.is_clone clock.now) hall.new matchers.new.items }
     ensures ends { Ends P.From.at P.To.at P.To.ended C.tick (C.is_clone clock.now) (P.at doors.old) (P.at doors.new) hall.new connections result }
 {
-    if start_matchers(rt, alloc, hall, matchers, clock, count).is_err() {
+    if start_matchers(rt, alloc, hall, matchers, clock, crew).is_err() {
         return no_memory();
     }
-    ring_all(rt, alloc, doors, hall, clock, gate, matchers, connections)
+    ring_all(
+        rt,
+        alloc,
+        doors,
+        hall,
+        clock,
+        gate,
+        matchers,
+        crew.trim,
+        connections,
+    )
 }
 
 /// Serves the connections that come through the doors, each at a hub of this configuration, in a thread
@@ -175,7 +186,8 @@ where
 /// for, whichever it is. At most `workers` of them have buffers at the same time, and none while it waits
 /// for a request. Each is handed back once, in the order in which they end. All memory for a
 /// connection is taken before the doors are asked for it. Where no thread can be made for one, it waits
-/// until one can. Where none is to come, no memory is taken.
+/// until one can. Where none is to come, no memory is taken. The matchers of the crew match all commits and
+/// drop old changes, as far as its trim says.
 pub fn serve<P, C, G, R>(
     rt: &R,
     alloc: Global,
@@ -193,7 +205,7 @@ where
     R: Threads + Wait + Copy + Send + 'static,
     requires places { 0 < crew.places }
     requires workers { 0 < crew.workers }
-    ensures { Serves P.From.at P.To.at P.To.ended C.tick (C.is_clone clock.now) config (P.at doors.old) (P.at doors.new) connections result }
+    ensures { Serves P.From.at P.To.at P.To.ended C.tick (C.is_clone clock.now) config crew.trim (P.at doors.old) (P.at doors.new) connections result }
 {
     if connections == 0 {
         return ServeEnd {
@@ -201,8 +213,7 @@ where
             why: ServeWhy::Limit,
         };
     }
-    let count = crew.matchers;
-    let Ok(mut matchers) = VecDeque::with_capacity(alloc, count as usize) else {
+    let Ok(mut matchers) = VecDeque::with_capacity(alloc, crew.matchers as usize) else {
         return no_memory();
     };
     let Ok(mut hall) = hall_of(alloc, config, crew) else {
@@ -216,10 +227,10 @@ where
         clock,
         gate,
         &mut matchers,
-        count,
+        crew,
         connections,
     );
     drain(rt, doors, &mut hall);
-    stop_matchers(rt, &mut hall, matchers, clock);
+    stop_matchers(rt, &mut hall, crew.trim, matchers, clock);
     end
 }

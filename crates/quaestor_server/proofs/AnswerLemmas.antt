@@ -12,7 +12,9 @@ use Rattle.http_front.specs.declared.told.Told.{Told}
 use Rattle.http_front.specs.declared.told.Told.TheVariants as answers
 use Rattle.http_message.specs.Message.{Message}
 use Rattle.hub_core.specs.PageRoom.{PageRoomView, IsRoomFor}
-use Rattle.hub_desk.specs.Desk.{matching, MatchesAll}
+use Rattle.hub_desk.specs.declared.trim.Trim.TheVariants.{All}
+use Rattle.hub_desk.specs.Desk.{matching, MatchesAll, dropping_all, DropsOld, IsWholeDropOf}
+use Rattle.hub_model.specs.declared.entry.Dropped.{Dropped}
 use Rattle.hub_model.specs.declared.entry.Entry.{Entry}
 use Rattle.hub_model.specs.declared.entry.Entry.TheVariants.{Purges}
 use Rattle.hub_model.specs.declared.entry.Matched.{Matched}
@@ -96,6 +98,26 @@ made_match g old new mine mine_new moment asked match page asked_is m =
       is_of = m.entry_is;
       fresh = fresh_matching g old (state_of g (m.made.before ++ m.made.helps)) moment m.entry m.entry_is;
       told_is = (match, m.told_is, refl);
+    }))
+
+-- a drop of all old changes reads nothing
+fresh_dropping : (g : Setting) (old : List Entry) (s : State) (moment : ℕ) (e : Entry) → e ≡ dropping_all s moment → IsFresh g old e
+fresh_dropping g old s moment e is = subst (λ (x : Entry). IsFresh g old x) (sym is) (elim (cases_Bool (nat_lt s.horizon s.front)) [
+  | inl above ↦ rw above tt
+  | inr there ↦ rw there tt
+])
+
+-- a desk that dropped all old changes served that ask, by the law that a tick of it tells the front
+pub made_drop : ((g : Setting) (old new : List Entry) (mine_old mine_new : List (ℕ × Entry)) (moment : ℕ) (told : Dropped) → (d : DropsOld g old new mine_old mine_new moment All told) → IsWholeDropOf d.replied told)
+    → (g : Setting) (old new : List Entry) (mine mine_new : List (ℕ × Entry)) (moment : ℕ) (asked : Result Ask Refused) (drop : Dropped) (page : List ℕ) → asked ≡ Ok asks.Horizon → DropsOld g old new mine mine_new moment All drop → IsAnswer g false old new mine mine_new moment true asked (answers.Dropped drop) page
+made_drop law g old new mine mine_new moment asked drop page asked_is d =
+    subst (λ (a : Result Ask Refused). IsAnswer g false old new mine mine_new moment true a (answers.Dropped drop) page) (sym asked_is) (serves (record {
+      entry = d.entry;
+      replied = d.replied;
+      made = d.made;
+      is_of = d.entry_is;
+      fresh = fresh_dropping g old (state_of g (d.made.before ++ d.made.helps)) moment d.entry d.entry_is;
+      told_is = (drop, law g old new mine mine_new moment drop d, refl);
     }))
 
 -- a desk that told purges served that ask

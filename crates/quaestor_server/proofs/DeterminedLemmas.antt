@@ -12,15 +12,16 @@ use Rattle.http_front.specs.declared.refused.Refused.{Refused}
 use Rattle.http_front.specs.declared.told.Told.{Told}
 use Rattle.http_front.specs.declared.told.Told.TheVariants as answers
 use Rattle.http_message.specs.Item.{Item}
-use Rattle.hub_desk.specs.Desk.{matching, IsFrontOf}
+use Rattle.hub_desk.specs.Desk.{matching, IsFrontOf, dropping_all, IsWholeDropOf}
 use Rattle.hub_model.specs.declared.entry.Entry.{Entry}
-use Rattle.hub_model.specs.declared.entry.Entry.TheVariants.{Read, Match, Tick}
+use Rattle.hub_model.specs.declared.entry.Entry.TheVariants.{Read, Match, Tick, Horizon}
+use Rattle.hub_model.specs.declared.entry.Dropped.{Dropped}
 use Rattle.hub_model.specs.declared.entry.Matched.{Matched}
 use Rattle.hub_model.specs.declared.entry.Tags.{Tags}
 use Rattle.hub_model.specs.Desk.{IsPrefix, Makes, Learns}
 use Rattle.hub_model.specs.Helps.{helps_of}
 use Rattle.hub_model.specs.Legal.{MayFollow, IsLegal, IsLegalFrom}
-use Rattle.hub_model.specs.Reply.{Replied, reply, wrote, read, matched, fetched, purged, counted}
+use Rattle.hub_model.specs.Reply.{Replied, reply, wrote, read, matched, fetched, purged, counted, dropped}
 use Rattle.hub_model.specs.Setting.{Setting}
 use Rattle.hub_model.specs.State.{State, start}
 use Rattle.hub_model.specs.Step.{after, after_all, state_of}
@@ -146,6 +147,19 @@ match_at g known e moment is =
     let none : helps_of g (state_of g known) e ≡ [] = ap (λ (x : Entry). helps_of g (state_of g known) x) is ∙ match_alone g (state_of g known) (state_of g (helped g known e)) moment in
     is ∙ ap (λ (l : List Entry). matching (state_of g l) moment) (ap (λ (l : List Entry). known ++ l) none ∙ append-nil known)
 
+-- nor ahead of the one that drops all old changes
+drop_alone : (g : Setting) (s t : State) (moment : ℕ) → helps_of g s (dropping_all t moment) ≡ []
+drop_alone g s t moment = by (nat_lt t.horizon t.front)
+  where
+    by : (b : Bool) → helps_of g s (if b then Horizon moment t.front else Tick moment) ≡ []
+    by true = refl
+    by false = refl
+
+drop_at : (g : Setting) (known : List Entry) (e : Entry) (moment : ℕ) → e ≡ dropping_all (state_of g (helped g known e)) moment → e ≡ dropping_all (state_of g known) moment
+drop_at g known e moment is =
+    let none : helps_of g (state_of g known) e ≡ [] = ap (λ (x : Entry). helps_of g (state_of g known) x) is ∙ drop_alone g (state_of g known) (state_of g (helped g known e)) moment in
+    is ∙ ap (λ (l : List Entry). dropping_all (state_of g l) moment) (ap (λ (l : List Entry). known ++ l) none ∙ append-nil known)
+
 -- an ask has one entry there
 same_entry : (g : Setting) (known : List Entry) (asked : Result Ask Refused) (moment : ℕ) (e f : Entry) → IsEntryOf asked moment (state_of g (helped g known e)) e → IsEntryOf asked moment (state_of g (helped g known f)) f → IsFresh g known e → IsFresh g known f → MayFollow g (state_of g (helped g known e)) e → MayFollow g (state_of g (helped g known f)) f → e ≡ f
 same_entry g known (Ok (asks.Write change condition)) moment e f p q fresh again may might = p ∙ sym q
@@ -154,6 +168,7 @@ same_entry g known (Ok (asks.Read key tags head)) moment e f p q fresh again may
     let second = read_at g known f moment key tags q.0 q.1 again might in
     p.1 ∙ ap (λ (n : ℕ). Read moment key tags n) (first ∙ sym second) ∙ sym q.1
 same_entry g known (Ok asks.MatchAll) moment e f p q fresh again may might = match_at g known e moment p ∙ sym (match_at g known f moment q)
+same_entry g known (Ok asks.Horizon) moment e f p q fresh again may might = drop_at g known e moment p ∙ sym (drop_at g known f moment q)
 same_entry g known (Ok (asks.Fetch head)) moment e f p q fresh again may might = p ∙ sym q
 same_entry g known (Ok (asks.Purges from head)) moment e f p q fresh again may might = p ∙ sym q
 same_entry g known (Ok (asks.Stats head)) moment e f p q fresh again may might = p ∙ sym q
@@ -167,12 +182,24 @@ same_front (matched match) m n p q = p ∙ sym q
 same_front (fetched page) m n p q = absurd p
 same_front (purged list) m n p q = absurd p
 same_front (counted stats) m n p q = p ∙ sym q
+same_front (dropped drop) m n p q = absurd p
+
+-- and one horizon
+same_horizon : (replied : Replied) (d e : Dropped) → IsWholeDropOf replied d → IsWholeDropOf replied e → d ≡ e
+same_horizon (wrote written) d e p q = absurd p
+same_horizon (read answer) d e p q = absurd p
+same_horizon (matched match) d e p q = absurd p
+same_horizon (fetched page) d e p q = absurd p
+same_horizon (purged list) d e p q = absurd p
+same_horizon (counted stats) d e p q = p ∙ sym q
+same_horizon (dropped drop) d e p q = p ∙ sym q
 
 -- an entry has one reply, but for how a list of purges is kept
 same_told : (asked : Result Ask Refused) (replied : Replied) (told again : Told) (page other : List ℕ) → IsToldOf asked replied told page → IsToldOf asked replied again other → AreAlike told again page other
 same_told (Ok (asks.Write change condition)) (wrote written) told again page other p q = alike told again (answers.Write written) page other p q refl
 same_told (Ok (asks.Read key tags head)) (read answer) told again page other p q = alike told again (answers.Read answer) page other p q refl
 same_told (Ok asks.MatchAll) replied told again page other p q = alike told again (answers.Match p.0) page other p.2 (q.2 ∙ ap answers.Match (same_front replied q.0 p.0 q.1 p.1)) refl
+same_told (Ok asks.Horizon) replied told again page other p q = alike told again (answers.Dropped p.0) page other p.2 (q.2 ∙ ap answers.Dropped (same_horizon replied q.0 p.0 q.1 p.1)) refl
 same_told (Ok (asks.Fetch head)) (fetched stored) told again page other p q = alike told again (answers.Page stored.moment) page other p.0 q.0 (p.1 ∙ sym q.1)
 same_told (Ok (asks.Purges from head)) (purged list) told again page other p q = purges_alike told again page other p.0 q.0 p.2 q.2 (sym p.1 ∙ q.1)
 same_told (Ok (asks.Stats head)) (counted stats) told again page other p q = alike told again (answers.Count stats) page other p q refl

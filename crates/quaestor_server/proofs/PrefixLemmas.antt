@@ -1,7 +1,7 @@
 -- Beginnings of lists, and calls of a desk one after another.
 use Rattle.std.proofs.Common.{◌≡◌, ℕ, ◌≤◌, List, [], ◌∷◌, ◌++◌, length, sym, ◌∙◌, subst, append_assoc, append-nil, length-append, arith, fold, refl, inl, inr}
 use Rattle.hub_model.specs.declared.entry.Entry.{Entry}
-use Rattle.hub_model.specs.declared.entry.Entry.TheVariants.{Write, Read, Match, Fetch, Purges, Tick}
+use Rattle.hub_model.specs.declared.entry.Entry.TheVariants.{Write, Read, Match, Fetch, Purges, Tick, Horizon}
 use Rattle.std.proofs.lemmas.Bool.{cases_Bool}
 use Rattle.std.proofs.lemmas.List.Sums.{fold-append}
 use Rattle.quaestor_server.specs.Ask.{IsFresh}
@@ -40,6 +40,7 @@ commits-after g s (Match moment to) = omega arith
 commits-after g s (Fetch moment) = omega arith
 commits-after g s (Purges moment from) = omega arith
 commits-after g s (Tick moment) = omega arith
+commits-after g s (Horizon moment to) = omega arith
 
 -- a list of entries leaves no fewer commits
 commits-from : (g : Setting) (s : State) (more : List Entry) → length s.journal ≤ length (fold (after g) s more).journal
@@ -66,6 +67,7 @@ fresh_before g known later (Match moment to) p h = tt
 fresh_before g known later (Fetch moment) p h = tt
 fresh_before g known later (Purges moment from) p h = tt
 fresh_before g known later (Tick moment) p h = tt
+fresh_before g known later (Horizon moment to) p h = tt
 
 -- what was added to the entries of before is added to those of still before
 pub mine_of : (before mid new more : List (ℕ × Entry)) → new ≡ mid ++ more → mid ≡ before → new ≡ before ++ more

@@ -5,14 +5,15 @@ use Rattle.http_front.specs.Asks.{ask_of, shape_of, unframed_shape}
 use Rattle.http_front.specs.Early.{is_early}
 use Rattle.http_front.specs.Routes.{all_routes}
 use Rattle.http_front.specs.declared.ask.Ask.{Ask}
-use Rattle.http_front.specs.declared.ask.Ask.TheVariants.{Write, Read, Purges, MatchAll, Fetch, Stats}
+use Rattle.http_front.specs.declared.ask.Ask.TheVariants.{Write, Read, Purges, MatchAll, Horizon, Fetch, Stats}
 use Rattle.http_front.specs.declared.refused.Refused.{Refused}
 use Rattle.http_front.specs.declared.refused.Refused.TheVariants.{Framing}
 use Rattle.http_front.specs.declared.shape.Shape.{Shape}
 use Rattle.http_front.specs.declared.told.Told.{Told}
 use Rattle.http_front.specs.declared.told.Told.TheVariants as answers
 use Rattle.http_message.specs.Item.{Item, request, unframed}
-use Rattle.hub_desk.specs.Desk.{matching, IsFrontOf, IsBehind}
+use Rattle.hub_desk.specs.Desk.{matching, IsFrontOf, IsBehind, dropping_all, IsWholeDropOf}
+use Rattle.hub_model.specs.declared.entry.Dropped.{Dropped}
 use Rattle.hub_model.specs.declared.entry.Entry.{Entry}
 use Rattle.hub_model.specs.declared.entry.Entry.TheVariants as entries
 use Rattle.hub_model.specs.declared.entry.Matched.{Matched}
@@ -42,6 +43,7 @@ abbrev pub IsEntryOf : Result Ask Refused → ℕ → State → Entry → Type 0
 IsEntryOf (Ok (Write change condition)) moment s e = e ≡ entries.Write moment change condition
 IsEntryOf (Ok (Read key tags head)) moment s e = (at : ℕ) × (e ≡ entries.Read moment key tags at)
 IsEntryOf (Ok MatchAll) moment s e = e ≡ matching s moment
+IsEntryOf (Ok Horizon) moment s e = e ≡ dropping_all s moment
 IsEntryOf (Ok (Fetch head)) moment s e = e ≡ entries.Fetch moment
 IsEntryOf (Ok (Purges from head)) moment s e = e ≡ entries.Purges moment from
 IsEntryOf (Ok (Stats head)) moment s e = e ≡ entries.Tick moment
@@ -52,6 +54,7 @@ abbrev pub IsToldOf : Result Ask Refused → Replied → Told → List ℕ → T
 IsToldOf (Ok (Write change condition)) (wrote written) told page = told ≡ answers.Write written
 IsToldOf (Ok (Read key tags head)) (read answer) told page = told ≡ answers.Read answer
 IsToldOf (Ok MatchAll) replied told page = (match : Matched) × IsFrontOf replied match × (told ≡ answers.Match match)
+IsToldOf (Ok Horizon) replied told page = (drop : Dropped) × IsWholeDropOf replied drop × (told ≡ answers.Dropped drop)
 IsToldOf (Ok (Fetch head)) (fetched p) told page = (told ≡ answers.Page p.moment) × (page ≡ page_text p)
 IsToldOf (Ok (Purges from head)) (purged list) told page = (reply : PurgeReply) × (list ≡ told_of reply) × (told ≡ answers.Purges reply)
 IsToldOf (Ok (Stats head)) (counted stats) told page = told ≡ answers.Count stats
@@ -68,6 +71,7 @@ abbrev pub MayRunOut : Setting → List Entry → Result Ask Refused → Type 0
 MayRunOut g known (Ok (Write change condition)) = is_accepted g (state_of g known) change condition ≡ true
 MayRunOut g known (Ok (Read key tags head)) = Unit {0}
 MayRunOut g known (Ok MatchAll) = IsBehind (state_of g known)
+MayRunOut g known (Ok Horizon) = ⊥
 MayRunOut g known (Ok (Fetch head)) = ⊥
 MayRunOut g known (Ok (Purges from head)) = Unit {0}
 MayRunOut g known (Ok (Stats head)) = ⊥

@@ -7,7 +7,7 @@ ghost use Rattle.quaestor_server.specs.Answer.{IsAnswer, fetched_bytes};
 
 use http_front::{Ask, Refused, Told};
 use hub_core::PageRoom;
-use hub_desk::Desk;
+use hub_desk::{Desk, Trim, all_is_dropped_up_to_the_front};
 use q_base::{Memory, Moment};
 
 /// Makes the entry that was asked for, unless memory runs out, and returns the reply. A page is
@@ -62,6 +62,11 @@ fn make<D: Desk>(
             Ok(matched) => Told::Match(matched),
             Err(_) => Told::Memory,
         },
+        Ok(Ask::Horizon) => {
+            // The law that such a drop tells the horizon by the front where it makes a tick.
+            all_is_dropped_up_to_the_front();
+            Told::Dropped(desk.drop_old(moment, Trim::All))
+        }
         Ok(Ask::Fetch { .. }) => {
             desk.fetch(moment, pages);
             Told::Page(pages.moment())

@@ -14,9 +14,10 @@ pub use dialogue::{
 pub use http_front::{Allow, Ask, DocumentReason, Refused, ReplyRoom, Routes, Shape, Told};
 pub use http_message::FramingRefusal;
 pub use hub_core::{Config, ConfigRefusal, Hub, PageRoom};
-pub use hub_desk::{Desk, Owned};
+pub use hub_desk::{Desk, Owned, Trim};
 pub use hub_model::{
-    Answer, Change, Condition, Entry, Found, Matched, Outcome, PurgeReply, Stats, Tags, Written,
+    Answer, Change, Condition, Dropped, Entry, Found, Matched, Outcome, PurgeReply, Stats, Tags,
+    Written,
 };
 pub use laws::{
     bytes_and_moments_determine_the_texts, own_entries_are_in_place, owned_histories_are_alone,

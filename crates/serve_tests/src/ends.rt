@@ -5,7 +5,7 @@ use crate::sinks::{GET, KeptSink, connections_of, requests};
 use hub_core::Config;
 use q_base::{Memory, Moment};
 use q_outside::{FixedClock, ListDoors, OpenGate, PlainSource, Script, Served};
-use quaestor_serve::{Crew, ServeEnd, ServeWhy, serve};
+use quaestor_serve::{Crew, ServeEnd, ServeWhy, Trim, serve};
 use std::alloc::Global;
 use std::marker::Brand;
 use std::sync::Wait;
@@ -92,6 +92,7 @@ fn case_of(connections: usize, failing: Option<u64>, places: u32, most: u64) -> 
         places,
         workers: places,
         matchers: 0,
+        trim: Trim::Full,
     };
     Case {
         connections,
@@ -134,6 +135,7 @@ fn many_connections_are_served_beside_matchers(rt: HostRuntime) -> Result<(), Fa
             places: 4,
             workers: 4,
             matchers: 2,
+            trim: Trim::Full,
         },
         most: 100,
     };

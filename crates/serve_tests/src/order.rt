@@ -5,7 +5,7 @@ use crate::sinks::{KeptSink, connection_from};
 use hub_core::Config;
 use q_base::{Memory, Moment};
 use q_outside::{FixedClock, ListDoors, OpenGate, PlainSource, Script};
-use quaestor_serve::{Crew, serve};
+use quaestor_serve::{Crew, Trim, serve};
 use std::alloc::Global;
 use std::collections::VecDeque;
 use std::marker::Brand;
@@ -55,6 +55,7 @@ fn serve_counted<L: Ledger, R: Threads + Wait + Copy + Send + 'static>(
         places: 1,
         workers: 1,
         matchers: 0,
+        trim: Trim::Full,
     };
     let _ = serve(
         rt,

@@ -3,7 +3,7 @@
 use crate::store::{new_book, query, write};
 use active_queries::{ActiveQueries, ActiveQuery};
 use commit_book::Book;
-use q_base::Commit;
+use q_base::{Commit, Memory};
 use query_core::Kind;
 use query_normal::{Key, Normal, normal};
 use std::alloc::Global;
@@ -74,8 +74,12 @@ fn write_all(alloc: Global, book: &mut Book, writes: &[(&[u8], &[u8])]) -> Resul
     Ok(())
 }
 
-/// Lets all queries see all commits. Where memory runs out, the second call goes on.
+/// Lets all queries see all commits of a book that dropped none. Where memory runs out, the second call
+/// goes on.
 fn follow(alloc: Global, book: &Book, queries: &mut ActiveQueries) -> Result<(), Fail> {
+    if book.horizon() > 0 {
+        return Err(Fail::from(Memory));
+    }
     if queries.follow_all(alloc, book, book.count()).is_err() {
         queries.follow_all(alloc, book, book.count())?;
     }
@@ -128,13 +132,16 @@ fn write_two(alloc: Global, book: &mut Book) -> Result<(), Fail> {
     Ok(())
 }
 
-/// Lets the query of a key see all commits.
+/// Lets the query of a key see all commits of a book that dropped none.
 fn follow_one(
     alloc: Global,
     book: &Book,
     queries: &mut ActiveQueries,
     key: &Key,
 ) -> Result<(), Fail> {
+    if book.horizon() > 0 {
+        return Err(Fail::from(Memory));
+    }
     Ok(queries.follow(alloc, book, key, book.count())?)
 }
 

@@ -4,6 +4,8 @@
 #[cfg(test)]
 mod following;
 #[cfg(test)]
+mod newest;
+#[cfg(test)]
 mod slow;
 #[cfg(test)]
 mod store;

@@ -63,6 +63,9 @@ pub fn write(
     text: &[u8],
 ) -> Result<Commit, Fail> {
     let change = change(alloc, collection, id, text)?;
+    if book.count() == u64::MAX {
+        return Err(Fail::from(Memory));
+    }
     Ok(book.add(&change)?)
 }
 
@@ -117,7 +120,11 @@ fn verdict(query: &Query, row: &CommitRow) -> Verdict {
 /// The last commit, if there is one.
 fn last_rows(book: &Book) -> Result<Vec<CommitRow>, Fail> {
     let count = book.count();
-    Ok(book.commits(count.saturating_sub(1), count)?)
+    let from = count.saturating_sub(1);
+    if from < book.horizon() {
+        return Err(Fail::from(Memory));
+    }
+    Ok(book.commits(from, count)?)
 }
 
 /// The last commit.

@@ -10,7 +10,7 @@ use std::alloc::Global;
 use std::test::Fail;
 
 /// The next of a row of numbers below 65,537.
-fn next(number: u64) -> u64 {
+pub fn next(number: u64) -> u64 {
     ((number % 65_537) * 75 + 74) % 65_537
 }
 
@@ -40,9 +40,9 @@ fn document(alloc: Global, number: u64) -> Result<Vec<u8>, Fail> {
 
 /// Which records a walk writes, and of a hundred writes how many delete.
 #[derive(Clone, Copy, Drop)]
-struct Habit {
-    ids: u64,
-    deletions: u64,
+pub struct Habit {
+    pub ids: u64,
+    pub deletions: u64,
 }
 
 /// The collection of a write: of twenty one is in another.
@@ -69,7 +69,7 @@ fn text(alloc: Global, number: u64, deletes: bool) -> Result<Vec<u8>, Fail> {
 }
 
 /// A random write.
-fn write_one(alloc: Global, book: &mut Book, number: u64, habit: &Habit) -> Result<u64, Fail> {
+pub fn write_one(alloc: Global, book: &mut Book, number: u64, habit: &Habit) -> Result<u64, Fail> {
     let second = next(number);
     let third = next(second);
     let id = id(alloc, record(number, habit))?;

@@ -3,7 +3,7 @@
 use hub_core::Config;
 use q_base::Moment;
 use q_outside::{FixedClock, Limits, OpenGate};
-use quaestor_serve::{Crew, ServeEnd, serve};
+use quaestor_serve::{Crew, ServeEnd, Trim, serve};
 use std::fs::{File, Files};
 use std::io::{Read, Write};
 use std::net::{Net, TcpListener, TcpStream};
@@ -34,6 +34,7 @@ where
         places: 1,
         workers: 1,
         matchers: 1,
+        trim: Trim::Full,
     };
     serve(
         &rt,

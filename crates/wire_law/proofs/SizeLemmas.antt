@@ -16,7 +16,7 @@ use Rattle.http_front.specs.declared.head.Head.{Head}
 use Rattle.http_front.specs.declared.head.MediaType.{MediaType}
 use Rattle.http_front.specs.declared.head.MediaType.TheVariants.{Json, OctetStream}
 use Rattle.http_front.specs.declared.refused.Allow.{Allow}
-use Rattle.http_front.specs.declared.refused.Allow.TheVariants.{Record, Match, Other}
+use Rattle.http_front.specs.declared.refused.Allow.TheVariants.{Record, Post, Other}
 use Rattle.http_message.specs.Limits.{field_capacity, head_limit}
 use Rattle.wire_law.proofs.PartLemmas.{IsInWidth}
 
@@ -76,7 +76,7 @@ lifetime_short (suc n) small =
 
 methods_short : (allow : Allow) → length (methods_text allow) ≤ 22
 methods_short Record = omega arith
-methods_short Match = omega arith
+methods_short Post = omega arith
 methods_short Other = omega arith
 
 allow_short : (o : Option Allow) → IsShort 1 100 (allow_field o)

@@ -14,7 +14,7 @@ use Rattle.http_front.specs.declared.refused.Refused.{Refused}
 use Rattle.http_front.specs.declared.refused.Refused.TheVariants.{Framing, BadHost, BadTarget, NoRoute, BadMethod, NoLength, BadEncoding, BadTag, BadFilter, BadDocument}
 use Rattle.http_front.specs.declared.shape.Shape.{Shape}
 use Rattle.http_front.specs.declared.told.Told.{Told}
-use Rattle.http_front.specs.declared.told.Told.TheVariants.{Write, Read, Match, Page, Count, Purges, Refusal, Memory}
+use Rattle.http_front.specs.declared.told.Told.TheVariants.{Write, Read, Match, Dropped, Page, Count, Purges, Refusal, Memory}
 use Rattle.client_wire.specs.Numbers.{body_limit}
 use Rattle.wire_law.specs.Printed.{IsPrinted, ReplyIsRead, printed_head, printed_size}
 use Rattle.wire_law.specs.Told.{ToldIsRead}
@@ -58,6 +58,7 @@ told_sized : (shape : Shape) (told : Told) (page : List ℕ) (close : Bool) → 
 told_sized shape (Write written) page close quiet limit = written_sized shape.put written (length (body_of (Write written) page)) close
 told_sized shape (Read answer) page close quiet limit = read_sized answer answer.result close
 told_sized shape (Match matched) page close quiet limit = refl
+told_sized shape (Dropped dropped) page close quiet limit = refl
 told_sized shape (Page clock) page close quiet limit = refl
 told_sized shape (Count stats) page close quiet limit = refl
 told_sized shape (Purges reply) page close quiet limit =
@@ -71,6 +72,7 @@ not_asked : (shape : Shape) (told : Told) → shape.asks ≡ false → is_asked 
 not_asked shape (Write written) quiet = refl
 not_asked shape (Read answer) quiet = refl
 not_asked shape (Match matched) quiet = refl
+not_asked shape (Dropped dropped) quiet = refl
 not_asked shape (Page clock) quiet = refl
 not_asked shape (Count stats) quiet = refl
 not_asked shape (Purges reply) quiet = refl

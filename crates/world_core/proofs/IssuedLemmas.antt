@@ -28,7 +28,7 @@ OfPrefixes = (key : KeyShape) (journal more : List Change) (n : ℕ) → n ≤ l
 
 -- what a caller knows by its tags
 abbrev pub Known : Type 0
-Known = (key : KeyShape) (journal : List Change) (at : ℕ) (tags : List ℕ) (tag : ℕ) → known_at key journal at (Listed tags) ≡ Some tag → IsGreatestSame key journal at tags tag
+Known = (key : KeyShape) (journal : List Change) (horizon at : ℕ) (tags : List ℕ) (tag : ℕ) → known_at key journal horizon at (Listed tags) ≡ Some tag → IsGreatestSame key journal horizon at tags tag
 
 -- what a tag says, where there is one
 abbrev IsTagged : State → KeyShape → ℕ → Option ℕ → Type 0
@@ -131,7 +131,7 @@ module _ (g : Setting) (s : State) (key : KeyShape) (tags : List ℕ) where
   pub read_held : (reply.status == 304) ≡ false → IsHeldReply after key reply
   read_held other =
       let f = result_at key s.journal at in
-      let known = known_at key s.journal at (Listed tags) in
+      let known = known_at key s.journal s.horizon at (Listed tags) in
       let commit = commit_of a f known in
       record {
         issued = record {
@@ -150,11 +150,11 @@ module _ (g : Setting) (s : State) (key : KeyShape) (tags : List ℕ) where
   pub updated_held : Known → (held : Reply) → IsHeldReply after key held → same_tag held.tag reply.tag ≡ true → (reply.status == 304) ≡ true → IsHeldReply after key (updated held reply)
   updated_held is_known held h alike same =
       let f = result_at key s.journal at in
-      let known = known_at key s.journal at (Listed tags) in
+      let known = known_at key s.journal s.horizon at (Listed tags) in
       let commit = commit_of a f known in
       let both = alike_tags held.tag reply.tag alike in
       let tag = both.0 in
-      let great = is_known key s.journal at tags tag (sym (same_known a f known same) ∙ both.2) in
+      let great = is_known key s.journal s.horizon at tags tag (sym (same_known a f known same) ∙ both.2) in
       let old : IsTagged s key held.commit (Some tag) = subst (λ (o : Option ℕ). IsTagged s key held.commit o) both.1 h.issued.tagged in
       let onward : result_at key s.journal held.commit ≡ result_at key s.journal reply.commit =
       sym old.1 ∙ great.same ∙ ap (result_at key s.journal) (sym commit) in

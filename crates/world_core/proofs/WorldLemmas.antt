@@ -147,7 +147,7 @@ first_matched behind covered s t f legal e =
 -- ---- an accepted write
 
 done_met : (g : Setting) (change : Change) (condition : Condition) (s : State) (commit : ℕ) (before : Found) (clock : ℕ) (met fits : Bool) (out : Written)
-    → is_met condition (found_now s change) (length s.journal) ≡ met → nat_le (kept_with s.journal change) g.capacity ≡ fits
+    → is_met condition (found_now s change) (length s.journal) ≡ met → nat_le (kept_with s.journal s.horizon change) g.capacity ≡ fits
     → written g change condition s ≡ out → out ≡ Done commit before clock → is_accepted g s change condition ≡ true
 done_met g change condition s commit before clock true true out m f e done = rw (m, f) refl
 done_met g change condition s commit before clock true false out m f e done = absurd (let x = rw (m, f) at e in cc)

@@ -8,9 +8,12 @@ use super::Seated;
 use super::gives::{give_unchanged, give_with};
 use crate::desk::Desk;
 use crate::hub_value::{HubValue, Noted};
+use crate::trim::{Trim, target_of};
 use hub_core::PageRoom;
-use hub_model::laws::longer_histories_are_later;
-use hub_model::{Answer, Change, Condition, Entry, Matched, PurgeReply, Stats, Tags, Written};
+use hub_model::laws::{commits_are_of_entries, longer_histories_are_later};
+use hub_model::{
+    Answer, Change, Condition, Dropped, Entry, Matched, PurgeReply, Stats, Tags, Written,
+};
 use q_base::{Memory, Moment};
 use query_normal::Key;
 use std::collections::LinkedList;
@@ -60,6 +63,8 @@ impl<R: Wait> Desk for Seated<'_, R> {
         change: Change,
         condition: Condition,
     ) -> Result<Written, Memory> {
+        // The law by which there is a number for the next commit.
+        commits_are_of_entries();
         let mut turn = self.turnstile.take(self.rt, &mut self.seat);
         let mut value = turn.value();
         match value.write(moment, &change, &condition) {
@@ -125,6 +130,25 @@ impl<R: Wait> Desk for Seated<'_, R> {
                 front: stats.front,
                 clock: stats.clock,
             })
+        }
+    }
+
+    fn drop_old(&mut self, moment: Moment, trim: Trim) -> Dropped {
+        let mut turn = self.turnstile.take(self.rt, &mut self.seat);
+        let mut value = turn.value();
+        let horizon = value.hub().horizon();
+        let to = target_of(value.hub(), trim);
+        if horizon < to {
+            let dropped = value.drop_to(moment, to);
+            give_with(turn, value, Entry::Horizon { moment, to });
+            dropped
+        } else {
+            let stats = value.tick(moment);
+            give_with(turn, value, Entry::Tick { moment });
+            Dropped {
+                horizon,
+                clock: stats.clock,
+            }
         }
     }
 

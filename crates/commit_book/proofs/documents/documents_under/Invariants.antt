@@ -6,4 +6,4 @@ use Rattle.commit_book.specs.Index.{document_under}
 use Rattle.commit_book.proofs.documents.documents_under.Given as goal
 
 abbrev pub invariant-loop-index : goal.invariant-loop-index
-invariant-loop-index l = l.found.items ≡ filter_map (λ id. row_of id (document_under l.rows l.records l.commit id)) (take l.index (keys_of l.records.entries))
+invariant-loop-index l = l.found.items ≡ filter_map (λ id. row_of id (document_under l.horizon l.rows.items l.records l.commit id)) (take l.index (keys_of l.records.entries))

@@ -14,4 +14,4 @@ push_under-requires c =
 pub returns : goal.returns
 returns c = λ name id there.
     known-added c.args.collections.now name c.args.collection _ c.pair_mut-records.result.1.now c.push_under.new.records c.pair_mut-records.ensures.value id c.args.index c.args.commit c.pair_mut-records.ensures.unique there
-    c.push_under.ensures.own c.push_under.ensures.others c.push_under.ensures.ids
+    c.push_under.ensures.own c.push_under.ensures.others c.push_under.ensures.bases c.push_under.ensures.ids

@@ -21,4 +21,4 @@ put_under-requires-clause-absent c =
 pub returns : goal.returns
 returns c = λ name there.
     new-added c.args.collections.now name c.args.collection _ c.pair_mut-records.result.1.now c.put_under.new.records c.pair_mut-records.ensures.value c.args.commit c.args.new c.pair_mut-records.ensures.unique there
-    c.put_under.ensures.own c.put_under.ensures.others c.put_under.ensures.ids
+    c.put_under.ensures.own c.put_under.ensures.others c.put_under.ensures.bases c.put_under.ensures.ids

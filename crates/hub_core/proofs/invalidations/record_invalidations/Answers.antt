@@ -13,6 +13,10 @@ loop-commit-init c = record {
   rest = search rules;
 }
 
+-- no commit of the loop is below the horizon
+pub push_invalidation-requires : goal.push_invalidation-requires
+push_invalidation-requires c = omega (arith, c.requires.above, c.loop-commit.auto.commit)
+
 pub loop-commit-preserved : goal.loop-commit-preserved
 loop-commit-preserved c =
     record {

@@ -1,9 +1,13 @@
 -- the queries have followed, and what they list is added to the invalidations of records
 use Rattle.std.proofs.Common.{arith}
 use Rattle.hub_core.proofs.IssueLemmas.{active-below, some-active}
-use Rattle.hub_core.proofs.KeepLemmas.{keeps-followed}
+use Rattle.hub_core.proofs.KeepLemmas.{keeps-followed, keeps-seen}
 use Rattle.hub_core.proofs.MatchLemmas.{invalidations-all}
 use Rattle.hub_core.proofs.invalidations.reserve_invalidations.Goals as goal
+
+-- the queries have seen the horizon, which is not above the front
+pub follow_all-requires-clause-kept : goal.follow_all-requires-clause-kept
+follow_all-requires-clause-kept c = keeps-seen c.args.book.now.journal c.args.front c.args.book.now.horizon c.args.copies.now.copies c.args.copies.now.idle c.args.queries.now.entries c.requires.above c.requires.kept
 
 pub returns-in_err-follow_all-clause-kept : goal.returns-in_err-follow_all-clause-kept
 returns-in_err-follow_all-clause-kept c =

@@ -6,4 +6,4 @@ use Rattle.hub_model.specs.Known.{has_result_of}
 use Rattle.hub_core.proofs.query_outcome.greatest_known.Given as goal
 
 abbrev pub invariant-loop-tag : goal.invariant-loop-tag
-invariant-loop-tag l = l.known ≡ reduce max (filter (has_result_of (Query l.kind l.query) l.book.journal l.commit) (take l.tag-index l.tags))
+invariant-loop-tag l = l.known ≡ reduce max (filter (has_result_of (Query l.kind l.query) l.book.journal l.book.horizon l.commit) (take l.tag-index l.tags))

@@ -11,8 +11,8 @@ returns-then-is_listed c =
     let key = Query c.args.kind c.args.query.now in
     let journal = c.args.book.now.journal in
     ap (outcome_of (result_at key journal c.args.commit))
-    (sym ((c.the_greatest_same_result_is_told.ensures.told key journal c.args.commit c.args.tags.now c.args.commit).1
-    (itself-greatest key journal c.args.commit c.args.tags.now (sym c.is_listed.ensures ∙ c.if-is_listed.true))))
+    (sym ((c.the_greatest_same_result_is_told.ensures.told key journal c.args.book.now.horizon c.args.commit c.args.tags.now c.args.commit).1
+    (itself-greatest key journal c.args.book.now.horizon c.args.commit c.args.tags.now c.requires.above (sym c.is_listed.ensures ∙ c.if-is_listed.true))))
 
 pub text_of-requires-clause-kept : goal.text_of-requires-clause-kept
 text_of-requires-clause-kept c =

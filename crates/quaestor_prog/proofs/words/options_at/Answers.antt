@@ -2,6 +2,9 @@
 use Rattle.quaestor_prog.proofs.WordLemmas.{any_origins, of_error}
 use Rattle.quaestor_prog.proofs.words.options_at.Goals as goal
 
+pub returns-in_err-trim-clause-err : goal.returns-in_err-trim-clause-err
+returns-in_err-trim-clause-err c = of_error _ c.from_residual-in_err-trim.result (λ ask s. c.in_err-trim.ensures.err ask.trim s.trim)
+
 pub returns-in_err-connections-clause-err : goal.returns-in_err-connections-clause-err
 returns-in_err-connections-clause-err c = of_error _ c.from_residual-in_err-connections.result (λ ask s. c.in_err-connections.ensures.err ask.connections s.connections)
 
@@ -16,6 +19,7 @@ returns-clause-ok c = record {
   places = c.in_ok-places.ensures.ok;
   workers = c.in_ok-workers.ensures.ok;
   matchers = c.in_ok-matchers.ensures.ok;
+  trim = c.in_ok-trim.ensures.ok;
   connections = c.in_ok-connections.ensures.ok;
   limits = c.in_ok-limits.ensures.ok;
 }

@@ -7,4 +7,4 @@ use Rattle.turnstile.specs.Seats.{HasOut}
 use Rattle.quaestor_serve.proofs.matchers.start_matchers.Given as goal
 
 abbrev pub invariant-loop-n : goal.invariant-loop-n
-invariant-loop-n g l = IsReady l.hall × IsAsBefore l.initial.hall l.hall × WorkIn g.C.Clock.tick (g.C.Clone.is_clone l.clock) l.hall l.matchers.items × (deque_len l.matchers ≡ l._n) × (l.count ≤ deque_capacity l.matchers) × ((others : ℕ) → HasOut others l.initial.hall.seat → HasOut (others + length l.matchers.items) l.hall.seat)
+invariant-loop-n g l = IsReady l.hall × IsAsBefore l.initial.hall l.hall × WorkIn g.C.Clock.tick l.crew.trim (g.C.Clone.is_clone l.clock) l.hall l.matchers.items × (deque_len l.matchers ≡ l._n) × (l.crew.matchers ≤ deque_capacity l.matchers) × ((others : ℕ) → HasOut others l.initial.hall.seat → HasOut (others + length l.matchers.items) l.hall.seat)

@@ -5,4 +5,4 @@ use Rattle.quaestor_serve.specs.Matchers.{WorksAt}
 use Rattle.quaestor_serve.proofs.matchers.step_all.Given as goal
 
 abbrev pub invariant-loop-n : goal.invariant-loop-n
-invariant-loop-n g l = AllOf (λ m. WorksAt g.C.Clock.tick (g.C.Clone.is_clone l.given) l.turnstile m) l.matchers.items × (length l.matchers.items ≡ length l.initial.matchers.items)
+invariant-loop-n g l = AllOf (λ m. WorksAt g.C.Clock.tick l.trim (g.C.Clone.is_clone l.given) l.turnstile m) l.matchers.items × (length l.matchers.items ≡ length l.initial.matchers.items)

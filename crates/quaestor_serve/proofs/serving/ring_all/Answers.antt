@@ -23,7 +23,7 @@ loop-given-preserved g c = (
   search rules,
   search rules,
   search rules,
-  subst (λ (t : HubTurnstile). AllOf (λ m. WorksAt g.C.Clock.tick (g.C.Clone.is_clone c.args.clock.now) t m) c.step_all.new.matchers.items) c.deref.ensures c.step_all.ensures.work,
+  subst (λ (t : HubTurnstile). AllOf (λ m. WorksAt g.C.Clock.tick c.args.trim (g.C.Clone.is_clone c.args.clock.now) t m) c.step_all.new.matchers.items) c.deref.ensures c.step_all.ensures.work,
   search rules,
   λ others was. c.ring.ensures.out others (c.loop-given.invariant.5 others was),
   c.step_all.ensures.count ∙ c.loop-given.invariant.6,

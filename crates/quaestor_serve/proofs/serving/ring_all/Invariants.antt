@@ -11,7 +11,7 @@ invariant-loop-given g l =
     IsReady l.hall
     × HaveRoom (g.P.Doors.at l.doors) l.hall 0
     × Stays l.initial.hall l.hall
-    × WorkIn g.C.Clock.tick (g.C.Clone.is_clone l.clock) l.hall l.matchers.items
+    × WorkIn g.C.Clock.tick l.trim (g.C.Clone.is_clone l.clock) l.hall l.matchers.items
     × ((first : DoorsView g.row.P-From.Denot g.row.P-To.Denot)
     → Going g.P.From.Source.at g.P.To.Sink.at g.P.To.Sink.ended g.C.Clock.tick (g.C.Clone.is_clone l.clock) first (g.P.Doors.at l.initial.doors) l.initial.hall [] 0 0
     → Going g.P.From.Source.at g.P.To.Sink.at g.P.To.Sink.ended g.C.Clock.tick (g.C.Clone.is_clone l.clock) first (g.P.Doors.at l.doors) l.hall [] l.given 0)

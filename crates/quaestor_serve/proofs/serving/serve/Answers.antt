@@ -8,21 +8,21 @@ use Rattle.quaestor_serve.proofs.ServesLemmas.{ends_later, none_of, serves_none,
 use Rattle.quaestor_serve.proofs.serving.serve.Goals as goal
 
 pub returns-then-connections-eq0 : goal.returns-then-connections-eq0
-returns-then-connections-eq0 g c = serves_at_once g.P.From.Source.at g.P.To.Sink.at g.P.To.Sink.ended g.C.Clock.tick (g.C.Clone.is_clone c.args.clock.now) c.args.config (g.P.Doors.at c.args.doors.now) c.args.connections (record { connections = c.args.connections; why = Limit }) (search rules) refl refl
+returns-then-connections-eq0 g c = serves_at_once g.P.From.Source.at g.P.To.Sink.at g.P.To.Sink.ended g.C.Clock.tick (g.C.Clone.is_clone c.args.clock.now) c.args.config c.args.crew.trim (g.P.Doors.at c.args.doors.now) c.args.connections (record { connections = c.args.connections; why = Limit }) (search rules) refl refl
 
 pub returns-in_default : goal.returns-in_default
-returns-in_default g c = serves_none g.P.From.Source.at g.P.To.Sink.at g.P.To.Sink.ended g.C.Clock.tick (g.C.Clone.is_clone c.args.clock.now) c.args.config (g.P.Doors.at c.args.doors.now) c.args.connections _ (search rules) c.no_memory.ensures
+returns-in_default g c = serves_none g.P.From.Source.at g.P.To.Sink.at g.P.To.Sink.ended g.C.Clock.tick (g.C.Clone.is_clone c.args.clock.now) c.args.config c.args.crew.trim (g.P.Doors.at c.args.doors.now) c.args.connections _ (search rules) c.no_memory.ensures
 
 pub returns-in_default-hall_of : goal.returns-in_default-hall_of
-returns-in_default-hall_of g c = serves_none g.P.From.Source.at g.P.To.Sink.at g.P.To.Sink.ended g.C.Clock.tick (g.C.Clone.is_clone c.args.clock.now) c.args.config (g.P.Doors.at c.args.doors.now) c.args.connections _ (search rules) c.no_memory-in_default-hall_of.ensures
+returns-in_default-hall_of g c = serves_none g.P.From.Source.at g.P.To.Sink.at g.P.To.Sink.ended g.C.Clock.tick (g.C.Clone.is_clone c.args.clock.now) c.args.config c.args.crew.trim (g.P.Doors.at c.args.doors.now) c.args.connections _ (search rules) c.no_memory-in_default-hall_of.ensures
 
 pub stop_matchers-requires-clause-work : goal.stop_matchers-requires-clause-work
-stop_matchers-requires-clause-work g c = work_stays g.C.Clock.tick (g.C.Clone.is_clone c.args.clock.now) c.serve_all-end.new.hall c.drain.new.hall c.serve_all-end.new.matchers.items c.drain.ensures.hands.stays.0 c.serve_all-end.ensures.work
+stop_matchers-requires-clause-work g c = work_stays g.C.Clock.tick c.args.crew.trim (g.C.Clone.is_clone c.args.clock.now) c.serve_all-end.new.hall c.drain.new.hall c.serve_all-end.new.matchers.items c.drain.ensures.hands.stays.0 c.serve_all-end.ensures.work
 
 pub returns : goal.returns
 returns g c =
     let end = c.serve_all-end.result in
-    serves_all g.P.From.Source.at g.P.To.Sink.at g.P.To.Sink.ended g.C.Clock.tick (g.C.Clone.is_clone c.args.clock.now) c.args.config (g.P.Doors.at c.args.doors.now) (g.P.Doors.at c.drain.new.doors) c.drain.new.hall c.stop_matchers.new.hall c.args.connections end
+    serves_all g.P.From.Source.at g.P.To.Sink.at g.P.To.Sink.ended g.C.Clock.tick (g.C.Clone.is_clone c.args.clock.now) c.args.config c.args.crew.trim (g.P.Doors.at c.args.doors.now) (g.P.Doors.at c.drain.new.doors) c.drain.new.hall c.stop_matchers.new.hall c.args.connections end
     (ap setting_at c.drain.ensures.hands.stays.0 ∙ c.serve_all-end.ensures.setting ∙ c.in-Ok-hall_of.ensures.setting)
     (none_of _ c.drain.new.hall.running.items c.drain.new.hall.running.ok.0 c.drain.ensures.empty)
     c.stop_matchers.ensures.ready.1

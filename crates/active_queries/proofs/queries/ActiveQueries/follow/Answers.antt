@@ -1,8 +1,12 @@
 use Rattle.std.proofs.Common.{◌≤◌, sym, subst, Option, arith}
 use Rattle.std.specs.Prelude.{IfSome}
 use Rattle.active_queries.specs.Following.{Following, FollowsKey}
-use Rattle.active_queries.proofs.EntryLemmas.{All-written, begun-written, lookup-written, lookup-others, on-ok, above-on}
+use Rattle.active_queries.proofs.EntryLemmas.{All-written, begun-written, lookup-written, lookup-others, on-ok, above-on, seen-at}
 use Rattle.active_queries.proofs.queries.ActiveQueries.follow.Goals as goal
+
+-- it has seen the horizon, as each has
+pub follow_to-requires-clause-kept : goal.follow_to-requires-clause-kept
+follow_to-requires-clause-kept c = seen-at c.args.book.now.horizon c.self.inside.held.entries c.in-Some.index c.index_mut.result.now c.index_mut.ensures.value (rw (← c.self.view_is) at c.requires.kept)
 
 pub returns-in-Some-clause-following : goal.returns-in-Some-clause-following
 returns-in-Some-clause-following c = λ all.

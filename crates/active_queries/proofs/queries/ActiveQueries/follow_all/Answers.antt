@@ -14,6 +14,13 @@ loop-index-init c = record {
   spare = rw (← c.self.view_is) (omega arith);
 }
 
+-- each has seen the horizon, so the least does not lie below it
+pub commits-requires-clause-kept : goal.commits-requires-clause-kept
+commits-requires-clause-kept c = c.least_seen-from.ensures.least c.args.book.now.horizon c.requires.above c.requires.kept
+
+pub follow-requires-clause-kept : goal.follow-requires-clause-kept
+follow-requires-clause-kept c = c.least_seen-from.ensures.least c.args.book.now.horizon c.requires.above c.requires.kept
+
 -- each has seen the first commit
 pub follow-requires-clause-behind : goal.follow-requires-clause-behind
 follow-requires-clause-behind c = seen-at c.least_seen-from.result c.loop-index.self-inside.held.entries c.loop-index.index c.index_mut.result.now c.index_mut.ensures.value c.loop-index.invariant.behind

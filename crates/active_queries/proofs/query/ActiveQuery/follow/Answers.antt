@@ -24,7 +24,10 @@ see-requires c =
     let behind : c.args.from ≤ c.loop-self.self.seen = omega (arith, c.requires.behind, c.loop-self.invariant.seen) in
     let below : c.loop-self.self.seen < c.args.to = omega (arith, same, c.loop-self-test.true) in
     let at = c.index-rows-self.is ∙ ap₂ (λ (rows : List CommitRow) (n : ℕ). get_or rows (n - c.args.from) c.index-rows-self.result) c.requires.rows same in
-    record { next = row_there c.args.book.now.journal c.args.from c.loop-self.self.seen c.args.to c.index-rows-self.result behind below c.requires.within at }
+    record {
+      next = row_there c.args.book.now.journal c.args.from c.loop-self.self.seen c.args.to c.index-rows-self.result behind below c.requires.within at;
+      kept = omega (arith, c.requires.kept, behind);
+    }
 
 pub loop-self-preserved : goal.loop-self-preserved
 loop-self-preserved c = record {

@@ -15,13 +15,13 @@ returns-then-not-is_either-clause-follows c =
     (c.verdict_of-verdict.ensures ∙ ap (λ q. verdict_on q c.args.row.now) c.query.ensures)
     (sym c.is_either.ensures ∙ c.if-not-is_either.true))
 
--- it is within the journal
+-- it is within the journal, and its documents are kept
 pub take_step-requires : goal.take_step-requires
 take_step-requires c =
     let next = c.requires.next in
     let number : c.args.row.now.commit ≡ suc c.args.self.now.seen = ap (λ (r : CommitRow). r.commit) next.2 in
     let inside = slice_get_within c.args.book.now.journal c.args.self.now.seen next.0 next.1 in
-    omega (arith, number, inside)
+    record { kept = omega (arith, number, c.requires.kept); within = omega (arith, number, inside) }
 
 -- and one that does not with a step
 pub returns-clause-follows : goal.returns-clause-follows

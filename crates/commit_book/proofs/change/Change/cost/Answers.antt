@@ -1,4 +1,4 @@
-use Rattle.std.proofs.Common.{◌≡◌, Option, Some, None, length, ap, arith}
+use Rattle.std.proofs.Common.{Option, length, ap, arith}
 use Rattle.q_doc.specs.Tree.{Tree}
 use Rattle.commit_book.specs.Journal.{cost_of, text_of}
 use Rattle.commit_book.proofs.change.Change.cost.Goals as goal

@@ -1,5 +1,5 @@
 -- the copy is issued at the moment's clock
-use Rattle.std.proofs.Common.{◌≡◌, ℕ, List, length, max, true, false, refl, ap, sym, ◌∙◌, subst, inl}
+use Rattle.std.proofs.Common.{◌≡◌, ℕ, List, length, max, true, false, refl, ap, ap₂, sym, ◌∙◌, subst, inl}
 use Rattle.commit_book.specs.declared.change.Change.{Change}
 use Rattle.hub_model.specs.Journal.{result_at}
 use Rattle.hub_model.specs.Known.{known_at}
@@ -41,8 +41,8 @@ told c s at =
     c.issue_copy-ttl.ensures.ttl c.self.inside.front s (ready c s at) ∙ ap (λ (g : Setting). ttl_of g (at_moment s c.args.moment) c.args.key.now (length c.self.inside.book.journal)) (setting c) ∙ ap (ttl_of c.args.self.now.setting (at_moment s c.args.moment) c.args.key.now) (sym last) in
     let found =
     c.requires.outcome
-    ∙ ap (λ (n : ℕ). outcome_of (result_at c.args.key.now c.args.self.now.rows n) (known_at c.args.key.now c.args.self.now.rows n c.args.tags.now)) commits
-    ∙ ap (λ (xs : List Change). outcome_of (result_at c.args.key.now xs c.count.result) (known_at c.args.key.now xs c.count.result c.args.tags.now)) at.book.rows in
+    ∙ ap (λ (n : ℕ). outcome_of (result_at c.args.key.now c.args.self.now.rows n) (known_at c.args.key.now c.args.self.now.rows c.args.self.now.horizon n c.args.tags.now)) commits
+    ∙ ap₂ (λ (xs : List Change) (h : ℕ). outcome_of (result_at c.args.key.now xs c.count.result) (known_at c.args.key.now xs h c.count.result c.args.tags.now)) at.book.rows at.book.horizon in
     (λ i. read (record { commit = c.count.result; clock = clock i; ttl = ttl i; result = found i }))
 
 pub returns-clause-answers : goal.returns-clause-answers

@@ -27,6 +27,7 @@ invariant_of-result c =
     (subst (λ (entries : List (KeyShape × Following)). KeepsQueries c.in_ok-new.field-0.journal 0 [] [] entries) (sym c.new-3.ensures) (keeps-none c.in_ok-new.field-0.journal 0)) in
     record {
       within = omega arith;
+      kept = (let dropped : c.in_ok-new.field-0.horizon ≡ 0 = ap (λ (b : Contents). b.horizon) c.in_ok-new.ensures.empty in omega (arith, dropped));
       capacity = ap (λ (b : Contents). b.capacity) c.in_ok-new.ensures.empty ∙ c.capacity.ensures.same ∙ sym (ap (λ (h : CopiesView). h.setting.capacity) c.in_ok-new-2.ensures);
       lean = record {
         change = search rules;
@@ -47,7 +48,7 @@ invariant_of-result c =
 pub returns-clause-begins : goal.returns-clause-begins
 returns-clause-begins c =
     at-with c.in_ok-new.field-0 0 c.in_ok-new-2.field-0 c.new-3.result.entries c.new-life.result _
-    (hub-begins c.in_ok-new.field-0 c.in_ok-new-2.field-0 c.new-life.result (ap (λ (b : Contents). b.journal) c.in_ok-new.ensures.empty) (ap (λ (h : CopiesView). h.clock) c.in_ok-new-2.ensures) (ap (λ (h : CopiesView). h.copies) c.in_ok-new-2.ensures) (ap (λ (h : CopiesView). h.outdated) c.in_ok-new-2.ensures)
+    (hub-begins c.in_ok-new.field-0 c.in_ok-new-2.field-0 c.new-life.result (ap (λ (b : Contents). b.journal) c.in_ok-new.ensures.empty) (ap (λ (b : Contents). b.horizon) c.in_ok-new.ensures.empty) (ap (λ (h : CopiesView). h.clock) c.in_ok-new-2.ensures) (ap (λ (h : CopiesView). h.copies) c.in_ok-new-2.ensures) (ap (λ (h : CopiesView). h.outdated) c.in_ok-new-2.ensures)
     (ap (λ (e : Estimated). e.records) c.new-life.ensures.estimator) (ap (λ (e : Estimated). e.keys) c.new-life.ensures.estimator) c.new-life.ensures.purges)
 
 pub returns-clause-lean : goal.returns-clause-lean

@@ -1,5 +1,5 @@
 -- the answer is that of the moment's clock, and its copy is issued
-use Rattle.std.proofs.Common.{◌≡◌, ℕ, List, length, max, refl, ap, sym, ◌∙◌, subst}
+use Rattle.std.proofs.Common.{◌≡◌, ℕ, List, length, max, refl, ap, ap₂, sym, ◌∙◌, subst, arith}
 use Rattle.commit_book.specs.declared.change.Change.{Change}
 use Rattle.hub_model.specs.Journal.{result_at}
 use Rattle.hub_model.specs.Known.{known_at}
@@ -14,6 +14,7 @@ use Rattle.hub_core.specs.ActiveQueries.{KeepsQueries}
 use Rattle.hub_core.specs.HubState.{HubView, IsAt, IsSoundHub, hub_of}
 use Rattle.hub_core.specs.CopiesView.{CopiesView}
 use Rattle.hub_core.proofs.HubLemmas.{alike-before, as-before, at-estimates, at-ready, at-with, on_err_all, parts-at, sound-followed, sound-read}
+use Rattle.hub_core.proofs.KeepLemmas.{keeps-seen}
 use Rattle.hub_core.proofs.LifeLemmas.{lifetimes-reserved}
 use Rattle.hub_core.proofs.ReadLemmas.{kept-alike}
 use Rattle.hub_core.proofs.hub.Hub.read_query.Goals as goal
@@ -41,6 +42,16 @@ kept-queries : (c : goal.After-clock) → KeepsQueries c.self.inside.book.journa
 kept-queries c =
     kept-alike c.self.inside.book.journal c.self.inside.front c.self.inside.copies c.reserve_copy.new.copies c.follow_or_start.new.queries.entries (ap (λ (h : CopiesView). h.copies) c.in_ok-reserve_copy.ensures.rest) (ap (λ (h : CopiesView). h.idle) c.in_ok-reserve_copy.ensures.rest)
     (c.follow_or_start.ensures.kept c.self.inside.front c.self.inside.copies.copies c.self.inside.copies.idle c.self.invariant.queries)
+
+-- the queries have seen the horizon, which is not above the last commit
+pub follow_or_start-requires-clause-seen : goal.follow_or_start-requires-clause-seen
+follow_or_start-requires-clause-seen c = keeps-seen c.self.inside.book.journal c.self.inside.front c.self.inside.book.horizon c.self.inside.copies.copies c.self.inside.copies.idle c.self.inside.queries.entries c.self.invariant.kept c.self.invariant.queries
+
+pub follow_or_start-requires-clause-above : goal.follow_or_start-requires-clause-above
+follow_or_start-requires-clause-above c = omega (arith, c.self.invariant.kept, c.self.invariant.within)
+
+pub outcome_at-requires-clause-above : goal.outcome_at-requires-clause-above
+outcome_at-requires-clause-above c = omega (arith, c.self.invariant.kept, c.self.invariant.within)
 
 pub outcome_at-requires-clause-following : goal.outcome_at-requires-clause-following
 outcome_at-requires-clause-following c = (c.follow_or_start.ensures.kept c.self.inside.front c.self.inside.copies.copies c.self.inside.copies.idle c.self.invariant.queries).following
@@ -71,8 +82,8 @@ told c s at =
     c.issue_copy-ttl.ensures.ttl c.self.inside.front s (ready c s at) ∙ ap (λ (g : Setting). ttl_of g (at_moment s c.args.moment) c.args.key.now (length c.self.inside.book.journal)) (setting c) ∙ ap (ttl_of c.args.self.now.setting (at_moment s c.args.moment) c.args.key.now) (sym last) in
     let found =
     c.in_ok-result.ensures
-    ∙ ap (λ (n : ℕ). outcome_of (result_at c.args.key.now c.self.inside.book.journal n) (known_at c.args.key.now c.self.inside.book.journal n c.args.tags.now)) (sym last)
-    ∙ ap (λ (xs : List Change). outcome_of (result_at c.args.key.now xs c.count.result) (known_at c.args.key.now xs c.count.result c.args.tags.now)) (ready c s at).book.rows in
+    ∙ ap (λ (n : ℕ). outcome_of (result_at c.args.key.now c.self.inside.book.journal n) (known_at c.args.key.now c.self.inside.book.journal c.self.inside.book.horizon n c.args.tags.now)) (sym last)
+    ∙ ap₂ (λ (xs : List Change) (h : ℕ). outcome_of (result_at c.args.key.now xs c.count.result) (known_at c.args.key.now xs h c.count.result c.args.tags.now)) (ready c s at).book.rows (ready c s at).book.horizon in
     (λ i. read (record { commit = c.count.result; clock = clock i; ttl = ttl i; result = found i }))
 
 pub returns-clause-answers : goal.returns-clause-answers

@@ -1,5 +1,5 @@
 -- a read that changes nothing is the next entry all the same
-use Rattle.std.proofs.Common.{◌≡◌, ℕ, List, max, ap, sym, ◌∙◌, subst}
+use Rattle.std.proofs.Common.{◌≡◌, ℕ, List, max, ap, ap₂, sym, ◌∙◌, subst, arith}
 use Rattle.commit_book.specs.declared.change.Change.{Change}
 use Rattle.query_normal.specs.declared.key.KeyShape.{KeyShape}
 use Rattle.query_normal.specs.declared.key.KeyShape.TheVariants.{Record}
@@ -17,12 +17,16 @@ use Rattle.hub_core.proofs.hub.Hub.read_record.Goals.{After-known_lifetime}
 use Rattle.hub_core.proofs.hub.Hub.read_record.Goals as goal
 
 -- the outcome is that of the state
-outcome : (c : After-known_lifetime) → c.in_ok-result.result ≡ outcome_of (result_at c.args.key.now c.args.self.now.rows c.args.self.now.commits) (known_at c.args.key.now c.args.self.now.rows c.args.self.now.commits c.args.tags.now)
+outcome : (c : After-known_lifetime) → c.in_ok-result.result ≡ outcome_of (result_at c.args.key.now c.args.self.now.rows c.args.self.now.commits) (known_at c.args.key.now c.args.self.now.rows c.args.self.now.horizon c.args.self.now.commits c.args.tags.now)
 outcome c =
     c.in_ok-result.ensures
-    ∙ ap (λ (n : ℕ). outcome_of (result_at (Record c.args.collection.now c.args.id.now) c.self.inside.book.journal n) (known_at (Record c.args.collection.now c.args.id.now) c.self.inside.book.journal n c.args.tags.now)) c.count-commit.ensures.count
-    ∙ ap (λ (h : HubView). outcome_of (result_at (Record c.args.collection.now c.args.id.now) h.rows h.commits) (known_at (Record c.args.collection.now c.args.id.now) h.rows h.commits c.args.tags.now)) c.self.view_is
-    ∙ ap (λ (k : KeyShape). outcome_of (result_at k c.args.self.now.rows c.args.self.now.commits) (known_at k c.args.self.now.rows c.args.self.now.commits c.args.tags.now)) (sym c.requires)
+    ∙ ap (λ (n : ℕ). outcome_of (result_at (Record c.args.collection.now c.args.id.now) c.self.inside.book.journal n) (known_at (Record c.args.collection.now c.args.id.now) c.self.inside.book.journal c.self.inside.book.horizon n c.args.tags.now)) c.count-commit.ensures.count
+    ∙ ap (λ (h : HubView). outcome_of (result_at (Record c.args.collection.now c.args.id.now) h.rows h.commits) (known_at (Record c.args.collection.now c.args.id.now) h.rows h.horizon h.commits c.args.tags.now)) c.self.view_is
+    ∙ ap (λ (k : KeyShape). outcome_of (result_at k c.args.self.now.rows c.args.self.now.commits) (known_at k c.args.self.now.rows c.args.self.now.horizon c.args.self.now.commits c.args.tags.now)) (sym c.requires)
+
+-- the last commit is not below the horizon
+pub record_outcome-requires-clause-above : goal.record_outcome-requires-clause-above
+record_outcome-requires-clause-above c = omega (arith, c.self.invariant.kept, c.self.invariant.within, c.count-commit.ensures.count)
 
 pub known_lifetime-requires : goal.known_lifetime-requires
 known_lifetime-requires c = ap is_query c.requires
@@ -56,8 +60,8 @@ told c s at =
     ∙ ap (ttl_of c.args.self.now.setting (at_moment s c.args.moment) c.args.key.now) commits in
     let found =
     outcome c.before.before.before
-    ∙ ap (λ (n : ℕ). outcome_of (result_at c.args.key.now c.args.self.now.rows n) (known_at c.args.key.now c.args.self.now.rows n c.args.tags.now)) commits
-    ∙ ap (λ (xs : List Change). outcome_of (result_at c.args.key.now xs c.count-commit.result) (known_at c.args.key.now xs c.count-commit.result c.args.tags.now)) at.book.rows in
+    ∙ ap (λ (n : ℕ). outcome_of (result_at c.args.key.now c.args.self.now.rows n) (known_at c.args.key.now c.args.self.now.rows c.args.self.now.horizon n c.args.tags.now)) commits
+    ∙ ap₂ (λ (xs : List Change) (h : ℕ). outcome_of (result_at c.args.key.now xs c.count-commit.result) (known_at c.args.key.now xs h c.count-commit.result c.args.tags.now)) at.book.rows at.book.horizon in
     (λ i. read (record { commit = c.count-commit.result; clock = clock i; ttl = ttl i; result = found i }))
 
 pub returns-in-Some-clause-answers : goal.returns-in-Some-clause-answers

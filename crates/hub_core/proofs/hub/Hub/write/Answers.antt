@@ -1,5 +1,5 @@
 -- the clock moves, and an accepted change is the next commit, behind what helps it
-use Rattle.std.proofs.Common.{◌≡◌, ◌+◌, ◌∷◌, ◌++◌, [], List, length, true, false, ◌≤◌, Option, Some, None, Err, ◌&&◌, bytes_eq, ℕ, nat_le, IsTrue, if◌then◌else◌, ap, sym, ◌∙◌, subst}
+use Rattle.std.proofs.Common.{◌≡◌, ◌+◌, ◌∷◌, ◌++◌, [], List, length, true, false, ◌≤◌, arith, Option, Some, None, Err, ◌&&◌, bytes_eq, ℕ, nat_le, IsTrue, if◌then◌else◌, ap, sym, ◌∙◌, subst}
 use Rattle.commit_book.specs.declared.change.Change.{Change}
 use Rattle.commit_book.specs.Contents.{Contents}
 use Rattle.commit_book.specs.Journal.{kept_with}
@@ -45,11 +45,12 @@ returns-then-not-is_met-clause-after c = λ s at.
     let g = c.args.self.now.setting in
     let moved = unmet c s at in
     let same : book.journal ≡ s.journal = moved.book.rows in
+    let dropped : book.horizon ≡ s.horizon = moved.book.horizon in
     let fails : is_met c.args.condition.now c.found-before.result c.count.result ≡ false = sym c.is_met.ensures ∙ c.if-not-is_met.true in
     at-with c.self.inside.book c.self.inside.front c.pass.new.copies c.pass.new.queries.entries c.pass.new.life _
     (subst (λ (t : State). IsAt (hub_of book c.self.inside.front c.pass.new.copies c.pass.new.life) t)
-    (leaves-unmet g book (at_moment s c.args.moment) c.args.change.now c.args.condition.now c.found-before.result c.count.result same c.found-before.ensures c.count.ensures.count fails
-    ∙ refused-after g s c.args.moment c.args.change.now c.args.condition.now (refused-unmet g book s c.args.change.now c.args.condition.now c.found-before.result c.count.result same c.found-before.ensures c.count.ensures.count fails))
+    (leaves-unmet g book (at_moment s c.args.moment) c.args.change.now c.args.condition.now c.found-before.result c.count.result same dropped c.found-before.ensures c.count.ensures.count fails
+    ∙ refused-after g s c.args.moment c.args.change.now c.args.condition.now (refused-unmet g book s c.args.change.now c.args.condition.now c.found-before.result c.count.result same dropped c.found-before.ensures c.count.ensures.count fails))
     moved)
 
 pub returns-then-not-is_met-clause-told : goal.returns-then-not-is_met-clause-told
@@ -58,10 +59,11 @@ returns-then-not-is_met-clause-told c = λ s at.
     let g = c.args.self.now.setting in
     let moved = unmet c s at in
     let same : book.journal ≡ s.journal = moved.book.rows in
+    let dropped : book.horizon ≡ s.horizon = moved.book.horizon in
     let fails : is_met c.args.condition.now c.found-before.result c.count.result ≡ false = sym c.is_met.ensures ∙ c.if-not-is_met.true in
     ap wrote_reply
-    (written-unmet g book (at_moment s c.args.moment) c.args.change.now c.args.condition.now c.found-before.result c.count.result same c.found-before.ensures c.count.ensures.count c.clock.result (c.clock.ensures ∙ moved.time.clock) fails)
-    ∙ refused-reply g s c.args.moment c.args.change.now c.args.condition.now (refused-unmet g book s c.args.change.now c.args.condition.now c.found-before.result c.count.result same c.found-before.ensures c.count.ensures.count fails)
+    (written-unmet g book (at_moment s c.args.moment) c.args.change.now c.args.condition.now c.found-before.result c.count.result same dropped c.found-before.ensures c.count.ensures.count c.clock.result (c.clock.ensures ∙ moved.time.clock) fails)
+    ∙ refused-reply g s c.args.moment c.args.change.now c.args.condition.now (refused-unmet g book s c.args.change.now c.args.condition.now c.found-before.result c.count.result same dropped c.found-before.ensures c.count.ensures.count fails)
 
 -- ---- a change that does not fit
 
@@ -71,7 +73,7 @@ full c s at =
     hub-passed c.self.inside.book c.self.inside.front c.self.inside.copies c.self.inside.life s (parts-at c.self.inside.book c.self.inside.front c.self.inside.copies c.self.inside.queries.entries c.self.inside.life c.args.self.now s c.self.view_is at) c.pass-in-Err-Full.new.copies c.pass-in-Err-Full.new.life c.args.moment c.self.invariant.lean.idle c.pass-in-Err-Full.ensures.passes c.pass-in-Err-Full.ensures.dropped
 
 -- the sum is above the capacity
-beyond : (c : goal.After-clock-in-Err-Full) → (nat_le (kept_with c.self.inside.book.journal c.args.change.now) c.self.inside.book.capacity ≡ false) × (c.in-Err-Full.bytes ≡ kept_with c.self.inside.book.journal c.args.change.now)
+beyond : (c : goal.After-clock-in-Err-Full) → (nat_le (kept_with c.self.inside.book.journal c.self.inside.book.horizon c.args.change.now) c.self.inside.book.capacity ≡ false) × (c.in-Err-Full.bytes ≡ kept_with c.self.inside.book.journal c.self.inside.book.horizon c.args.change.now)
 beyond c = judged-full c.self.inside.book c.args.change.now c.in-Err-Full.bytes (Err c.in-Err-Full.field-0) (ap Err c.in-Err-Full.field-0-is) c.in-Err-Full.ensures.told
 
 pub returns-in-Err-Full-clause-after : goal.returns-in-Err-Full-clause-after
@@ -80,14 +82,15 @@ returns-in-Err-Full-clause-after c = λ s at.
     let g = c.args.self.now.setting in
     let moved = full c s at in
     let same : book.journal ≡ s.journal = moved.book.rows in
+    let dropped : book.horizon ≡ s.horizon = moved.book.horizon in
     let met : is_met c.args.condition.now c.found-before.result c.count.result ≡ true = sym c.is_met.ensures ∙ c.if-not-is_met.false in
     let limit : book.capacity ≡ g.capacity = c.self.invariant.capacity ∙ ap (λ (h : HubView). h.setting.capacity) c.self.view_is in
     at-with c.reserve.new.self c.self.inside.front c.pass-in-Err-Full.new.copies c.pass-in-Err-Full.new.queries.entries c.pass-in-Err-Full.new.life _
     (subst (λ (b : Contents). IsAt (hub_of b c.self.inside.front c.pass-in-Err-Full.new.copies c.pass-in-Err-Full.new.life) (after_all g s (helps_of g s (Write c.args.moment c.args.change.now c.args.condition.now) ++ Write c.args.moment c.args.change.now c.args.condition.now ∷ []))) (sym c.in-Err-Full.ensures.err)
     (subst (λ (t : State). IsAt (hub_of book c.self.inside.front c.pass-in-Err-Full.new.copies c.pass-in-Err-Full.new.life) t)
-    (leaves-full g book (at_moment s c.args.moment) c.args.change.now c.args.condition.now c.found-before.result c.count.result same c.found-before.ensures c.count.ensures.count met limit (beyond c).0
+    (leaves-full g book (at_moment s c.args.moment) c.args.change.now c.args.condition.now c.found-before.result c.count.result same dropped c.found-before.ensures c.count.ensures.count met limit (beyond c).0
     ∙ refused-after g s c.args.moment c.args.change.now c.args.condition.now
-    (accepted-now g book s c.args.change.now c.args.condition.now c.found-before.result c.count.result same c.found-before.ensures c.count.ensures.count met limit false (beyond c).0))
+    (accepted-now g book s c.args.change.now c.args.condition.now c.found-before.result c.count.result same dropped c.found-before.ensures c.count.ensures.count met limit false (beyond c).0))
     moved))
 
 -- ---- an accepted change
@@ -98,9 +101,10 @@ sound c =
     let reserved = c.in-Ok.ensures.after in
     let helped = c.in-Ok-make_way.ensures in
     let passed = c.pass-in-Ok-make_way.ensures in
+    let forward : c.self.inside.front ≤ c.make_way.new.front = helped.forward in
     sound-written c.self.inside.book c.reserve.new.self c.add_reserved.new.self c.self.inside.front c.make_way.new.front c.self.inside.copies c.make_way.new.copies c.pass-in-Ok-make_way.new.copies
     c.self.inside.queries.entries c.make_way.new.queries.entries c.pass-in-Ok-make_way.new.queries.entries c.self.inside.life c.make_way.new.life c.pass-in-Ok-make_way.new.life c.note_write.new.self
-    c.args.change.now c.args.moment c.self.invariant reserved helped.within helped.lean helped.setting helped.kept helped.lifetimes
+    c.args.change.now c.args.moment c.self.invariant reserved (omega (arith, c.self.invariant.kept, forward)) helped.within helped.lean helped.setting helped.kept helped.lifetimes
     passed.passes passed.idle passed.kept passed.dropped c.note_write.ensures.rest (c.add_reserved.ensures.after c.args.change.now (ap (λ (b : Contents). b.reserved) reserved)) c.add_reserved.ensures.names c.queries_follow_longer_journals.ensures.all
     helped.entered (entry-noted c.args.change.now c.pass-in-Ok-make_way.new.life.estimator.records c.note_write.new.self.records _ c.note_write.ensures.written)
 
@@ -121,7 +125,7 @@ behind c s at =
     c.pass-in-Ok-make_way.new.copies c.pass-in-Ok-make_way.new.life c.args.moment c.in-Ok-make_way.ensures.lean.idle c.pass-in-Ok-make_way.ensures.passes c.pass-in-Ok-make_way.ensures.dropped
 
 -- the change fits
-fits : (c : goal.After-add_reserved) → nat_le (kept_with c.self.inside.book.journal c.args.change.now) c.self.inside.book.capacity ≡ true
+fits : (c : goal.After-add_reserved) → nat_le (kept_with c.self.inside.book.journal c.self.inside.book.horizon c.args.change.now) c.self.inside.book.capacity ≡ true
 fits c = judged-ok c.self.inside.book c.args.change.now c.in-Ok.field-0 c.reserve.result c.in-Ok.is c.reserve.ensures.told
 
 pub returns-in-Ok-make_way-clause-after : goal.returns-in-Ok-make_way-clause-after
@@ -134,13 +138,16 @@ returns-in-Ok-make_way-clause-after c = λ s at.
     let limit : book.capacity ≡ g.capacity = c.self.invariant.capacity ∙ ap (λ (h : HubView). h.setting.capacity) c.self.view_is in
     let same : book.journal ≡ later.journal = sym (ap (λ (b : Contents). b.journal) c.in-Ok.ensures.after) ∙ moved.book.rows in
     let at_first : book.journal ≡ s.journal = ap (λ (h : HubView). h.rows) c.self.view_is ∙ at.book.rows in
+    let dropped : book.horizon ≡ later.horizon = sym (ap (λ (b : Contents). b.horizon) c.in-Ok.ensures.after) ∙ moved.book.horizon in
+    let dropped_first : book.horizon ≡ s.horizon = ap (λ (h : HubView). h.horizon) c.self.view_is ∙ at.book.horizon in
     at-with c.add_reserved.new.self c.make_way.new.front c.pass-in-Ok-make_way.new.copies c.pass-in-Ok-make_way.new.queries.entries (record c.pass-in-Ok-make_way.new.life { estimator = c.note_write.new.self }) _
     (subst (λ (t : State). IsAt (hub_of c.add_reserved.new.self c.make_way.new.front c.pass-in-Ok-make_way.new.copies (record c.pass-in-Ok-make_way.new.life { estimator = c.note_write.new.self })) t)
-    (leaves-done g book (at_moment later c.args.moment) c.args.change.now c.args.condition.now c.found-before.result c.count.result same c.found-before.ensures c.count.ensures.count met limit (fits c)
+    (leaves-done g book (at_moment later c.args.moment) c.args.change.now c.args.condition.now c.found-before.result c.count.result same dropped c.found-before.ensures c.count.ensures.count met limit (fits c)
     ∙ helped-after g s c.args.moment c.args.change.now c.args.condition.now
-    (accepted-now g book s c.args.change.now c.args.condition.now c.found-before.result c.count.result at_first c.found-before.ensures c.count.ensures.count met limit true (fits c)))
+    (accepted-now g book s c.args.change.now c.args.condition.now c.found-before.result c.count.result at_first dropped_first c.found-before.ensures c.count.ensures.count met limit true (fits c)))
     (hub-written c.reserve.new.self c.make_way.new.front c.pass-in-Ok-make_way.new.copies c.pass-in-Ok-make_way.new.life (at_moment later c.args.moment) moved c.add_reserved.new.self c.args.change.now c.note_write.new.self c.in-Ok-make_way.ensures.within
     (ap (λ (b : Contents). b.journal) (c.add_reserved.ensures.after c.args.change.now (ap (λ (b : Contents). b.reserved) c.in-Ok.ensures.after)))
+    (ap (λ (b : Contents). b.horizon) (c.add_reserved.ensures.after c.args.change.now (ap (λ (b : Contents). b.reserved) c.in-Ok.ensures.after)))
     (writes-noted c.pass-in-Ok-make_way.new.life.estimator.records c.note_write.new.self.records (at_moment later c.args.moment) c.args.change.now moved.writes
     (λ collection id. c.note_write.ensures.written collection id ∙ ap (λ (n : ℕ). if bytes_eq c.args.change.now.collection collection && bytes_eq c.args.change.now.id id then Some (last_eight (clocks_of c.pass-in-Ok-make_way.new.life.estimator.records c.args.change.now.collection c.args.change.now.id ++ n ∷ [])) else entry_of c.pass-in-Ok-make_way.new.life.estimator.records collection id) (c.clock-clock.ensures ∙ moved.time.clock)))
     (ap (λ (e : Estimated). e.keys) c.note_write.ensures.rest)))
@@ -156,11 +163,13 @@ returns-in-Ok-make_way-clause-told c = λ s at.
     let reserved = ap (λ (b : Contents). b.journal) c.in-Ok.ensures.after in
     let same : book.journal ≡ later.journal = sym reserved ∙ moved.book.rows in
     let at_first : book.journal ≡ s.journal = ap (λ (h : HubView). h.rows) c.self.view_is ∙ at.book.rows in
+    let dropped : book.horizon ≡ later.horizon = sym (ap (λ (b : Contents). b.horizon) c.in-Ok.ensures.after) ∙ moved.book.horizon in
+    let dropped_first : book.horizon ≡ s.horizon = ap (λ (h : HubView). h.horizon) c.self.view_is ∙ at.book.horizon in
     ap wrote_reply
-    (written-done g book (at_moment later c.args.moment) c.args.change.now c.args.condition.now c.found-before.result c.count.result same c.found-before.ensures c.count.ensures.count met limit c.add_reserved.result c.clock-clock.result
+    (written-done g book (at_moment later c.args.moment) c.args.change.now c.args.condition.now c.found-before.result c.count.result same dropped c.found-before.ensures c.count.ensures.count met limit c.add_reserved.result c.clock-clock.result
     (c.add_reserved.ensures.commit ∙ ap (λ (xs : List Change). length xs + 1) reserved) (c.clock-clock.ensures ∙ moved.time.clock) (fits c))
     ∙ helped-reply g s c.args.moment c.args.change.now c.args.condition.now
-    (accepted-now g book s c.args.change.now c.args.condition.now c.found-before.result c.count.result at_first c.found-before.ensures c.count.ensures.count met limit true (fits c))
+    (accepted-now g book s c.args.change.now c.args.condition.now c.found-before.result c.count.result at_first dropped_first c.found-before.ensures c.count.ensures.count met limit true (fits c))
 
 -- ---- only a write that is accepted answers Memory
 
@@ -168,10 +177,27 @@ pub returns-in-Err-Memory-clause-accepted : goal.returns-in-Err-Memory-clause-ac
 returns-in-Err-Memory-clause-accepted c = λ s at.
     let book = c.self.inside.book in
     let rows : book.journal ≡ s.journal = ap (λ (h : HubView). h.rows) c.self.view_is ∙ at.book.rows in
+    let dropped : book.horizon ≡ s.horizon = ap (λ (h : HubView). h.horizon) c.self.view_is ∙ at.book.horizon in
     let limit : book.capacity ≡ c.args.self.now.setting.capacity = c.self.invariant.capacity ∙ ap (λ (h : HubView). h.setting.capacity) c.self.view_is in
-    accepted-now c.args.self.now.setting book s c.args.change.now c.args.condition.now c.found-before.result c.count.result rows c.found-before.ensures c.count.ensures.count
+    accepted-now c.args.self.now.setting book s c.args.change.now c.args.condition.now c.found-before.result c.count.result rows dropped c.found-before.ensures c.count.ensures.count
     (sym c.is_met.ensures ∙ c.if-not-is_met.false) limit true
     (judged-memory book c.args.change.now (Err c.in-Err-Memory.field-0) (ap Err c.in-Err-Memory.field-0-is) c.in-Err-Memory.ensures.full)
+
+-- ---- what the calls ask
+
+-- the last commit is not below the horizon
+pub found-before-requires : goal.found-before-requires
+found-before-requires c = omega (arith, c.self.invariant.kept, c.self.invariant.within)
+
+pub make_way-requires-clause-above : goal.make_way-requires-clause-above
+make_way-requires-clause-above c = (let same : c.reserve.new.self.horizon ≡ c.self.inside.book.horizon = ap (λ (b : Contents). b.horizon) c.in-Ok.ensures.after in omega (arith, same, c.self.invariant.kept))
+
+-- there is a number for the commit
+pub add_reserved-requires-clause-count : goal.add_reserved-requires-clause-count
+add_reserved-requires-clause-count c =
+    let commits : length c.self.inside.book.journal ≡ c.args.self.now.commits = ap (λ (h : HubView). h.commits) c.self.view_is in
+    let same : length c.reserve.new.self.journal ≡ length c.self.inside.book.journal = ap (λ (b : Contents). length b.journal) c.in-Ok.ensures.after in
+    omega (arith, commits, same, c.requires)
 
 -- ---- the entry for the writes of the record is there still
 
@@ -209,6 +235,7 @@ invariant_of-self-in-Err c =
     let m = c.in-Err.ensures in
     subst (λ (b : Contents). IsSoundHub b c.make_way.new.front c.make_way.new.copies c.make_way.new.queries.entries c.make_way.new.life) (sym (given-back c))
     (sound-matched c.self.inside.book c.self.inside.front c.make_way.new.front c.self.inside.copies c.make_way.new.copies c.self.inside.queries.entries c.make_way.new.queries.entries c.self.inside.life c.make_way.new.life c.self.invariant
+    (let forward : c.self.inside.front ≤ c.make_way.new.front = m.forward in omega (arith, c.self.invariant.kept, forward))
     (subst (λ (b : Contents). c.make_way.new.front ≤ length b.journal) c.in-Ok.ensures.after m.within)
     (subst (λ (b : Contents). KeepsQueries b.journal c.make_way.new.front c.make_way.new.copies.copies c.make_way.new.copies.idle c.make_way.new.queries.entries) c.in-Ok.ensures.after m.kept)
     (subst (λ (b : Contents). KeepsLifetimes b.journal c.make_way.new.front c.make_way.new.copies c.make_way.new.life) c.in-Ok.ensures.after m.lifetimes)

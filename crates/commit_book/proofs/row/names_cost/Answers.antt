@@ -1,5 +1,5 @@
 use Rattle.std.proofs.Common.{arith, length, ap}
-use Rattle.commit_book.proofs.row.cost_with.Goals as goal
+use Rattle.commit_book.proofs.row.names_cost.Goals as goal
 
 -- the lengths are those of the names
 pub returns-clause-cost : goal.returns-clause-cost
