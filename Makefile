@@ -28,6 +28,10 @@ example: ## [at once, or 3 min] runs the examples and compares their output with
 	@sh tools/example.sh
 lasts: ## [30 s] tries the server with clients that are silent, slow or many, and ends it
 	@python3 tools/lasts.py
+metrics: ## [20 s] compares the metrics and the access log of a server with what it was sent
+	@python3 tools/metrics.py
+dashboard: ## [2 min] draws docs/dashboard.svg, the panels of examples/grafana.json, from a real run
+	@python3 tools/dashboard.py
 hostile: ## [1 min] tries the server with a proxy that splits, delays, repeats and cuts, and with garbage; SECONDS=N
 	@python3 tools/hostile.py $(if $(SECONDS),--seconds $(SECONDS))
 faults: ## [1 min] refuses each allocation of a run in turn, and compares what is answered with a run without that
@@ -61,4 +65,4 @@ shop: ## [at once] starts a server, the example's page and a cache, and prints t
 
 named:
 	@test -n "$(CRATE)" || { echo "say which: CRATE=name" >&2; exit 2; }
-.PHONY: help try test check fmt lint edits plant crate program run example lasts hostile faults soak costs caches bench ci dist verify-dist wasm client client-test browser-test shop named
+.PHONY: help try test check fmt lint edits plant crate program run example lasts metrics dashboard hostile faults soak costs caches bench ci dist verify-dist wasm client client-test browser-test shop named

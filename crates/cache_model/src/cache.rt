@@ -6,7 +6,7 @@ ghost use Rattle.cache_model.specs.Cache.{empty_cache, held_by, is_held, answer_
 
 use crate::lookup::{Answer, Lookup};
 use crate::manner::Manner;
-use client_model::Reply;
+use client_model::{Reply, copy_of};
 use lru::LruCache;
 use q_base::{Memory, Moment};
 use query_normal::Key;
@@ -201,21 +201,4 @@ fn is_tagged_alike(held: &Reply, reply: &Reply) -> bool
         (Some(tag), Some(other)) => tag == other,
         _ => false,
     }
-}
-
-/// The same reply. Both share the body.
-fn copy_of(reply: &Reply) -> Result<Reply, Memory>
-    ensures { IfOk result (λ copy. copy ≡ reply.now) }
-{
-    let body = reply.body.clone()?;
-    Ok(Reply {
-        status: reply.status,
-        commit: reply.commit,
-        version: reply.version,
-        until: reply.until,
-        date: reply.date,
-        max_age: reply.max_age,
-        tag: reply.tag,
-        body,
-    })
 }

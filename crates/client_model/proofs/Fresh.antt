@@ -89,7 +89,7 @@ abbrev pub Clocks : Type 0
 Clocks = (g : Setting) (history : List Entry) → (state_of g history).clock ≡ clock_of history
 
 abbrev pub Copies : Type 0
-Copies = (g : Setting) (history : List Entry) (key : KeyShape) (at clock ttl : ℕ) → IsRead g history key at clock ttl ↔ Contains (state_of g history).copies (record { key = key; at = at; clock = clock; ttl = ttl })
+Copies = (g : Setting) (history : List Entry) (key : KeyShape) (at clock ttl : ℕ) (absent : Bool) → IsRead g history key at clock ttl absent ↔ Contains (state_of g history).copies (record { key = key; at = at; clock = clock; ttl = ttl; absent = absent })
 
 abbrev pub Laters : Type 0
 Laters = (g : Setting) (history longer : List Entry) → IsPrefix history longer → IsLegal g longer → IsLater (state_of g history) (state_of g longer)
@@ -97,7 +97,7 @@ Laters = (g : Setting) (history longer : List Entry) → IsPrefix history longer
 -- the clock of a copy is at most that of the state
 early : Clocks → Copies → Laters → (g : Setting) (history : List Entry) → IsLegal g history → (r : IssuedCopy) → Contains (state_of g history).copies r → r.clock ≤ (state_of g history).clock
 early clocks copies laters g history legal r among =
-    let read = (copies g history r.key r.at r.clock r.ttl).1 among in
+    let read = (copies g history r.key r.at r.clock r.ttl r.absent).1 among in
     let first = read.before ++ Read read.moment r.key read.tags r.at ∷ [] in
     let begins : IsPrefix first history = (read.rest, append_assoc read.before (Read read.moment r.key read.tags r.at ∷ []) read.rest ∙ sym read.split) in
     let later = (laters g first history begins legal).clock in

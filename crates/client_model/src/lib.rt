@@ -4,4 +4,4 @@
 pub mod laws;
 mod reply;
 
-pub use reply::Reply;
+pub use reply::{Reply, copy_of};

@@ -1,5 +1,7 @@
 //! A reply to a read, as caches and clients see it.
-use q_base::{Commit, Moment, SharedText};
+ghost use Rattle.std.specs.Prelude.{◌≡◌, IfOk};
+
+use q_base::{Commit, Memory, Moment, SharedText};
 
 /// A reply to a read, as caches and clients see it.
 #[derive(Debug, Drop)]
@@ -20,4 +22,21 @@ pub struct Reply {
     pub tag: Option<Commit>,
     /// What it holds. Clones share it.
     pub body: SharedText,
+}
+
+/// The same reply. Both share the body.
+pub fn copy_of(reply: &Reply) -> Result<Reply, Memory>
+    ensures { IfOk result (λ copy. copy ≡ reply.now) }
+{
+    let body = reply.body.clone()?;
+    Ok(Reply {
+        status: reply.status,
+        commit: reply.commit,
+        version: reply.version,
+        until: reply.until,
+        date: reply.date,
+        max_age: reply.max_age,
+        tag: reply.tag,
+        body,
+    })
 }

@@ -15,6 +15,7 @@ use q_base::{Memory, Moment, Name};
 use q_doc::Doc;
 use query_normal::Key;
 use std::alloc::Global;
+use std::rt::Clock;
 use std::sync::Wait;
 use std::test::Fail;
 use turnstile::Stands;
@@ -50,7 +51,7 @@ struct Meeting {
 }
 
 /// The first seat writes, the second one reads, and they are joined.
-fn write_and_read<R: Wait>(
+fn write_and_read<R: Wait + Clock>(
     rt: &R,
     turnstile: &Turnstile<HubValue>,
     first: Seat<HubValue>,

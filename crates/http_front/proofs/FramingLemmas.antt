@@ -76,9 +76,10 @@ module _ (found : Header → List (List ℕ)) where
   tag_lacks e None = none_lacks
   tag_lacks e (Some n) = one_lacks _ _ (e.tag _)
 
-  lifetime_lacks : IsElsewhere → (ttl : ℕ) → Lacks (lifetime_field ttl)
-  lifetime_lacks e zero = one_lacks _ _ (e.lifetime _)
-  lifetime_lacks e (suc n) = one_lacks _ _ (e.lifetime _)
+  lifetime_lacks : IsElsewhere → (ttl shared : ℕ) → Lacks (lifetime_field ttl shared)
+  lifetime_lacks e zero shared = one_lacks _ _ (e.lifetime _)
+  lifetime_lacks e (suc n) zero = one_lacks _ _ (e.lifetime _)
+  lifetime_lacks e (suc n) (suc m) = one_lacks _ _ (e.lifetime _)
 
   allow_lacks : IsElsewhere → (allow : Option Allow) → Lacks (allow_field allow)
   allow_lacks e None = none_lacks
@@ -113,7 +114,7 @@ module _ (found : Header → List (List ℕ)) where
       behind (date_field h.dated date) _ (date_lacks e h.dated date)
       ∙ behind (media_field h.media) _ (media_lacks e h.media)
       ∙ ahead (number_field (codes "Content-Length") h.length) _
-      (lacks-append (tag_lacks e h.tag) (lacks-append (lifetime_lacks e h.ttl) (lacks-append (allow_lacks e h.allow)
+      (lacks-append (tag_lacks e h.tag) (lacks-append (lifetime_lacks e h.ttl h.shared) (lacks-append (allow_lacks e h.allow)
       (lacks-append (number_lacks _ e.commit h.commit) (lacks-append (number_lacks _ e.version h.version)
       (lacks-append (number_lacks _ e.until h.until) (lacks-append (pages_lacks e h.leave h.calls) (close_lacks e h.close))))))))
 

@@ -1,5 +1,5 @@
 -- The lines of a head, as they are written one behind the other.
-use Rattle.std.proofs.Common.{◌≡◌, ℕ, zero, suc, Bool, true, false, not, ◌&&◌, List, [], ◌++◌, Option, Some, None, codes, refl, sym, ap, ◌∙◌}
+use Rattle.std.proofs.Common.{◌≡◌, ℕ, zero, suc, ◌<◌, Bool, true, false, not, ◌&&◌, List, [], ◌++◌, Option, Some, None, codes, refl, sym, ap, ap₂, ◌∙◌, arith}
 use Rattle.std.proofs.lemmas.List.{append_assoc, append-nil}
 use Rattle.std.proofs.lemmas.Grind.{flat_map-append}
 use Rattle.std.specs.Prelude.{decimal, is_none}
@@ -32,10 +32,26 @@ tag_line (Some n) =
 
 -- a lifetime above 0
 pub lifetime_line : (ttl number : ℕ) → (ttl ≡ 0 → ⊥) → number ≡ ttl
-    → number_line (codes "Cache-Control: max-age=") (Some number) (codes "\r\n") ≡ print_headers (lifetime_field ttl)
+    → number_line (codes "Cache-Control: max-age=") (Some number) (codes "\r\n") ≡ print_headers (lifetime_field ttl 0)
 lifetime_line zero number some same = absurd (some refl)
 lifetime_line (suc n) number some same =
     ap (λ k. number_line (codes "Cache-Control: max-age=") (Some k) (codes "\r\n")) same ∙ sym (append-nil _)
+
+-- one for a shared cache too
+pub shared_line : (ttl shared number other : ℕ) → 0 < ttl → 0 < shared → number ≡ ttl → other ≡ shared
+    → number_line (codes "Cache-Control: public, max-age=") (Some number) (codes ", ") ++ number_line (codes "s-maxage=") (Some other) (codes "\r\n")
+    ≡ print_headers (lifetime_field ttl shared)
+shared_line zero shared number other some more same alike = absurd (omega (arith, some))
+shared_line (suc n) zero number other some more same alike = absurd (omega (arith, more))
+shared_line (suc n) (suc m) number other some more same alike =
+    ap₂ (λ j k. number_line (codes "Cache-Control: public, max-age=") (Some j) (codes ", ") ++ number_line (codes "s-maxage=") (Some k) (codes "\r\n")) same alike
+    ∙ sym (append_assoc ((codes "Cache-Control: public, max-age=" ++ decimal (suc n)) ++ codes ", ") (codes "s-maxage=" ++ decimal (suc m)) (codes "\r\n"))
+    ∙ sym (append-nil _)
+
+-- two pieces behind a text
+pub two_pieces : (start one all first second tail : List ℕ) → one ≡ start ++ first → all ≡ one ++ second → first ++ second ≡ tail → all ≡ start ++ tail
+two_pieces start one all first second tail p q is =
+    q ∙ ap (λ t. t ++ second) p ∙ append_assoc start first second ∙ ap (λ t. start ++ t) is
 
 -- three pieces behind a text
 pub three_pieces : (start one two all first second middle third tail : List ℕ) → one ≡ start ++ first → two ≡ one ++ second → second ≡ middle
@@ -96,7 +112,7 @@ one_more prefix xs ys end text same =
 pub head_pieces : (h : Head) (date : List ℕ) → head_text h.status (head_fields h date)
     ≡ status_line h.status ++ print_headers (date_field h.dated date) ++ print_headers (media_field h.media)
     ++ number_line (codes "Content-Length: ") h.length (codes "\r\n")
-    ++ number_line (codes "ETag: \"") h.tag (codes "\"\r\n") ++ print_headers (lifetime_field h.ttl)
+    ++ number_line (codes "ETag: \"") h.tag (codes "\"\r\n") ++ print_headers (lifetime_field h.ttl h.shared)
     ++ print_headers (allow_field h.allow)
     ++ number_line (codes "Quaestor-Commit: ") h.commit (codes "\r\n")
     ++ number_line (codes "Quaestor-Version: ") h.version (codes "\r\n")
@@ -108,7 +124,7 @@ head_pieces h date =
     ∙ one_more _ (media_field h.media) _ _ _ refl
     ∙ one_more _ (number_field (codes "Content-Length") h.length) _ _ _ (number_lines (codes "Content-Length") h.length)
     ∙ one_more _ (tag_field h.tag) _ _ _ (tag_line h.tag)
-    ∙ one_more _ (lifetime_field h.ttl) _ _ _ refl
+    ∙ one_more _ (lifetime_field h.ttl h.shared) _ _ _ refl
     ∙ one_more _ (allow_field h.allow) _ _ _ refl
     ∙ one_more _ (number_field (codes "Quaestor-Commit") h.commit) _ _ _ (number_lines (codes "Quaestor-Commit") h.commit)
     ∙ one_more _ (number_field (codes "Quaestor-Version") h.version) _ _ _ (number_lines (codes "Quaestor-Version") h.version)

@@ -12,6 +12,8 @@ mod OriginLemmas
 mod FramingLemmas
 mod GiveLemmas
 mod HeadLines
+mod HostLemmas
+mod NoteLemmas
 mod StatusLemmas
 mod PathLemmas
 mod PieceLemmas

@@ -25,7 +25,7 @@ use Rattle.http_front.specs.declared.refused.Allow.TheVariants.{Record, Post, Ot
 use Rattle.http_front.proofs.DateLemmas.{date_value, one_date}
 use Rattle.http_front.proofs.OriginLemmas.{origin_visible}
 use Rattle.http_front.proofs.StatusLemmas.{phrase_is_value}
-use Rattle.http_front.proofs.VisibleLemmas.{AreVisible, visible-append, visible_value, decimal_visible}
+use Rattle.http_front.proofs.VisibleLemmas.{AreValues, AreVisible, Begins, begins-append, begun_value, decimal_visible, values-append, visible-append, visible_end, visible_value, visible_values}
 
 -- Fields that a head may have.
 record AreGood (fields : List Header) : Type 0 where
@@ -65,13 +65,23 @@ tag_good (Some n) =
     one_good (codes "ETag") (codes "\"" ++ (decimal n ++ codes "\"")) refl
     (visible_value (codes "\"" ++ (decimal n ++ codes "\"")) (visible-append separator (visible-append (decimal_visible n) separator)))
 
-lifetime_good : (ttl : ℕ) → AreGood (lifetime_field ttl)
+lifetime_good : (ttl shared : ℕ) → AreGood (lifetime_field ttl shared)
 unfolding is_token_byte
-lifetime_good zero = one_good (codes "Cache-Control") (codes "no-store") refl refl
-lifetime_good (suc n) =
+lifetime_good zero shared = one_good (codes "Cache-Control") (codes "no-store") refl refl
+lifetime_good (suc n) zero =
     let word : AreVisible (codes "max-age=") = record { all = refl } in
     one_good (codes "Cache-Control") (codes "max-age=" ++ decimal (suc n)) refl
     (visible_value (codes "max-age=" ++ decimal (suc n)) (visible-append word (decimal_visible (suc n))))
+lifetime_good (suc n) (suc m) =
+    let word : AreVisible (codes "s-maxage=") = record { all = refl } in
+    let end : AreVisible (codes "s-maxage=" ++ decimal (suc m)) = visible-append word (decimal_visible (suc m)) in
+    let start : AreValues (codes "public, max-age=") = record { all = refl } in
+    let comma : AreValues (codes ", ") = record { all = refl } in
+    let values = values-append (values-append (values-append start (visible_values (decimal_visible (suc n)))) comma) (visible_values end) in
+    let begins : Begins (codes "public, max-age=") = record { some = omega arith; visible = refl } in
+    one_good (codes "Cache-Control") (((codes "public, max-age=" ++ decimal (suc n)) ++ codes ", ") ++ (codes "s-maxage=" ++ decimal (suc m))) refl
+    (begun_value ((codes "public, max-age=" ++ decimal (suc n)) ++ codes ", ") (codes "s-maxage=" ++ decimal (suc m))
+    (begins-append ((decimal (suc n) ++ codes ", ") ++ (codes "s-maxage=" ++ decimal (suc m))) begins) values (visible_end end (omega arith)))
 
 methods_value : (allow : Allow) → is_trimmed_value (methods_text allow) ≡ true
 methods_value Record = refl
@@ -117,7 +127,7 @@ unfolding head_fields is_token_byte
 fields_good h seconds date tellable of =
     good-append (date_good h.dated seconds date of) (good-append (media_good h.media)
     (good-append (number_good (codes "Content-Length") h.length refl) (good-append (tag_good h.tag)
-    (good-append (lifetime_good h.ttl) (good-append (allow_good h.allow)
+    (good-append (lifetime_good h.ttl h.shared) (good-append (allow_good h.allow)
     (good-append (number_good (codes "Quaestor-Commit") h.commit refl)
     (good-append (number_good (codes "Quaestor-Version") h.version refl)
     (good-append (number_good (codes "Quaestor-Until") h.until refl) (good-append (pages_good h.leave h.calls tellable) (close_good h.close))))))))))

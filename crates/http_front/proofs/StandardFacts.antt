@@ -41,29 +41,29 @@ unfolding head_text head_fields status_line digits get put head
 accepted-put = refl
 
 -- a read that finds a document
-read-document : text_at_100 get (Read (record { commit = 1; clock = 100; ttl = 3600; result = Whole (codes "{\"a\":1}") (Some 1) })) false ≡ codes "HTTP/1.1 200 OK\r\nDate: Thu, 01 Jan 1970 00:01:40 GMT\r\nContent-Type: application/json\r\nContent-Length: 7\r\nETag: \"1\"\r\nCache-Control: max-age=3600\r\nQuaestor-Commit: 1\r\nQuaestor-Version: 1\r\nQuaestor-Until: 3700\r\n\r\n{\"a\":1}"
+read-document : text_at_100 get (Read (record { commit = 1; clock = 100; ttl = 3600; shared = 0; result = Whole (codes "{\"a\":1}") (Some 1) })) false ≡ codes "HTTP/1.1 200 OK\r\nDate: Thu, 01 Jan 1970 00:01:40 GMT\r\nContent-Type: application/json\r\nContent-Length: 7\r\nETag: \"1\"\r\nCache-Control: max-age=3600\r\nQuaestor-Commit: 1\r\nQuaestor-Version: 1\r\nQuaestor-Until: 3700\r\n\r\n{\"a\":1}"
 unfolding head_text head_fields status_line digits get put head
 read-document = refl
 
 -- the same with HEAD
-head-of-document : text_at_100 head (Read (record { commit = 1; clock = 100; ttl = 3600; result = Whole (codes "{\"a\":1}") (Some 1) })) false ≡ codes "HTTP/1.1 200 OK\r\nDate: Thu, 01 Jan 1970 00:01:40 GMT\r\nContent-Type: application/json\r\nContent-Length: 7\r\nETag: \"1\"\r\nCache-Control: max-age=3600\r\nQuaestor-Commit: 1\r\nQuaestor-Version: 1\r\nQuaestor-Until: 3700\r\n\r\n"
+head-of-document : text_at_100 head (Read (record { commit = 1; clock = 100; ttl = 3600; shared = 0; result = Whole (codes "{\"a\":1}") (Some 1) })) false ≡ codes "HTTP/1.1 200 OK\r\nDate: Thu, 01 Jan 1970 00:01:40 GMT\r\nContent-Type: application/json\r\nContent-Length: 7\r\nETag: \"1\"\r\nCache-Control: max-age=3600\r\nQuaestor-Commit: 1\r\nQuaestor-Version: 1\r\nQuaestor-Until: 3700\r\n\r\n"
 unfolding head_text head_fields status_line digits get put head
 head-of-document = refl
 
 -- a read of what the caller knows, and the same with HEAD
-same-document : (text_at_100 get (Read (record { commit = 7; clock = 100; ttl = 60; result = Same 5 (Some 4) })) false ≡ codes "HTTP/1.1 304 Not Modified\r\nDate: Thu, 01 Jan 1970 00:01:40 GMT\r\nETag: \"5\"\r\nCache-Control: max-age=60\r\nQuaestor-Commit: 7\r\nQuaestor-Version: 4\r\nQuaestor-Until: 160\r\n\r\n")
-    × (text_at_100 head (Read (record { commit = 7; clock = 100; ttl = 60; result = Same 5 (Some 4) })) false ≡ codes "HTTP/1.1 304 Not Modified\r\nDate: Thu, 01 Jan 1970 00:01:40 GMT\r\nETag: \"5\"\r\nCache-Control: max-age=60\r\nQuaestor-Commit: 7\r\nQuaestor-Version: 4\r\nQuaestor-Until: 160\r\n\r\n")
+same-document : (text_at_100 get (Read (record { commit = 7; clock = 100; ttl = 60; shared = 0; result = Same 5 (Some 4) })) false ≡ codes "HTTP/1.1 304 Not Modified\r\nDate: Thu, 01 Jan 1970 00:01:40 GMT\r\nETag: \"5\"\r\nCache-Control: max-age=60\r\nQuaestor-Commit: 7\r\nQuaestor-Version: 4\r\nQuaestor-Until: 160\r\n\r\n")
+    × (text_at_100 head (Read (record { commit = 7; clock = 100; ttl = 60; shared = 0; result = Same 5 (Some 4) })) false ≡ codes "HTTP/1.1 304 Not Modified\r\nDate: Thu, 01 Jan 1970 00:01:40 GMT\r\nETag: \"5\"\r\nCache-Control: max-age=60\r\nQuaestor-Commit: 7\r\nQuaestor-Version: 4\r\nQuaestor-Until: 160\r\n\r\n")
 unfolding head_text head_fields status_line digits get put head
 same-document = (refl, refl)
 
 -- a read of a query, and of one whose result the caller knows: they may be kept, and have no version
-result-of-query : (text_at_100 get (Read (record { commit = 1; clock = 100; ttl = 60; result = Whole (codes "[\"p1\"]") None })) false ≡ codes "HTTP/1.1 200 OK\r\nDate: Thu, 01 Jan 1970 00:01:40 GMT\r\nContent-Type: application/json\r\nContent-Length: 6\r\nETag: \"1\"\r\nCache-Control: max-age=60\r\nQuaestor-Commit: 1\r\nQuaestor-Until: 160\r\n\r\n[\"p1\"]")
-    × (text_at_100 get (Read (record { commit = 2; clock = 100; ttl = 60; result = Same 1 None })) false ≡ codes "HTTP/1.1 304 Not Modified\r\nDate: Thu, 01 Jan 1970 00:01:40 GMT\r\nETag: \"1\"\r\nCache-Control: max-age=60\r\nQuaestor-Commit: 2\r\nQuaestor-Until: 160\r\n\r\n")
+result-of-query : (text_at_100 get (Read (record { commit = 1; clock = 100; ttl = 60; shared = 0; result = Whole (codes "[\"p1\"]") None })) false ≡ codes "HTTP/1.1 200 OK\r\nDate: Thu, 01 Jan 1970 00:01:40 GMT\r\nContent-Type: application/json\r\nContent-Length: 6\r\nETag: \"1\"\r\nCache-Control: max-age=60\r\nQuaestor-Commit: 1\r\nQuaestor-Until: 160\r\n\r\n[\"p1\"]")
+    × (text_at_100 get (Read (record { commit = 2; clock = 100; ttl = 60; shared = 0; result = Same 1 None })) false ≡ codes "HTTP/1.1 304 Not Modified\r\nDate: Thu, 01 Jan 1970 00:01:40 GMT\r\nETag: \"1\"\r\nCache-Control: max-age=60\r\nQuaestor-Commit: 2\r\nQuaestor-Until: 160\r\n\r\n")
 unfolding head_text head_fields status_line digits get put head
 result-of-query = (refl, refl)
 
 -- a HEAD that finds none
-head-of-absent : text_at_100 head (Read (record { commit = 1; clock = 100; ttl = 3600; result = Absent })) false ≡ codes "HTTP/1.1 404 Not Found\r\nDate: Thu, 01 Jan 1970 00:01:40 GMT\r\nContent-Type: application/json\r\nContent-Length: 18\r\nCache-Control: max-age=3600\r\nQuaestor-Commit: 1\r\nQuaestor-Until: 3700\r\n\r\n"
+head-of-absent : text_at_100 head (Read (record { commit = 1; clock = 100; ttl = 3600; shared = 0; result = Absent })) false ≡ codes "HTTP/1.1 404 Not Found\r\nDate: Thu, 01 Jan 1970 00:01:40 GMT\r\nContent-Type: application/json\r\nContent-Length: 18\r\nCache-Control: max-age=3600\r\nQuaestor-Commit: 1\r\nQuaestor-Until: 3700\r\n\r\n"
 unfolding head_text head_fields status_line digits get put head
 head-of-absent = refl
 

@@ -2,7 +2,7 @@
 use Rattle.std.proofs.Common.{◌≡◌, ℕ, zero, suc, ◌/◌, ◌%◌, ◌<◌, Bool, true, false, not, List, [], ◌∷◌, ◌++◌, length, reverse, nat_lt, refl, ap, ◌∙◌, arith, inl, inr}
 use Rattle.std.proofs.lemmas.Bool.{cases_Bool, and_from}
 use Rattle.std.proofs.lemmas.Bool.Decides.{nat_tests}
-use Rattle.std.proofs.lemmas.List.{reverse-append}
+use Rattle.std.proofs.lemmas.List.{length-reverse, reverse-append}
 use Rattle.std.proofs.lemmas.List.Elements.{All-head, All-weaker}
 use Rattle.std.proofs.lemmas.List.Folds.{list_all-append}
 use Rattle.std.proofs.lemmas.List.Sums.{AllPass-from_list_all, list_all-from_AllPass}
@@ -37,6 +37,29 @@ visible_value text visible =
     and_from _ _ (starts_shown text all)
     (and_from _ _ (starts_shown (reverse text) (AllPass-reverse is_visible text all)) (list_all-from_AllPass is_value_byte text values))
 
+-- Each byte may be in a value.
+pub record AreValues (text : List ℕ) : Type 0 where
+  pub all : list_all is_value_byte text ≡ true
+
+-- A text begins with a byte that is no white space.
+pub record Begins (text : List ℕ) : Type 0 where
+  pub some : 0 < length text
+  pub visible : starts_visible text ≡ true
+
+-- so its bytes may be in one
+pub visible_values : {text : List ℕ} → AreVisible text → AreValues text
+visible_values {text} visible = record {
+  all = list_all-from_AllPass is_value_byte text
+      (All-weaker (λ b. is_visible b ≡ true) (λ b. is_value_byte b ≡ true) (λ b e. (is_shown b e).1) text (AllPass-from_list_all is_visible text visible.all));
+}
+
+-- and its last byte is no white space
+pub visible_end : {text : List ℕ} → AreVisible text → 0 < length text → Begins (reverse text)
+visible_end {text} visible some = record {
+  some = rw (length-reverse text) some;
+  visible = starts_shown (reverse text) (AllPass-reverse is_visible text (AllPass-from_list_all is_visible text visible.all));
+}
+
 glyph_shown : (d : ℕ) → d < 10 → is_visible (digit_glyph false d) ≡ true
 glyph_shown d low =
     let small : nat_lt d 10 ≡ true = grind (arith, nat_tests) in
@@ -66,17 +89,8 @@ pub decimal_digits : (n : ℕ) → list_all is_ascii_digit (decimal n) ≡ true
 unfolding digits
 decimal_digits n = digits_pass is_ascii_digit glyph_digit 64 n [] refl
 
--- Each byte may be in a value.
-pub record AreValues (text : List ℕ) : Type 0 where
-  pub all : list_all is_value_byte text ≡ true
-
 pub values-append : {xs ys : List ℕ} → AreValues xs → AreValues ys → AreValues (xs ++ ys)
 values-append {xs} {ys} p q = record { all = list_all-append is_value_byte xs ys ∙ and_from _ _ p.all q.all }
-
--- A text begins with a byte that is no white space.
-pub record Begins (text : List ℕ) : Type 0 where
-  pub some : 0 < length text
-  pub visible : starts_visible text ≡ true
 
 begins_on : (xs ys : List ℕ) → 0 < length xs → starts_visible xs ≡ true → Begins (xs ++ ys)
 begins_on [] ys some e = absurd (omega arith)

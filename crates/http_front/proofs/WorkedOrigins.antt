@@ -39,7 +39,7 @@ unfolding head_text head_fields status_line digits values leave_of is_origin
 asked-other = refl
 
 -- a page of any origin reads what it knows
-same-document : text_at_100 (to_page (codes "*") (codes "GET") (codes "https://shop.example")) (Read (record { commit = 7; clock = 100; ttl = 60; result = Same 5 (Some 4) })) ≡ codes "HTTP/1.1 304 Not Modified\r\nDate: Thu, 01 Jan 1970 00:01:40 GMT\r\nETag: \"5\"\r\nCache-Control: max-age=60\r\nQuaestor-Commit: 7\r\nQuaestor-Version: 4\r\nQuaestor-Until: 160\r\nAccess-Control-Allow-Origin: *\r\nAccess-Control-Expose-Headers: Date, ETag, Quaestor-Commit, Quaestor-Until, Quaestor-Version\r\n\r\n"
+same-document : text_at_100 (to_page (codes "*") (codes "GET") (codes "https://shop.example")) (Read (record { commit = 7; clock = 100; ttl = 60; shared = 0; result = Same 5 (Some 4) })) ≡ codes "HTTP/1.1 304 Not Modified\r\nDate: Thu, 01 Jan 1970 00:01:40 GMT\r\nETag: \"5\"\r\nCache-Control: max-age=60\r\nQuaestor-Commit: 7\r\nQuaestor-Version: 4\r\nQuaestor-Until: 160\r\nAccess-Control-Allow-Origin: *\r\nAccess-Control-Expose-Headers: Date, ETag, Quaestor-Commit, Quaestor-Until, Quaestor-Version\r\n\r\n"
 unfolding head_text head_fields status_line digits values leave_of is_origin
 same-document = refl
 

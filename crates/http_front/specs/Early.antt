@@ -8,7 +8,7 @@ use Rattle.http_front.specs.Target.{local_part, path_of, query_of}
 use Rattle.http_front.specs.declared.ask.Ask.{Ask}
 use Rattle.http_front.specs.declared.ask.Ask.TheVariants.{Write, Read, Purges, MatchAll, Horizon, Fetch, Stats}
 use Rattle.http_front.specs.declared.refused.Refused.{Refused}
-use Rattle.http_front.specs.declared.refused.Refused.TheVariants.{Framing, BadHost, BadTarget, NoRoute, BadMethod, NoLength, BadEncoding, BadTag, BadFilter, BadDocument}
+use Rattle.http_front.specs.declared.refused.Refused.TheVariants.{Framing, BadHost, Misdirected, BadTarget, NoRoute, BadMethod, NoLength, BadEncoding, BadTag, BadFilter, BadDocument}
 use Rattle.http_front.specs.declared.routes.Route.{Route}
 use Rattle.http_front.specs.declared.routes.Served.{Served}
 
@@ -26,6 +26,7 @@ decodes_in s (Some local) = decodes_at (served_of s (route_of (path_of local))) 
 -- a refusal for the Host, the target, the route, the method, the length or the coding; where fields of a query are decoded, the target is not among them
 abbrev pub is_early_refusal : Bool → Refused → Bool
 is_early_refusal decodes BadHost = true
+is_early_refusal decodes Misdirected = true
 is_early_refusal decodes BadTarget = not decodes
 is_early_refusal decodes NoRoute = true
 is_early_refusal decodes (BadMethod methods) = true

@@ -7,6 +7,7 @@ pub mod Date
 pub mod Early
 pub mod Filters
 pub mod Free
+pub mod Hosts
 pub mod Lines
 pub mod Numbers
 pub mod Origins

@@ -53,10 +53,12 @@ abbrev pub tag_field : Option ℕ → List Header
 tag_field None = []
 tag_field (Some n) = (codes "ETag", codes "\"" ++ (decimal n ++ codes "\"")) ∷ []
 
--- for how many seconds the reply is fresh (RFC 9111, section 5.2.2)
-abbrev pub lifetime_field : ℕ → List Header
-lifetime_field zero = (codes "Cache-Control", codes "no-store") ∷ []
-lifetime_field (suc n) = (codes "Cache-Control", codes "max-age=" ++ decimal (suc n)) ∷ []
+-- for how many seconds the reply is fresh, and for how many in a shared cache, where that is told (RFC 9111, section 5.2.2)
+abbrev pub lifetime_field : ℕ → ℕ → List Header
+lifetime_field zero shared = (codes "Cache-Control", codes "no-store") ∷ []
+lifetime_field (suc n) zero = (codes "Cache-Control", codes "max-age=" ++ decimal (suc n)) ∷ []
+lifetime_field (suc n) (suc m) =
+    (codes "Cache-Control", ((codes "public, max-age=" ++ decimal (suc n)) ++ codes ", ") ++ (codes "s-maxage=" ++ decimal (suc m))) ∷ []
 
 -- methods as a list
 abbrev pub methods_text : Allow → List ℕ
@@ -102,7 +104,7 @@ close_field false = []
 unfoldable pub head_fields : Head → List ℕ → List Header
 head_fields h date =
     date_field h.dated date ++ (media_field h.media ++ (number_field (codes "Content-Length") h.length
-    ++ (tag_field h.tag ++ (lifetime_field h.ttl ++ (allow_field h.allow
+    ++ (tag_field h.tag ++ (lifetime_field h.ttl h.shared ++ (allow_field h.allow
     ++ (number_field (codes "Quaestor-Commit") h.commit ++ (number_field (codes "Quaestor-Version") h.version
     ++ (number_field (codes "Quaestor-Until") h.until ++ (pages_fields h.leave h.calls
     ++ close_field h.close)))))))))

@@ -1,5 +1,5 @@
 -- Believed. The reply to each request: its status, its fields and its body.
-use Rattle.std.specs.Prelude.{◌≡◌, ℕ, ◌+◌, ◌-◌, ◌^◌, min, Bool, true, false, ◌&&◌, ◌||◌, List, [], ◌++◌, length, Option, Some, None, if◌then◌else◌, codes, decimal}
+use Rattle.std.specs.Prelude.{◌≡◌, ℕ, ◌+◌, ◌-◌, ◌^◌, max, min, Bool, true, false, ◌&&◌, ◌||◌, List, [], ◌++◌, length, Option, Some, None, if◌then◌else◌, codes, decimal}
 use Rattle.std.specs.List.{join_by}
 use Rattle.json.specs.Print.{quoted}
 use Rattle.hub_model.specs.Reply.{PurgesTold, told_of}
@@ -25,7 +25,7 @@ use Rattle.http_front.specs.declared.refused.FilterRefusal.{FilterRefusal}
 use Rattle.http_front.specs.declared.refused.QueryField.{QueryField}
 use Rattle.http_front.specs.declared.refused.QueryField.TheVariants as field
 use Rattle.http_front.specs.declared.refused.Refused.{Refused}
-use Rattle.http_front.specs.declared.refused.Refused.TheVariants.{Framing, BadHost, BadTarget, NoRoute, BadMethod, NoLength, BadEncoding, BadTag, BadFilter, BadDocument}
+use Rattle.http_front.specs.declared.refused.Refused.TheVariants.{Framing, BadHost, Misdirected, BadTarget, NoRoute, BadMethod, NoLength, BadEncoding, BadTag, BadFilter, BadDocument}
 use Rattle.http_front.specs.declared.shape.Shape.{Shape}
 use Rattle.http_front.specs.declared.told.Told.{Told}
 use Rattle.http_front.specs.declared.told.Told.TheVariants.{Write, Read, Match, Dropped, Page, Count, Purges, Refusal, Memory}
@@ -71,6 +71,7 @@ refusal (Framing BadLength) = failure 400 (codes "{\"error\":\"bad_length\"}")
 refusal (Framing BadCoding) = failure 501 (codes "{\"error\":\"bad_coding\"}")
 refusal (Framing BodyTooLarge) = failure 413 (codes "{\"error\":\"body_too_large\"}")
 refusal BadHost = failure 400 (codes "{\"error\":\"bad_host\"}")
+refusal Misdirected = failure 421 (codes "{\"error\":\"misdirected\"}")
 refusal BadTarget = failure 400 (codes "{\"error\":\"bad_target\"}")
 refusal NoRoute = failure 404 (codes "{\"error\":\"no_route\"}")
 refusal (BadMethod allow) = failure 405 (codes "{\"error\":\"bad_method\"}")
@@ -138,6 +139,7 @@ json_head status size close = record {
   length = Some size;
   tag = None;
   ttl = 0;
+  shared = 0;
   allow = None;
   commit = None;
   version = None;
@@ -165,8 +167,9 @@ abbrev pub answer_head : Answer → ℕ → ℕ → Bool → Head
 answer_head a status size close =
     record (json_head status size close) {
       ttl = a.ttl;
+      shared = a.shared;
       commit = Some a.commit;
-      until = Some (a.clock + a.ttl);
+      until = Some (a.clock + max a.ttl a.shared);
     }
 
 -- the head of a read that finds a result, of one that the caller knows (RFC 9110, section 15.4.5), and of one that finds none
@@ -190,6 +193,7 @@ abbrev pub is_of_method : Refused → Bool
 is_of_method (BadMethod allow) = true
 is_of_method (Framing refused) = false
 is_of_method BadHost = false
+is_of_method Misdirected = false
 is_of_method BadTarget = false
 is_of_method NoRoute = false
 is_of_method NoLength = false

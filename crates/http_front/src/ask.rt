@@ -11,6 +11,7 @@ ghost use Rattle.http_front.specs.Asks.{ask_at, ask_by, ask_of, condition_by, co
 ghost use Rattle.http_front.specs.Early.{is_early};
 ghost use Rattle.http_front.specs.Filters.{query_in};
 ghost use Rattle.http_front.specs.Free.{is_bare, is_bare_put, is_free_at, is_free_call, is_free_record};
+ghost use Rattle.http_front.specs.Hosts.{ask_to, is_early_to};
 ghost use Rattle.http_front.specs.Routes.{collection_in, id_in, route_of, served_of};
 ghost use Rattle.http_front.specs.Tags.{tags_in};
 ghost use Rattle.http_front.specs.Target.{after, ahead_of, path_of, query_of};
@@ -20,6 +21,7 @@ ghost use Rattle.http_front.specs.declared.routes.Route.TheVariants.{Record};
 use crate::cut::{cut_at, cut_in_two};
 use crate::fields::{has_condition, has_host, has_length, has_no_coding};
 use crate::filter::query_in;
+use crate::hosts::is_misdirected;
 use crate::names::{are_names, is_name, name_in};
 use crate::number::number_of;
 use crate::query::{QueryFields, fields_in};
@@ -95,6 +97,24 @@ pub fn ask_of(
         }
     }
     ask_at(alloc, request, local, routes, reading)
+}
+
+/// What a request asks of the hosts that a text names, or the first reason why it is refused: that it is
+/// for none of them, and then those of `ask_of`.
+pub fn ask_to(
+    alloc: Global,
+    hosts: &[u8],
+    request: &Request<'_>,
+    routes: &Routes,
+    reading: &mut ReadBuffer,
+) -> Result<Result<Ask, Refused>, Memory>
+    ensures asked { IfOk result (λ asked. asked ≡ ask_to hosts.now routes.now request.now) }
+    ensures early { is_early_to hosts.now routes.now request.now ≡ true → IsOk result }
+{
+    if is_misdirected(hosts, request) {
+        return Ok(Err(Refused::Misdirected));
+    }
+    ask_of(alloc, request, routes, reading)
 }
 
 /// What a request of a record asks that has no query.

@@ -211,6 +211,7 @@ fn refusal_body(refused: Refused, buffer: &mut [u8]) -> &[u8]
     match refused {
         Refused::Framing(refused) => framing_body(refused),
         Refused::BadHost => b"{\"error\":\"bad_host\"}",
+        Refused::Misdirected => b"{\"error\":\"misdirected\"}",
         Refused::BadTarget => b"{\"error\":\"bad_target\"}",
         Refused::NoRoute => b"{\"error\":\"no_route\"}",
         Refused::BadMethod(_) => b"{\"error\":\"bad_method\"}",

@@ -61,7 +61,7 @@ pub fn has_no_coding(request: &Request<'_>) -> bool
 }
 
 /// Whether two texts are the same without regard to ASCII case.
-fn is_same_word(text: &[u8], other: &[u8]) -> bool
+pub(crate) fn is_same_word(text: &[u8], other: &[u8]) -> bool
     ensures { result ≡ str_eq_ignore_ascii_case text.now other.now }
 {
     text.eq_ignore_ascii_case(other)

@@ -1,5 +1,5 @@
 //! The heads of replies.
-ghost use Rattle.std.specs.Prelude.{◌≡◌, ◌+◌, ◌≤◌, ◌++◌, length, take, IfSome};
+ghost use Rattle.std.specs.Prelude.{◌≡◌, ◌+◌, ◌<◌, ◌≤◌, ◌++◌, length, take, IfSome};
 ghost use Rattle.std.specs.Option.{option_copied};
 ghost use Rattle.http1.specs.Head.{print_headers};
 ghost use Rattle.http_front.specs.Reply.{media_field, methods_text, allow_field, origin_fields, vary_field, calls_fields, pages_fields, date_field, lifetime_field, close_field, head_text, head_fields};
@@ -44,6 +44,8 @@ pub struct Head<'a> {
     pub tag: Option<Commit>,
     /// For how many seconds the reply is fresh (RFC 9111, section 5.2.2.1); 0 is not at all.
     pub ttl: u32,
+    /// For how many seconds a shared cache may keep it (RFC 9111, section 5.2.2.10); 0 is not told.
+    pub shared: u32,
     /// The methods that the route has, where the request had another.
     pub allow: Option<Allow>,
     pub commit: Option<Commit>,
@@ -60,6 +62,7 @@ pub struct Head<'a> {
 
 impl<'a> Head<'a> {
     /// A head that has a date, a body of JSON of this length, and no field of the store.
+    #[inline(always)]
     pub fn json(status: StatusCode, length: usize, close: bool) -> Head<'a>
         ensures { result ≡ json_head status length close }
     {
@@ -70,6 +73,7 @@ impl<'a> Head<'a> {
             length: Some(length as u64),
             tag: None,
             ttl: 0,
+            shared: 0,
             allow: None,
             commit: None,
             version: None,
@@ -81,6 +85,7 @@ impl<'a> Head<'a> {
     }
 
     /// The head of the reply to a write.
+    #[inline(always)]
     fn of_written(put: bool, written: &Written, length: usize, close: bool) -> Head<'a>
         ensures { result ≡ written_head put written.now length close }
     {
@@ -97,18 +102,21 @@ impl<'a> Head<'a> {
     }
 
     /// The head of the reply to a read, without the fields of a document.
+    #[inline(always)]
     fn of_answer(answer: &Answer, status: StatusCode, length: usize, close: bool) -> Head<'a>
         ensures { result ≡ answer_head answer.now status length close }
     {
         Head {
             ttl: answer.ttl,
+            shared: answer.shared,
             commit: Some(answer.commit),
-            until: Some(answer.clock.seconds() + u64::from(answer.ttl)),
+            until: Some(answer.clock.seconds() + u64::from(answer.ttl.max(answer.shared))),
             ..Head::json(status, length, close)
         }
     }
 
     /// The head of the reply to a read.
+    #[inline(always)]
     fn of_read(answer: &Answer, length: usize, close: bool) -> Head<'a>
         ensures { result ≡ read_head answer.now answer.now.result length close }
     {
@@ -156,6 +164,7 @@ impl<'a> Head<'a> {
     }
 
     /// The head of a reply whose body has this length, without what it says of pages.
+    #[inline(always)]
     fn of_told(shape: &Shape<'_>, told: &Told, length: usize, close: bool) -> Head<'a>
         ensures { result ≡ told_head shape.now told.now length close }
     {
@@ -178,6 +187,7 @@ impl<'a> Head<'a> {
     }
 
     /// The head of a reply whose body has this length.
+    #[inline(always)]
     pub fn of(shape: &Shape<'a>, told: &Told, length: usize, close: bool) -> Head<'a>
         ensures { result ≡ head_of shape.now told.now length close }
     {
@@ -211,7 +221,7 @@ pub(crate) fn put_head(buffer: &mut [u8], head: &Head<'_>, date: &[u8]) -> usize
     at = put(buffer, at, media_line(head.media));
     at = put_field(buffer, at, b"Content-Length: ", head.length, b"\r\n");
     at = put_field(buffer, at, b"ETag: \"", head.tag, b"\"\r\n");
-    at = put_lifetime(buffer, at, head.ttl);
+    at = put_lifetime(buffer, at, head.ttl, head.shared);
     at = put(buffer, at, allow_line(head.allow));
     at = put_field(buffer, at, b"Quaestor-Commit: ", head.commit, b"\r\n");
     at = put_field(buffer, at, b"Quaestor-Version: ", head.version, b"\r\n");
@@ -342,14 +352,14 @@ fn put_date(buffer: &mut [u8], at: usize, dated: bool, date: &[u8]) -> usize
 
 /// Writes for how long the reply is fresh.
 #[inline(always)]
-fn put_lifetime(buffer: &mut [u8], at: usize, ttl: u32) -> usize
-    requires { at + 46 ≤ length buffer.old }
-    ensures end { result ≤ at + 46 }
-    ensures text { take result buffer.new ≡ take at buffer.old ++ print_headers (lifetime_field ttl) }
+fn put_lifetime(buffer: &mut [u8], at: usize, ttl: u32, shared: u32) -> usize
+    requires { at + 96 ≤ length buffer.old }
+    ensures end { result ≤ at + 96 }
+    ensures text { take result buffer.new ≡ take at buffer.old ++ print_headers (lifetime_field ttl shared) }
 {
     if ttl == 0 {
         put(buffer, at, b"Cache-Control: no-store\r\n")
-    } else {
+    } else if shared == 0 {
         put_field(
             buffer,
             at,
@@ -357,7 +367,30 @@ fn put_lifetime(buffer: &mut [u8], at: usize, ttl: u32) -> usize
             Some(u64::from(ttl)),
             b"\r\n",
         )
+    } else {
+        put_shared(buffer, at, ttl, shared)
     }
+}
+
+/// Writes for how long it is fresh, and for how long in a shared cache.
+#[inline(never)]
+fn put_shared(buffer: &mut [u8], at: usize, ttl: u32, shared: u32) -> usize
+    requires room { at + 96 ≤ length buffer.old }
+    requires fresh { 0 < ttl }
+    requires shared { 0 < shared }
+    ensures end { result ≤ at + 96 }
+    ensures text { take result buffer.new ≡ take at buffer.old ++ print_headers (lifetime_field ttl shared) }
+{
+    let own = u64::from(ttl);
+    let other = u64::from(shared);
+    let behind = put_field(
+        buffer,
+        at,
+        b"Cache-Control: public, max-age=",
+        Some(own),
+        b", ",
+    );
+    put_field(buffer, behind, b"s-maxage=", Some(other), b"\r\n")
 }
 
 /// Writes that the connection ends after the reply, where it does.

@@ -10,8 +10,10 @@ mod fields;
 mod filter;
 mod give;
 mod head;
+mod hosts;
 mod laws;
 mod names;
+mod note;
 mod number;
 mod origins;
 mod pieces;
@@ -28,8 +30,9 @@ mod status;
 mod tags;
 mod target;
 mod told;
+mod why;
 
-pub use ask::{Ask, ask_of};
+pub use ask::{Ask, ask_of, ask_to};
 pub use body::write_body;
 pub use give::give_reply;
 pub use head::{Head, MediaType};
@@ -37,6 +40,7 @@ pub use laws::{
     one_reply_is_read, paths_of_records_have_two_names, replies_are_framed, replies_have_one_text,
     replies_read_back,
 };
+pub use note::note_of;
 pub use origins::Leave;
 pub use pieces::{Body, Bytes, Parts, give_pieces};
 pub use query::{FieldValue, QueryFields, fields_in};

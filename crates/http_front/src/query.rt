@@ -168,7 +168,7 @@ fn read_field(
 }
 
 /// The field of a route that has this name.
-fn field_named(route: Route, name: &[u8]) -> Option<QueryField>
+pub(crate) fn field_named(route: Route, name: &[u8]) -> Option<QueryField>
     ensures { result ≡ field_named route name.now }
 {
     match route {
@@ -221,7 +221,7 @@ fn is_start(number: Option<u64>) -> bool
 }
 
 /// Whether a field of the query has this name.
-fn is_among(name: &[u8], query: &[u8]) -> bool
+pub(crate) fn is_among(name: &[u8], query: &[u8]) -> bool
     ensures { result ≡ is_among name.now (pieces_of query.now) }
 {
     let mut rest = query;

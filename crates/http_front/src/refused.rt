@@ -78,6 +78,8 @@ pub enum Refused {
     Framing(FramingRefusal),
     /// The fields of Host are not as many as the version asks for.
     BadHost,
+    /// The Host is none of those whose requests are served (RFC 9110, section 15.5.20).
+    Misdirected,
     /// The target is of no form that a route has, or a name or a field in it is none.
     BadTarget,
     /// No route has the path.

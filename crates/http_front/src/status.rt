@@ -66,6 +66,7 @@ pub(crate) fn refusal_status(refused: Refused) -> StatusCode
         Refused::BadHost | Refused::BadTarget | Refused::BadTag | Refused::BadFilter(_) => {
             StatusCode::BAD_REQUEST
         }
+        Refused::Misdirected => StatusCode::MISDIRECTED_REQUEST,
         Refused::NoRoute => StatusCode::NOT_FOUND,
         Refused::BadMethod(_) => StatusCode::METHOD_NOT_ALLOWED,
         Refused::NoLength => StatusCode::LENGTH_REQUIRED,

@@ -4,7 +4,7 @@
 
 use http_front::{
     ALL_ROUTES, Allow, Ask, DocumentReason, QueryField, QueryFields, Refused, Route, Routes,
-    Served, ask_of, fields_in,
+    Served, ask_of, ask_to, fields_in,
 };
 use http_message::{RequestRoom, next_request};
 use hub_model::{Condition, Tags};
@@ -152,6 +152,128 @@ fn the_first_cause_is_answered(rt: HostRuntime) -> Result<(), Fail> {
     ];
     for (bytes, wanted) in cases {
         refuses(&rt, rt.alloc(), bytes, wanted)?;
+    }
+    Ok(())
+}
+
+/// What the request in a room asks of the hosts that a text names.
+fn asked_of_hosts(
+    alloc: Global,
+    room: &RequestRoom,
+    hosts: &[u8],
+    routes: &Routes,
+) -> Result<Box<Asked>, Memory> {
+    let asked = ask_to(
+        alloc,
+        hosts,
+        &room.request(),
+        routes,
+        &mut ReadBuffer::new(alloc),
+    )?;
+    Ok(Box::new(alloc, asked)?)
+}
+
+/// The refusal of the request of these bytes, where these hosts are named.
+fn refusal_for(alloc: Global, bytes: &[u8], hosts: &[u8]) -> Result<Option<Refused>, Memory> {
+    let room = room_of(alloc, bytes)?;
+    let routes = all_routes(alloc)?;
+    let asked = asked_of_hosts(alloc, &room, hosts, &routes)?;
+    Ok(refusal_in(&asked))
+}
+
+/// The hosts that are named.
+const HOSTS: &[u8] = b"shop.example desk.example:8080 [::1]";
+
+#[test]
+fn a_request_for_another_host_is_misdirected(rt: HostRuntime) -> Result<(), Fail> {
+    let other = Some(Refused::Misdirected);
+    let cases: [(&[u8], &[u8], Option<Refused>); 19] = [
+        (
+            HOSTS,
+            b"GET /v1/stats HTTP/1.1\r\nHost: shop.example\r\n\r\n",
+            None,
+        ),
+        (
+            HOSTS,
+            b"GET /v1/stats HTTP/1.1\r\nHost: SHOP.Example:80\r\n\r\n",
+            None,
+        ),
+        (
+            HOSTS,
+            b"GET /v1/stats HTTP/1.1\r\nHost: shop.example:\r\n\r\n",
+            None,
+        ),
+        (
+            HOSTS,
+            b"GET /v1/stats HTTP/1.1\r\nHost: desk.example:8080\r\n\r\n",
+            None,
+        ),
+        (
+            HOSTS,
+            b"GET /v1/stats HTTP/1.1\r\nHost: [::1]:8080\r\n\r\n",
+            None,
+        ),
+        (
+            HOSTS,
+            b"GET /v1/stats HTTP/1.0\r\nHost: shop.example\r\n\r\n",
+            None,
+        ),
+        (
+            HOSTS,
+            b"GET /v1/stats HTTP/1.1\r\nHost: desk.example\r\n\r\n",
+            other,
+        ),
+        (
+            HOSTS,
+            b"GET /v1/stats HTTP/1.1\r\nHost: desk.example:80\r\n\r\n",
+            other,
+        ),
+        (
+            HOSTS,
+            b"GET /v1/stats HTTP/1.1\r\nHost: shop.example.evil\r\n\r\n",
+            other,
+        ),
+        (
+            HOSTS,
+            b"GET /v1/stats HTTP/1.1\r\nHost: my.shop.example\r\n\r\n",
+            other,
+        ),
+        (
+            HOSTS,
+            b"GET /v1/stats HTTP/1.1\r\nHost: shop.example:80a\r\n\r\n",
+            other,
+        ),
+        (HOSTS, b"GET /v1/stats HTTP/1.1\r\nHost:\r\n\r\n", other),
+        (HOSTS, b"GET /v1/stats HTTP/1.0\r\n\r\n", other),
+        (
+            HOSTS,
+            b"HEAD /v2 HTTP/1.1\r\nHost: evil.example\r\n\r\n",
+            other,
+        ),
+        (
+            HOSTS,
+            b"OPTIONS /v1/match HTTP/1.1\r\nHost: evil.example\r\n\r\n",
+            other,
+        ),
+        (
+            HOSTS,
+            b"PUT /v1/d/shop/p1 HTTP/1.1\r\nHost: evil.example\r\nIf-Match: x\r\nContent-Length: 2\r\n\r\n{}",
+            other,
+        ),
+        (
+            HOSTS,
+            b"GET /v1/stats HTTP/1.1\r\n\r\n",
+            Some(Refused::BadHost),
+        ),
+        (
+            b"",
+            b"GET /v1/stats HTTP/1.1\r\nHost: evil.example\r\n\r\n",
+            None,
+        ),
+        (b"", b"GET /v1/stats HTTP/1.0\r\n\r\n", None),
+    ];
+    for (hosts, bytes, wanted) in cases {
+        assert_eq!(rt; refusal_for(rt.alloc(), bytes, hosts)?, wanted);
     }
     Ok(())
 }

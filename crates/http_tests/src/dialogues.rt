@@ -6,7 +6,7 @@ use crate::asks::new_room;
 use dialogue::{Answers, hold_dialogue};
 use http_message::{FramingRefusal, Request, RequestRoom};
 use q_base::Memory;
-use q_outside::{Failed, ListSink, ListSource, Script, Served, Sink, Source, Why, give_all};
+use q_outside::{Failed, ListSink, ListSource, Note, Script, Served, Sink, Source, Why, give_all};
 use std::alloc::Global;
 use std::cell::Cell;
 use std::marker::Brand;
@@ -310,6 +310,8 @@ impl Sink for Shown<'_> {
     }
 
     fn end(&mut self) {}
+
+    fn note(&mut self, _note: &Note<'_>) {}
 }
 
 /// A source of pieces that fails where it is asked for one before the due number of bytes was given.

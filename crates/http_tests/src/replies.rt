@@ -2,12 +2,12 @@
 use http::StatusCode;
 use http_front::{
     Allow, DocumentReason, Head, Leave, Parts, Refused, ReplyRoom, Shape, Told, give_pieces,
-    give_reply, reply_text, write_body,
+    give_reply, note_of, reply_text, write_body,
 };
 use http_message::FramingRefusal;
 use hub_model::{Answer, Dropped, Found, Matched, Outcome, Stats, Written};
 use q_base::{Commit, Memory, Moment, SharedText, Text};
-use q_outside::EndlessSink;
+use q_outside::{EndlessSink, Note};
 use result_kinds::ResultText;
 use std::alloc::Global;
 use std::process::Abort;
@@ -70,6 +70,7 @@ fn known(tag: Commit, version: Commit, clock: Moment) -> Answer {
         commit: 7,
         clock,
         ttl: 60,
+        shared: 0,
         result: Outcome::Same {
             tag,
             version: Some(version),
@@ -223,6 +224,18 @@ fn check_refusals(rt: &impl Abort, room: &mut ReplyRoom, clock: Moment) {
             "HTTP/1.1 405 Method Not Allowed\r\nDate: Thu, 01 Jan 1970 00:01:40 GMT\r\nContent-Type: application/json\r\nContent-Length: 22\r\nCache-Control: no-store\r\nAllow: GET, HEAD\r\n\r\n{\"error\":\"bad_method\"}",
         ),
         (
+            PLAIN,
+            Told::Refusal(Refused::Misdirected, clock),
+            false,
+            "HTTP/1.1 421 Misdirected Request\r\nDate: Thu, 01 Jan 1970 00:01:40 GMT\r\nContent-Type: application/json\r\nContent-Length: 23\r\nCache-Control: no-store\r\n\r\n{\"error\":\"misdirected\"}",
+        ),
+        (
+            HEAD,
+            Told::Refusal(Refused::Misdirected, clock),
+            false,
+            "HTTP/1.1 421 Misdirected Request\r\nDate: Thu, 01 Jan 1970 00:01:40 GMT\r\nContent-Type: application/json\r\nContent-Length: 23\r\nCache-Control: no-store\r\n\r\n",
+        ),
+        (
             PUT,
             Told::Refusal(Refused::NoLength, clock),
             false,
@@ -278,6 +291,7 @@ fn document(alloc: Global) -> Result<Box<Told>, Memory> {
         commit: 1,
         clock: Moment::of(100),
         ttl: 3600,
+        shared: 0,
         result: Outcome::Whole {
             text: ResultText::of_document(text),
             version: Some(1),
@@ -350,5 +364,143 @@ fn a_head_of_any_status_is_printed(rt: HostRuntime) -> Result<(), Fail> {
     assert!(rt; is_unchanged_printed(&mut room));
     let body = two_parts(rt.alloc())?;
     assert!(rt; is_given_in_parts(&mut room, &body));
+    Ok(())
+}
+
+/// A read of a result that the caller knows, for a minute, and for an hour in a shared cache, so that it is
+/// told until then.
+fn shared(clock: Moment) -> Answer {
+    Answer {
+        shared: 3_600,
+        ..known(5, 4, clock)
+    }
+}
+
+/// The reply to such a read.
+const SHARED: &str =
+    "HTTP/1.1 304 Not Modified\r\nDate: Thu, 01 Jan 1970 00:01:40 GMT\r\nETag: \"5\"\r\nCache-Control: public, max-age=60, s-maxage=3600\r\nQuaestor-Commit: 7\r\nQuaestor-Version: 4\r\nQuaestor-Until: 3700\r\n\r\n";
+
+#[test]
+fn a_lifetime_for_shared_caches_is_told_beside_the_other(rt: HostRuntime) -> Result<(), Fail> {
+    let mut room = new_room(rt.alloc())?;
+    let rows = [(PLAIN, Told::Read(shared(Moment::of(100))), false, SHARED)];
+    check_rows(&rt, &mut room, &rows);
+    Ok(())
+}
+
+/// What a reply tells, the target of its request, and what is noted of it.
+type Noted<'a> = (Told, &'a [u8], u16, bool, &'a str);
+
+/// Checks what is noted of each row.
+fn check_notes(rt: &impl Abort, rows: &[Noted<'_>]) {
+    for (told, target, status, is_copy, why) in rows {
+        let note: Note<'_> = note_of(&PLAIN.shape(), told, b"GET", target);
+        assert_eq!(rt; note.status, *status);
+        assert_eq!(rt; note.is_copy, *is_copy);
+        assert_eq!(rt; note.why, *why);
+        assert_eq!(rt; note.target, *target);
+    }
+}
+
+/// The refusal of a target.
+fn bad_target(clock: Moment) -> Told {
+    Told::Refusal(Refused::BadTarget, clock)
+}
+
+#[test]
+fn a_note_says_which_part_of_a_target_is_bad(rt: HostRuntime) -> Result<(), Fail> {
+    let clock = Moment::of(100);
+    let rows: [Noted<'_>; 9] = [
+        (bad_target(clock), b"*", 400, false, "target"),
+        (
+            bad_target(clock),
+            b"/v1/d/Shop/p1",
+            400,
+            false,
+            "collection",
+        ),
+        (bad_target(clock), b"/v1/d/shop/P1", 400, false, "id"),
+        (bad_target(clock), b"/v1/d/shop/p1?x", 400, false, "query"),
+        (
+            bad_target(clock),
+            b"/v1/q/Shop?n=1",
+            400,
+            false,
+            "collection",
+        ),
+        (
+            bad_target(clock),
+            b"/v1/q/shop?f=a&o=&f=",
+            400,
+            false,
+            "field f twice",
+        ),
+        (
+            bad_target(clock),
+            b"/v1/q/shop?g=a",
+            400,
+            false,
+            "unknown field",
+        ),
+        (bad_target(clock), b"/v1/purges?from=0", 400, false, "from"),
+        (
+            bad_target(clock),
+            b"/v1/purges?from=1&from=2",
+            400,
+            false,
+            "field from twice",
+        ),
+    ];
+    check_notes(&rt, &rows);
+    Ok(())
+}
+
+#[test]
+fn a_note_says_why_a_request_is_not_served(rt: HostRuntime) -> Result<(), Fail> {
+    let clock = Moment::of(100);
+    let target = b"/v1/d/shop/p1".as_slice();
+    let rows: [Noted<'_>; 7] = [
+        (Told::Read(known(5, 4, clock)), target, 304, true, ""),
+        (
+            Told::Read(Answer {
+                ttl: 0,
+                ..known(5, 4, clock)
+            }),
+            target,
+            304,
+            false,
+            "",
+        ),
+        (Told::Memory, target, 503, false, "memory"),
+        (
+            Told::Refusal(Refused::NoRoute, clock),
+            target,
+            404,
+            false,
+            "path",
+        ),
+        (
+            Told::Refusal(Refused::Misdirected, clock),
+            target,
+            421,
+            false,
+            "host not named",
+        ),
+        (
+            Told::Refusal(Refused::BadMethod(Allow::Record), clock),
+            target,
+            405,
+            false,
+            "method",
+        ),
+        (
+            Told::Write(unmet(Found::Missing, clock)),
+            target,
+            412,
+            false,
+            "precondition",
+        ),
+    ];
+    check_notes(&rt, &rows);
     Ok(())
 }

@@ -24,6 +24,7 @@ fn told_of(alloc: Global, text: ResultText) -> Result<Box<Told>, Fail> {
         commit: 7,
         clock: Moment::of(100),
         ttl: 60,
+        shared: 0,
         result: Outcome::Whole {
             text,
             version: None,

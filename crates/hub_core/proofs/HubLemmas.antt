@@ -7,6 +7,7 @@ use Rattle.query_normal.specs.Bits.{flat_bits}
 use Rattle.query_normal.specs.Keys.{key_text, same_key}
 use Rattle.query_normal.specs.declared.key.KeyShape.{KeyShape}
 use Rattle.issued_expiries.specs.Copies.{Copy, latest_where, is_active, active_keys, SameCopies}
+use Rattle.issued_expiries.specs.Expiries.{Issued, none_issued}
 use Rattle.ttl_estimator.specs.Estimates.{Entries, after_purge, is_known, kept_of}
 use Rattle.ttl_estimator.specs.Estimator.{Estimated, lifetime}
 use Rattle.ttl_estimator.specs.Records.{ExtendsAll, Names, clocks_of}
@@ -19,7 +20,8 @@ use Rattle.commit_book.specs.declared.change.Change.{Change}
 use Rattle.hub_model.specs.Record.{is_recorded, record_of, bits_of, page_of}
 use Rattle.hub_model.specs.Setting.{Setting}
 use Rattle.hub_model.specs.State.{State, start, at_moment}
-use Rattle.hub_model.specs.Lifetime.{limits_of, ttl_of}
+use Rattle.hub_model.specs.Journal.{result_at}
+use Rattle.hub_model.specs.Lifetime.{is_absence, is_absent, is_bounded, kept_for, limits_of, ttl_of}
 use Rattle.hub_model.specs.Step.{has_dropped, has_read, has_matched, with_change}
 use Rattle.hub_model.specs.Until.{until_of_outdated}
 use Rattle.hub_model.specs.Purge.{is_purged}
@@ -33,6 +35,7 @@ use Rattle.hub_model.specs.declared.entry.Entry.TheVariants.{Match}
 use Rattle.hub_model.specs.Legal.{most_unmatched}
 use Rattle.active_queries.specs.Following.{Following, AreFollowing}
 use Rattle.hub_core.specs.declared.lifetimes.Lifetimes.{Lifetimes}
+use Rattle.hub_core.specs.Absents.{AreAbsents, HasAbsents}
 use Rattle.hub_core.specs.ActiveQueries.{is_query, KeepsQueries, StayKept}
 use Rattle.hub_core.specs.HubState.{HubView, HasCopies, HasEstimates, HasWrites, HaveGoneOn, IsAsBefore, IsAt, IsLeanCopies, IsSoundHub, help_of, hub_of, hub_with}
 use Rattle.hub_core.specs.Lifetimes.{Drops, KeepsLifetimes, MakesEntry, ViewedAlike, has_entry, ids_at, went_idle}
@@ -42,6 +45,7 @@ use Rattle.hub_core.specs.CopiesView.{CopiesView, Passes, invalidated_keys, unti
 use Rattle.hub_core.proofs.IssueLemmas.{active-later}
 use Rattle.hub_core.proofs.MatchLemmas.{invalidations-raise}
 use Rattle.hub_core.proofs.WrittenLemmas.{entries-written}
+use Rattle.hub_core.proofs.AbsentLemmas.{absents-moved, absents-reserved, absents-unbounded, ttl-unbounded}
 use Rattle.hub_core.proofs.StateLemmas.{time-moved, copies-later, invalidations-later, invalidations-written, copies-read, invalidations-read}
 
 -- the clock leaves the configuration
@@ -84,6 +88,8 @@ sound-passed book front h new before after l later moment sound passes idle kept
         idle = idle;
         ready = ready;
         invalidatable = ap (λ (x : CopiesView). x.invalidatable) passes.rest ∙ sound.lean.invalidatable;
+        absents_idle = ap (λ (x : Lifetimes). x.absents.idle) drops.rest ∙ sound.lean.absents_idle;
+        absents_ready = ap (λ (x : Lifetimes). x.absents.reserved) drops.rest ∙ sound.lean.absents_ready;
         writes = λ collection id. ap (λ (x : Lifetimes). has_entry x.estimator.records collection id) drops.rest ∙ sound.lean.writes collection id;
         estimates = estimates-lean book.journal front new later idle ready keeps;
         sets = kept book.journal front sound.queries;
@@ -104,6 +110,8 @@ sound-followed book front h before after l sound keeps = record {
     idle = sound.lean.idle;
     ready = sound.lean.ready;
     invalidatable = sound.lean.invalidatable;
+    absents_idle = sound.lean.absents_idle;
+    absents_ready = sound.lean.absents_ready;
     writes = sound.lean.writes;
     estimates = sound.lean.estimates;
     sets = keeps;
@@ -113,8 +121,8 @@ sound-followed book front h before after l sound keeps = record {
 }
 
 -- and when a copy was issued
-pub sound-read : (book : Contents) (front : ℕ) (h new : CopiesView) (before after : List (KeyShape × Following)) (l later : Lifetimes) → IsSoundHub book front h before l → KeepsQueries book.journal front new.copies new.idle after → KeepsLifetimes book.journal front new later → new.setting ≡ h.setting → new.idle ≡ [] → new.ready ≡ [] → new.invalidatable ≡ h.invalidatable → later.estimator.records ≡ l.estimator.records → IsSoundHub book front new after later
-sound-read book front h new before after l later sound keeps lives setting idle ready invalidatable records = record {
+pub sound-read : (book : Contents) (front : ℕ) (h new : CopiesView) (before after : List (KeyShape × Following)) (l later : Lifetimes) → IsSoundHub book front h before l → KeepsQueries book.journal front new.copies new.idle after → KeepsLifetimes book.journal front new later → new.setting ≡ h.setting → new.idle ≡ [] → new.ready ≡ [] → new.invalidatable ≡ h.invalidatable → later.estimator.records ≡ l.estimator.records → later.absents.idle ≡ [] → later.absents.reserved ≡ [] → IsSoundHub book front new after later
+sound-read book front h new before after l later sound keeps lives setting idle ready invalidatable records absents_idle absents_ready = record {
   within = sound.within;
   kept = sound.kept;
   capacity = sound.capacity ∙ ap (λ (x : Setting). x.capacity) (sym setting);
@@ -124,6 +132,8 @@ sound-read book front h new before after l later sound keeps lives setting idle 
     idle = idle;
     ready = ready;
     invalidatable = invalidatable ∙ sound.lean.invalidatable;
+    absents_idle = absents_idle;
+    absents_ready = absents_ready;
     writes = λ collection id. ap (λ (names : Names). has_entry names collection id) records ∙ sound.lean.writes collection id;
     estimates = estimates-lean book.journal front new later idle ready lives;
     sets = keeps;
@@ -133,8 +143,8 @@ sound-read book front h new before after l later sound keeps lives setting idle 
 }
 
 -- and when commits were matched, or could not be
-pub sound-matched : (book : Contents) (front later : ℕ) (h new : CopiesView) (before after : List (KeyShape × Following)) (l made : Lifetimes) → IsSoundHub book front h before l → book.horizon ≤ later → later ≤ length book.journal → KeepsQueries book.journal later new.copies new.idle after → KeepsLifetimes book.journal later new made → new.setting ≡ h.setting → IsLeanCopies new → MakesEntry None l.estimator.records made.estimator.records → IsSoundHub book later new after made
-sound-matched book front later h new before after l made sound kept within keeps lives setting lean entered = record {
+pub sound-matched : (book : Contents) (front later : ℕ) (h new : CopiesView) (before after : List (KeyShape × Following)) (l made : Lifetimes) → IsSoundHub book front h before l → book.horizon ≤ later → later ≤ length book.journal → KeepsQueries book.journal later new.copies new.idle after → KeepsLifetimes book.journal later new made → new.setting ≡ h.setting → IsLeanCopies new → MakesEntry None l.estimator.records made.estimator.records → made.absents ≡ l.absents → IsSoundHub book later new after made
+sound-matched book front later h new before after l made sound kept within keeps lives setting lean entered absents = record {
   within = within;
   kept = kept;
   capacity = sound.capacity ∙ ap (λ (x : Setting). x.capacity) (sym setting);
@@ -144,6 +154,8 @@ sound-matched book front later h new before after l made sound kept within keeps
     idle = lean.idle;
     ready = lean.ready;
     invalidatable = lean.invalidatable;
+    absents_idle = ap (λ (x : Issued). x.idle) absents ∙ sound.lean.absents_idle;
+    absents_ready = ap (λ (x : Issued). x.reserved) absents ∙ sound.lean.absents_ready;
     writes = λ collection id. entered collection id ∙ sound.lean.writes collection id;
     estimates = estimates-lean book.journal later new made lean.idle lean.ready lives;
     sets = keeps;
@@ -156,8 +168,8 @@ sound-matched book front later h new before after l made sound kept within keeps
 pub sound-written : (book reserved more : Contents) (front later : ℕ) (h moved new : CopiesView) (before mid after : List (KeyShape × Following)) (l made left : Lifetimes) (noted : Estimated) (change : Change) (moment : ℕ) → IsSoundHub book front h before l → reserved ≡ record book { reserved = Some change } →
     book.horizon ≤ later → later ≤ length reserved.journal → IsLeanCopies moved → moved.setting ≡ h.setting → KeepsQueries reserved.journal later moved.copies moved.idle mid → KeepsLifetimes reserved.journal later moved made → Passes moment moved new → new.idle ≡ [] → StayKept moved mid new after → Drops (went_idle moved new) made left →
     noted ≡ record left.estimator { records = noted.records } →
-    more ≡ with_commit reserved change more.names → AreNamesOf (kept_rows more.journal more.horizon) more.names → ((journal longer : List Change) (entries : List (KeyShape × Following)) → AreFollowing journal entries → AreFollowing (journal ++ longer) entries) → MakesEntry (Some change) l.estimator.records made.estimator.records → MakesEntry (Some change) left.estimator.records noted.records → IsSoundHub more later new after (record left { estimator = noted })
-sound-written book reserved more front later h moved new before mid after l made left noted change moment sound reserved_is above within lean setting keeps lives passes idle kept drops noted_is more_is names longer entered written =
+    more ≡ with_commit reserved change more.names → AreNamesOf (kept_rows more.journal more.horizon) more.names → ((journal longer : List Change) (entries : List (KeyShape × Following)) → AreFollowing journal entries → AreFollowing (journal ++ longer) entries) → MakesEntry (Some change) l.estimator.records made.estimator.records → MakesEntry (Some change) left.estimator.records noted.records → made.absents ≡ l.absents → IsSoundHub more later new after (record left { estimator = noted })
+sound-written book reserved more front later h moved new before mid after l made left noted change moment sound reserved_is above within lean setting keeps lives passes idle kept drops noted_is more_is names longer entered written absents =
     let journal : more.journal ≡ reserved.journal ++ change ∷ [] = ap (λ (b : Contents). b.journal) more_is in
     let dropped : more.horizon ≡ book.horizon = ap (λ (b : Contents). b.horizon) more_is ∙ ap (λ (b : Contents). b.horizon) reserved_is in
     let passed = kept reserved.journal later keeps in
@@ -179,6 +191,8 @@ sound-written book reserved more front later h moved new before mid after l made
         idle = idle;
         ready = ready;
         invalidatable = ap (λ (x : CopiesView). x.invalidatable) passes.rest ∙ lean.invalidatable;
+        absents_idle = ap (λ (x : Lifetimes). x.absents.idle) drops.rest ∙ ap (λ (x : Issued). x.idle) absents ∙ sound.lean.absents_idle;
+        absents_ready = ap (λ (x : Lifetimes). x.absents.reserved) drops.rest ∙ ap (λ (x : Issued). x.reserved) absents ∙ sound.lean.absents_ready;
         writes =
             entries-written book.journal more.journal change l.estimator.records made.estimator.records left.estimator.records noted.records sound.lean.writes entered (ap (λ (x : Lifetimes). x.estimator.records) drops.rest) written
             (journal ∙ ap (λ (b : Contents). b.journal ++ change ∷ []) reserved_is);
@@ -205,6 +219,8 @@ sound-dropped book less front to h entries l sound less_is within names =
         idle = sound.lean.idle;
         ready = sound.lean.ready;
         invalidatable = sound.lean.invalidatable;
+        absents_idle = sound.lean.absents_idle;
+        absents_ready = sound.lean.absents_ready;
         writes = λ collection id. sound.lean.writes collection id ∙ ap (λ (xs : List Change). list_any (is_of collection id) xs) (sym journal);
         estimates = sound.lean.estimates;
         sets = queried;
@@ -214,8 +230,8 @@ sound-dropped book less front to h entries l sound less_is within names =
     }
 
 -- a hub of nothing has come to the first state
-pub hub-begins : (book : Contents) (h : CopiesView) (l : Lifetimes) → book.journal ≡ [] → book.horizon ≡ 0 → h.clock ≡ 0 → h.copies ≡ [] → h.outdated ≡ [] → l.estimator.records ≡ [] → l.estimator.keys ≡ [] → l.purges.texts ≡ [] → IsAt (hub_of book 0 h l) start
-hub-begins book h l journal dropped clock copies outdated records keys texts = record {
+pub hub-begins : (book : Contents) (h : CopiesView) (l : Lifetimes) → book.journal ≡ [] → book.horizon ≡ 0 → h.clock ≡ 0 → h.copies ≡ [] → h.outdated ≡ [] → l.estimator.records ≡ [] → l.estimator.keys ≡ [] → l.purges.texts ≡ [] → l.absents ≡ none_issued → IsAt (hub_of book 0 h l) start
+hub-begins book h l journal dropped clock copies outdated records keys texts absents = record {
   time = record { clock = clock; front = refl };
   book = record { commits = ap length journal; rows = journal; horizon = dropped };
   copies = λ key test. ap (latest_where key test) copies;
@@ -223,6 +239,7 @@ hub-begins book h l journal dropped clock copies outdated records keys texts = r
   writes = λ collection id. ap (λ (xs : Names). clocks_of xs collection id) records;
   estimates = λ key query. ap (λ (xs : Entries). kept_of xs key) keys;
   purges = texts;
+  absents = λ some. subst (λ (a : Issued). AreAbsents a start) (sym absents) (record { clock = omega arith; copies = λ key test. refl });
 }
 
 -- as many commits come after the front as may
@@ -240,10 +257,10 @@ help-none s moment front commits front_is commits_is few within =
 
 module _ (book : Contents) (front : ℕ) (h : CopiesView) (entries : List (KeyShape × Following)) (l : Lifetimes) where
   pub at-with : (s : State) → IsAt (hub_of book front h l) s → IsAt (hub_with book front h entries l) s
-  at-with s is = record { time = is.time; book = is.book; copies = is.copies; invalidations = is.invalidations; writes = is.writes; estimates = is.estimates; purges = is.purges }
+  at-with s is = record { time = is.time; book = is.book; copies = is.copies; invalidations = is.invalidations; writes = is.writes; estimates = is.estimates; purges = is.purges; absents = is.absents }
 
   at-without : (s : State) → IsAt (hub_with book front h entries l) s → IsAt (hub_of book front h l) s
-  at-without s is = record { time = is.time; book = is.book; copies = is.copies; invalidations = is.invalidations; writes = is.writes; estimates = is.estimates; purges = is.purges }
+  at-without s is = record { time = is.time; book = is.book; copies = is.copies; invalidations = is.invalidations; writes = is.writes; estimates = is.estimates; purges = is.purges; absents = is.absents }
 
   -- the parts of a hub that has come to a state
   pub parts-at : (hub : HubView) (s : State) → hub_with book front h entries l ≡ hub → IsAt hub s → IsAt (hub_of book front h l) s
@@ -258,6 +275,7 @@ module _ (book : Contents) (front : ℕ) (h : CopiesView) (entries : List (KeySh
   alike-before more later new after made hub view book_is front_is copies alike gone =
       let estimator = alike.estimator in
       let texts = alike.texts in
+      let absents = alike.absents in
       subst (λ (x : HubView). IsAsBefore x (hub_with more later new after made)) view
       (record {
         rest =
@@ -278,6 +296,7 @@ module _ (book : Contents) (front : ℕ) (h : CopiesView) (entries : List (KeySh
               writes = (estimator i).records;
               estimates = (estimator i).keys;
               purges = texts i;
+              absents = absents i;
               sets = after;
             });
         sets = gone;
@@ -290,7 +309,7 @@ on_err_all (Err e) P p = p
 
 -- a hub that is as before has come to the same state
 pub still-at : (old new : HubView) (s : State) → IsAsBefore old new → IsAt old s → IsAt new s
-still-at old new s before is = subst (λ (x : HubView). IsAt x s) (sym before.rest) (record { time = is.time; book = is.book; copies = is.copies; invalidations = is.invalidations; writes = is.writes; estimates = is.estimates; purges = is.purges })
+still-at old new s before is = subst (λ (x : HubView). IsAt x s) (sym before.rest) (record { time = is.time; book = is.book; copies = is.copies; invalidations = is.invalidations; writes = is.writes; estimates = is.estimates; purges = is.purges; absents = is.absents })
 
 -- a hub that is the same is as before
 pub same-before : (old new : HubView) → new ≡ old → IsAsBefore old new
@@ -301,24 +320,28 @@ module _ (book : Contents) (front : ℕ) (h : CopiesView) (l : Lifetimes) (s : S
   -- other reserved memory changes nothing
   pub at-ready : (new : CopiesView) → new ≡ record h { ready = new.ready } → IsAt (hub_of book front new l) s
   at-ready new same =
-      subst (λ (x : CopiesView). IsAt (hub_of book front x l) s) (sym same) (record { time = is.time; book = is.book; copies = is.copies; invalidations = is.invalidations; writes = is.writes; estimates = is.estimates; purges = is.purges })
+      subst (λ (x : CopiesView). IsAt (hub_of book front x l) s) (sym same) (record { time = is.time; book = is.book; copies = is.copies; invalidations = is.invalidations; writes = is.writes; estimates = is.estimates; purges = is.purges; absents = is.absents })
 
   pub at-invalidatable : (new : CopiesView) (keys : List KeyShape) → new ≡ record h { invalidatable = keys } → IsAt (hub_of book front new l) s
   at-invalidatable new keys same =
-      subst (λ (x : CopiesView). IsAt (hub_of book front x l) s) (sym same) (record { time = is.time; book = is.book; copies = is.copies; invalidations = is.invalidations; writes = is.writes; estimates = is.estimates; purges = is.purges })
+      subst (λ (x : CopiesView). IsAt (hub_of book front x l) s) (sym same) (record { time = is.time; book = is.book; copies = is.copies; invalidations = is.invalidations; writes = is.writes; estimates = is.estimates; purges = is.purges; absents = is.absents })
 
   pub at-idle : (new : CopiesView) (keys : List KeyShape) → new ≡ record h { idle = keys } → IsAt (hub_of book front new l) s
   at-idle new keys same =
-      subst (λ (x : CopiesView). IsAt (hub_of book front x l) s) (sym same) (record { time = is.time; book = is.book; copies = is.copies; invalidations = is.invalidations; writes = is.writes; estimates = is.estimates; purges = is.purges })
+      subst (λ (x : CopiesView). IsAt (hub_of book front x l) s) (sym same) (record { time = is.time; book = is.book; copies = is.copies; invalidations = is.invalidations; writes = is.writes; estimates = is.estimates; purges = is.purges; absents = is.absents })
+
+  pub at-absents : (a : Issued) → a ≡ record l.absents { reserved = a.reserved } → IsAt (hub_of book front h (record l { absents = a })) s
+  at-absents a same =
+      record { time = is.time; book = is.book; copies = is.copies; invalidations = is.invalidations; writes = is.writes; estimates = is.estimates; purges = is.purges; absents = absents-reserved h.setting l.absents a s same is.absents }
 
   -- with another change for which memory is reserved
   pub at-reserved : (more : Contents) (change : Option Change) → more ≡ record book { reserved = change } → IsAt (hub_of more front h l) s
   at-reserved more change same =
-      subst (λ (b : Contents). IsAt (hub_of b front h l) s) (sym same) (record { time = is.time; book = is.book; copies = is.copies; invalidations = is.invalidations; writes = is.writes; estimates = is.estimates; purges = is.purges })
+      subst (λ (b : Contents). IsAt (hub_of b front h l) s) (sym same) (record { time = is.time; book = is.book; copies = is.copies; invalidations = is.invalidations; writes = is.writes; estimates = is.estimates; purges = is.purges; absents = is.absents })
 
   -- with further entries for writes, and as many for estimates
-  pub at-estimator : (later : Lifetimes) → ExtendsAll l.estimator.records later.estimator.records → ((key : KeyShape) → kept_of later.estimator.keys key ≡ kept_of l.estimator.keys key) → later.purges.texts ≡ l.purges.texts → IsAt (hub_of book front h later) s
-  at-estimator later records keys texts = record {
+  pub at-estimator : (later : Lifetimes) → ExtendsAll l.estimator.records later.estimator.records → ((key : KeyShape) → kept_of later.estimator.keys key ≡ kept_of l.estimator.keys key) → later.purges.texts ≡ l.purges.texts → later.absents ≡ l.absents → IsAt (hub_of book front h later) s
+  at-estimator later records keys texts absents = record {
     time = is.time;
     book = is.book;
     copies = is.copies;
@@ -326,6 +349,7 @@ module _ (book : Contents) (front : ℕ) (h : CopiesView) (l : Lifetimes) (s : S
     writes = writes-extended l.estimator.records later.estimator.records s records is.writes;
     estimates = λ key query. keys key ∙ is.estimates key query;
     purges = texts ∙ is.purges;
+    absents = subst (λ (a : Issued). HasAbsents h.setting a s) (sym absents) is.absents;
   }
 
   -- with an entry for an estimate more
@@ -338,6 +362,7 @@ module _ (book : Contents) (front : ℕ) (h : CopiesView) (l : Lifetimes) (s : S
     writes = λ collection id. ap (λ (e : Estimated). clocks_of e.records collection id) same ∙ is.writes collection id;
     estimates = λ key query. kept key ∙ is.estimates key query;
     purges = is.purges;
+    absents = is.absents;
   }
 
   -- when the clock moves
@@ -353,6 +378,9 @@ module _ (book : Contents) (front : ℕ) (h : CopiesView) (l : Lifetimes) (s : S
         writes = λ collection id. ap (λ (x : Lifetimes). clocks_of x.estimator.records collection id) drops.rest ∙ is.writes collection id;
         estimates = estimates-passed h new moment passes idle l.estimator.keys later.estimator.keys s is.copies copies is.estimates drops.kept;
         purges = ap (λ (x : Lifetimes). x.purges.texts) drops.rest ∙ is.purges;
+        absents =
+            subst (λ (g : Setting). HasAbsents g later.absents (at_moment s moment)) (sym (setting-passed h new moment passes))
+            (subst (λ (a : Issued). HasAbsents h.setting a (at_moment s moment)) (sym (ap (λ (x : Lifetimes). x.absents) drops.rest)) (absents-moved h.setting l.absents s moment is.absents));
       }
 
   -- with a further commit
@@ -368,6 +396,7 @@ module _ (book : Contents) (front : ℕ) (h : CopiesView) (l : Lifetimes) (s : S
         writes = writes;
         estimates = λ key query. ap (λ (es : Entries). kept_of es key) keys ∙ is.estimates key query;
         purges = is.purges;
+        absents = λ some. (let was = is.absents some in record { clock = was.clock; copies = was.copies });
       }
 
   -- with old changes dropped
@@ -382,13 +411,14 @@ module _ (book : Contents) (front : ℕ) (h : CopiesView) (l : Lifetimes) (s : S
         writes = is.writes;
         estimates = is.estimates;
         purges = is.purges;
+        absents = λ some. (let was = is.absents some in record { clock = was.clock; copies = was.copies });
       }
 
   -- with the copy of a read, when the clock has moved, and with whichever estimates the state has then
   pub hub-read : (moved issued new : CopiesView) (later : Lifetimes) (key : KeyShape) (g : Setting) (at ttl moment : ℕ) → Passes moment h moved → front ≤ at → ttl ≡ ttl_of g (at_moment s moment) key at →
-      SameCopies issued.copies (if nat_lt 0 ttl then (key, at, moved.clock + ttl) ∷ moved.copies else moved.copies) → issued.clock ≡ moved.clock → issued.outdated ≡ moved.outdated → new ≡ record issued { idle = [] } →
-      later.estimator.records ≡ l.estimator.records → later.purges.texts ≡ l.purges.texts → HasEstimates later.estimator.keys (has_read g key at (at_moment s moment)) → IsAt (hub_of book front new later) (has_read g key at (at_moment s moment))
-  hub-read moved issued new later key g at ttl moment passes within life copies clock outdated new_is records texts estimates =
+      SameCopies issued.copies (if nat_lt 0 ttl then (key, at, moved.clock + kept_for g ttl) ∷ moved.copies else moved.copies) → issued.clock ≡ moved.clock → issued.outdated ≡ moved.outdated → new ≡ record issued { idle = [] } → issued.setting ≡ g →
+      later.estimator.records ≡ l.estimator.records → later.purges.texts ≡ l.purges.texts → HasAbsents g later.absents (has_read g key at (at_moment s moment)) → HasEstimates later.estimator.keys (has_read g key at (at_moment s moment)) → IsAt (hub_of book front new later) (has_read g key at (at_moment s moment))
+  hub-read moved issued new later key g at ttl moment passes within life copies clock outdated new_is setting records texts absents estimates =
       let now : moved.clock ≡ max s.clock moment = passes.clock ∙ ap (λ (n : ℕ). max n moment) is.time.clock in
       let were = copies-later h.copies moved.copies moved.clock moment s is.copies passes.copies now in
       let invalidated = invalidations-later h.outdated moved.outdated moved.clock moment s is.invalidations passes.outdated now in
@@ -401,35 +431,44 @@ module _ (book : Contents) (front : ℕ) (h : CopiesView) (l : Lifetimes) (s : S
         writes = λ collection id. ap (λ (xs : Names). clocks_of xs collection id) records ∙ is.writes collection id;
         estimates = estimates;
         purges = texts ∙ is.purges;
+        absents = subst (λ (x : Setting). HasAbsents x later.absents (has_read g key at (at_moment s moment))) (sym setting) absents;
       })
 
   -- of a read of a record's key that changes nothing
   module _ (key : KeyShape) (g : Setting) (ttl moment : ℕ) (passes : Passes moment h h) (limits : l.estimator.limits ≡ limits_of g)
-      (ttl_is : ttl ≡ lifetime l.estimator key (ids_at key book.journal) h.clock (is_active h.copies key) (active_keys h.copies)) where
+      (ttl_is : ttl ≡ lifetime l.estimator key (ids_at key book.journal) h.clock (is_active h.copies key) (active_keys h.copies))
+      (unbounded : is_bounded g (is_absence (result_at key book.journal (length book.journal))) ≡ false) where
     known-clock : h.clock ≡ (at_moment s moment).clock
     known-clock = passes.clock ∙ ap (λ (n : ℕ). max n moment) is.time.clock
 
     known-copies : HasCopies h.copies (at_moment s moment)
     known-copies = copies-later h.copies h.copies h.clock moment s is.copies passes.copies known-clock
 
+    -- it is not bounded
+    known-unbounded : is_bounded g (is_absent (at_moment s moment) key (length book.journal)) ≡ false
+    known-unbounded = ap (λ (xs : List Change). is_bounded g (is_absence (result_at key xs (length book.journal)))) (sym is.book.rows) ∙ unbounded
+
     -- the lifetime is that of the state
     pub ttl-known : ttl ≡ ttl_of g (at_moment s moment) key (length book.journal)
-    ttl-known = ttl_is ∙ lifetime-at h l.estimator s moment key g book.journal known-copies known-clock is.book.rows limits is.writes is.estimates
+    ttl-known =
+        ttl_is ∙ lifetime-at h l.estimator s moment key g book.journal known-copies known-clock is.book.rows limits is.writes is.estimates
+        ∙ sym (ttl-unbounded g key (length book.journal) (at_moment s moment) known-unbounded)
 
     -- the state with the read is the same hub's
-    pub hub-known : is_query key ≡ false → h.idle ≡ [] → front ≤ length book.journal → SameCopies h.copies (if nat_lt 0 ttl then (key, length book.journal, h.clock + ttl) ∷ h.copies else h.copies) → IsAt (hub_of book front h l) (has_read g key (length book.journal) (at_moment s moment))
-    hub-known kind idle within same =
-        hub-read h h h l key g (length book.journal) ttl moment passes within ttl-known same refl refl (λ i. record h { idle = idle i }) refl refl
+    pub hub-known : is_query key ≡ false → h.idle ≡ [] → h.setting ≡ g → front ≤ length book.journal → SameCopies h.copies (if nat_lt 0 ttl then (key, length book.journal, h.clock + kept_for g ttl) ∷ h.copies else h.copies) → IsAt (hub_of book front h l) (has_read g key (length book.journal) (at_moment s moment))
+    hub-known kind idle setting within same =
+        hub-read h h h l key g (length book.journal) ttl moment passes within ttl-known same refl refl (λ i. record h { idle = idle i }) setting refl refl
+        (absents-unbounded g key (length book.journal) (at_moment s moment) l.absents (absents-moved g l.absents s moment (subst (λ (x : Setting). HasAbsents x l.absents s) setting is.absents)) known-unbounded)
         (estimates-known h moment passes idle key (length book.journal) ttl kind g s l.estimator.keys is.copies known-copies known-clock ttl-known is.estimates)
 
   -- with the invalidations by the matched commits, and the purges
   pub hub-matched : (to : ℕ) (new : CopiesView) (later : Lifetimes) (g : Setting) (invalidations : List Invalidation) (keys : List KeyShape) → front ≤ to → AreInvalidationsOf book.journal front to h.copies invalidations →
-      ((key : KeyShape) → until_in new.outdated key ≡ max (until_in h.outdated key) (invalidated_until h.copies invalidations key)) → new.clock ≡ h.clock → new.copies ≡ h.copies →
+      ((key : KeyShape) → until_in new.outdated key ≡ max (until_in h.outdated key) (invalidated_until h.copies invalidations key)) → new.clock ≡ h.clock → new.copies ≡ h.copies → new.setting ≡ h.setting → later.absents ≡ l.absents →
       IsDistinct same_key keys → IsSorted text_cmp keys → ((key : KeyShape) → list_any (same_key key) keys ≡ is_purged s to key) → l.estimator.limits ≡ limits_of g →
       later.estimator.records ≡ l.estimator.records → later.purges.texts ≡ l.purges.texts ++ map key_text keys →
       ((key : KeyShape) → kept_of later.estimator.keys key ≡ (if list_any (same_key key) keys then option_map (after_purge l.estimator.limits h.clock) (kept_of l.estimator.keys key) else kept_of l.estimator.keys key)) →
       IsAt (hub_of book to new later) (has_matched g to s)
-  hub-matched to new later g invalidations keys forward are outdated clock copies once sorted each limits records texts kept = record {
+  hub-matched to new later g invalidations keys forward are outdated clock copies setting absents once sorted each limits records texts kept = record {
     time = record { clock = clock ∙ is.time.clock; front = refl };
     book = record { commits = is.book.commits; rows = is.book.rows; horizon = is.book.horizon };
     copies = λ key test. ap (λ (xs : List Copy). latest_where key test xs) copies ∙ is.copies key test;
@@ -445,6 +484,9 @@ module _ (book : Contents) (front : ℕ) (h : CopiesView) (l : Lifetimes) (s : S
         let there = each key in
         kept key ∙ (λ i. if there i then option_map (after_purge (limits i) (now i)) (was i) else was i) ∙ sym (kept-matched g s to key);
     purges = texts ∙ (let before = is.purges in let own = purged-texts s to keys once each sorted in (λ i. before i ++ own i));
+    absents =
+        subst (λ (x : Setting). HasAbsents x later.absents (has_matched g to s)) (sym setting)
+        (subst (λ (a : Issued). HasAbsents h.setting a (has_matched g to s)) (sym absents) (λ some. (let was = is.absents some in record { clock = was.clock; copies = was.copies })));
   }
 
   -- the invalidated keys are those of the record, each once

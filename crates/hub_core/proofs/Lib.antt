@@ -7,6 +7,7 @@ pub mod SoundLemmas
 pub mod StateLemmas
 pub mod KeepLemmas
 pub mod LifeLemmas
+pub mod AbsentLemmas
 pub mod ReadLemmas
 pub mod MatchLemmas
 pub mod PurgeLemmas

@@ -15,6 +15,7 @@ use Rattle.query_normal.specs.declared.key.KeyShape.{KeyShape}
 use Rattle.query_normal.specs.declared.key.KeyShape.TheVariants.{Record, Query}
 use Rattle.query_core.specs.Window.{Row, window}
 use Rattle.issued_expiries.specs.Copies.{Copy, SameCopies, latest_where, unexpired, until_at, is_active, active_keys}
+use Rattle.issued_expiries.specs.Expiries.{Issued}
 use Rattle.issued_expiries.proofs.LawLemmas.{active_alike}
 use Rattle.issued_expiries.proofs.ViewLemmas.{only_above, latest_unexpired, active_is}
 use Rattle.ttl_estimator.specs.declared.estimates.Kept.{Kept}
@@ -29,7 +30,7 @@ use Rattle.commit_book.specs.declared.change.Change.{Change}
 use Rattle.commit_book.specs.Documents.{docs}
 use Rattle.hub_model.specs.Copies.{live, active_keys as active_of, is_active as is_active_in}
 use Rattle.hub_model.specs.Kept.{kept_if, kept_in, newest_estimate}
-use Rattle.hub_model.specs.Lifetime.{estimate, last_issue, limits_of, record_rate, write_clocks, ttl_of}
+use Rattle.hub_model.specs.Lifetime.{estimate, estimated_ttl, last_issue, limits_of, record_rate, write_clocks, ttl_of}
 use Rattle.hub_model.specs.Setting.{Setting}
 use Rattle.hub_model.specs.State.{IssuedCopy, State, at_moment}
 use Rattle.hub_model.specs.Step.{has_read, with_change}
@@ -397,15 +398,15 @@ noted-as keys noted key ttl active was clock now active_is clock_is kept other =
 -- ---- what is kept belongs together after a read
 
 -- of the same read
-module _ (h moved issued new : CopiesView) (moment : ℕ) (passes : Passes moment h moved) (idle : h.idle ≡ []) (key : KeyShape) (at ttl : ℕ)
+module _ (h moved issued new : CopiesView) (moment : ℕ) (passes : Passes moment h moved) (idle : h.idle ≡ []) (key : KeyShape) (at ttl until : ℕ)
     (went_is : (other : KeyShape) → is_idle moved other ≡ (is_idle h other || is_active h.copies other && not (is_active moved.copies other)))
     (idle_is : (other : KeyShape) → is_idle issued other ≡ (not (same_key key other && nat_lt 0 ttl) && is_idle moved other))
-    (copies_is : SameCopies issued.copies (if nat_lt 0 ttl then (key, at, moved.clock + ttl) ∷ moved.copies else moved.copies)) where
+    (copies_is : SameCopies issued.copies (if nat_lt 0 ttl then (key, at, until) ∷ moved.copies else moved.copies)) where
   -- a copy is that which was issued, or was there before
   copy-split : (other : KeyShape) (commit : ℕ) → has_copy issued.copies other commit ≡ true → ((same_key key other ≡ true) × (nat_lt 0 ttl ≡ true) × (at ≡ commit)) ⊎ (has_copy moved.copies other commit ≡ true)
   copy-split other commit there = by (nat_lt 0 ttl) refl (ap is_some (sym (copies_is other (λ n. n == commit))) ∙ there)
     where
-      by : (b : Bool) → nat_lt 0 ttl ≡ b → is_some (latest_where other (λ n. n == commit) (if b then (key, at, moved.clock + ttl) ∷ moved.copies else moved.copies)) ≡ true → ((same_key key other ≡ true) × (nat_lt 0 ttl ≡ true) × (at ≡ commit)) ⊎ (has_copy moved.copies other commit ≡ true)
+      by : (b : Bool) → nat_lt 0 ttl ≡ b → is_some (latest_where other (λ n. n == commit) (if b then (key, at, until) ∷ moved.copies else moved.copies)) ≡ true → ((same_key key other ≡ true) × (nat_lt 0 ttl ≡ true) × (at ≡ commit)) ⊎ (has_copy moved.copies other commit ≡ true)
       by false none found = inr found
       by true some found = elim (cases_Bool (same_key other key)) [
         | inl own ↦ elim (cases_Bool (at == commit)) [
@@ -417,11 +418,11 @@ module _ (h moved issued new : CopiesView) (moment : ℕ) (passes : Passes momen
 
   active-issued : (other : KeyShape) → is_active issued.copies other ≡ ((same_key key other && nat_lt 0 ttl) || is_active moved.copies other)
   active-issued other =
-      active_alike issued.copies (if nat_lt 0 ttl then (key, at, moved.clock + ttl) ∷ moved.copies else moved.copies) other copies_is
+      active_alike issued.copies (if nat_lt 0 ttl then (key, at, until) ∷ moved.copies else moved.copies) other copies_is
       ∙ by (nat_lt 0 ttl)
       ∙ ap (λ (b : Bool). (b && nat_lt 0 ttl) || is_active moved.copies other) (same_key_equiv.symm other key)
     where
-      by : (b : Bool) → is_active (if b then (key, at, moved.clock + ttl) ∷ moved.copies else moved.copies) other ≡ ((same_key other key && b) || is_active moved.copies other)
+      by : (b : Bool) → is_active (if b then (key, at, until) ∷ moved.copies else moved.copies) other ≡ ((same_key other key && b) || is_active moved.copies other)
       by true = (λ i. and_true (same_key other key) i || is_active moved.copies other)
         where
           and_true : (b : Bool) → b ≡ (b && true)
@@ -603,6 +604,16 @@ module _ (h moved issued new : CopiesView) (moment : ℕ) (passes : Passes momen
           by false true false was none = absurd (cc)
           by false false b was none = absurd (cc)
 
+-- it does not depend on the copies of absent records
+pub lifetimes-absents : (journal : List Change) (front : ℕ) (h : CopiesView) (l : Lifetimes) (a : Issued) → KeepsLifetimes journal front h l → KeepsLifetimes journal front h (record l { absents = a })
+lifetimes-absents journal front h l a keeps = record {
+  limits = keeps.limits;
+  estimates = keeps.estimates;
+  kept = keeps.kept;
+  changes = keeps.changes;
+  active = keeps.active;
+}
+
 -- ---- the lifetime of a reply
 
 -- as many keys are active as the copies have
@@ -619,9 +630,9 @@ sum-mapped : {X : Type 0} (f : List ℕ → ℕ) (p : X → List ℕ) (xs : List
 sum-mapped f p [] = refl
 sum-mapped f p (x ∷ xs) = sum_by-cons f (p x) (map p xs) ∙ ap (λ (n : ℕ). f (p x) + n) (sum-mapped f p xs) ∙ sym (sum_by-cons (λ y. f (p y)) x xs)
 
--- the lifetime by what is kept is that of the state, whose clock is that of the copies
+-- the estimated lifetime by what is kept is that of the state, whose clock is that of the copies
 pub lifetime-at : (h : CopiesView) (e : Estimated) (s : State) (moment : ℕ) (key : KeyShape) (g : Setting) (journal : List Change) → HasCopies h.copies (at_moment s moment) → h.clock ≡ (at_moment s moment).clock → journal ≡ s.journal → e.limits ≡ limits_of g → HasWrites e.records s → HasEstimates e.keys s →
-    lifetime e key (ids_at key journal) h.clock (is_active h.copies key) (active_keys h.copies) ≡ ttl_of g (at_moment s moment) key (length journal)
+    lifetime e key (ids_at key journal) h.clock (is_active h.copies key) (active_keys h.copies) ≡ estimated_ttl g (at_moment s moment) key (length journal)
 lifetime-at h e s moment (Record collection id) g journal is clock rows limits writes have =
     let t = at_moment s moment in
     let active : is_active h.copies (Record collection id) ≡ is_active_in t (Record collection id) = active-copies h.copies t is (Record collection id) in

@@ -24,7 +24,8 @@ use Rattle.hub_model.proofs.Covered.{outdated_until-commit}
 use Rattle.hub_core.specs.declared.invalidations.Invalidation.{Invalidation}
 use Rattle.hub_core.specs.ActiveQueries.{is_query, KeepsQueries}
 use Rattle.hub_core.specs.Invalidations.{key_of, altered_key, is_key, is_invalidation, is_after, invalidates, AreInvalidationsOf, AreRecordInvalidationsOf, invalidated_until}
-use Rattle.hub_core.specs.HubState.{HasCopies, copy_of}
+use Rattle.hub_core.specs.Copied.{copy_of}
+use Rattle.hub_core.specs.HubState.{HasCopies}
 use Rattle.hub_core.specs.CopiesView.{until_below}
 use Rattle.hub_core.proofs.CopyLemmas.{latest, latest-cons}
 use Rattle.hub_core.proofs.GreatestLemmas.{best, best-cons, best-append, best-le}

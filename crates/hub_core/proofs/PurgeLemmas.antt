@@ -15,7 +15,8 @@ use Rattle.hub_model.specs.State.{IssuedCopy, State, until_of}
 use Rattle.hub_model.proofs.Covered.{is_outdated-later, is_outdated-by, newly-changed}
 use Rattle.hub_core.specs.declared.invalidations.Invalidation.{Invalidation}
 use Rattle.hub_core.specs.CopiesView.{until_below}
-use Rattle.hub_core.specs.HubState.{HasCopies, copy_of}
+use Rattle.hub_core.specs.Copied.{copy_of}
+use Rattle.hub_core.specs.HubState.{HasCopies}
 use Rattle.hub_core.specs.Invalidations.{is_invalidation, is_after, AreInvalidationsOf, HaveEntries, purges_at, raised_by}
 use Rattle.hub_core.specs.Lifetimes.{has_copy, HaveLastChanges}
 use Rattle.hub_core.proofs.CopyLemmas.{latest, latest-cons}

@@ -105,27 +105,27 @@ pub started-space : (journal : List Change) (key : KeyShape) (new : KeyShape × 
 started-space journal key new queries started = (started.space, subst (λ (k : KeyShape). lookup (same_key k) queries.entries ≡ None) (sym started.key_is) started.absent)
 
 -- with the copy of a read, where it may be kept, the queries are those of the active keys
-module _ (journal : List Change) (front : ℕ) (mid new : CopiesView) (key : KeyShape) (commit ttl : ℕ) (queries : Queries) (keeps : KeepsQueries journal front mid.copies mid.idle queries.entries)
-    (within : front ≤ length journal) (last : commit ≡ length journal) (same : SameCopies new.copies (if nat_lt 0 ttl then (key, commit, mid.clock + ttl) ∷ mid.copies else mid.copies))
+module _ (journal : List Change) (front : ℕ) (mid new : CopiesView) (key : KeyShape) (commit ttl until : ℕ) (queries : Queries) (keeps : KeepsQueries journal front mid.copies mid.idle queries.entries)
+    (within : front ≤ length journal) (last : commit ≡ length journal) (same : SameCopies new.copies (if nat_lt 0 ttl then (key, commit, until) ∷ mid.copies else mid.copies))
     (given : (other : KeyShape) → is_idle new other ≡ (not (same_key key other && nat_lt 0 ttl) && is_idle mid other)) where
   -- nothing is issued
   issued-none : nat_lt 0 ttl ≡ false → KeepsQueries journal front new.copies new.idle queries.entries
   issued-none none =
       keeps-same journal front mid.copies mid.idle queries.entries keeps new.copies new.idle
-      (subst (λ (b : Bool). SameCopies new.copies (if b then (key, commit, mid.clock + ttl) ∷ mid.copies else mid.copies)) none same)
+      (subst (λ (b : Bool). SameCopies new.copies (if b then (key, commit, until) ∷ mid.copies else mid.copies)) none same)
       (λ other. given other ∙ ap (λ (b : Bool). not (same_key key other && b) && is_idle mid other) none ∙ ap (λ (b : Bool). not b && is_idle mid other) (and-false (same_key key other)))
 
   -- of a copy that is issued
   module _ (some : nat_lt 0 ttl ≡ true) where
-    more : SameCopies new.copies ((key, commit, mid.clock + ttl) ∷ mid.copies)
-    more = subst (λ (b : Bool). SameCopies new.copies (if b then (key, commit, mid.clock + ttl) ∷ mid.copies else mid.copies)) some same
+    more : SameCopies new.copies ((key, commit, until) ∷ mid.copies)
+    more = subst (λ (b : Bool). SameCopies new.copies (if b then (key, commit, until) ∷ mid.copies else mid.copies)) some same
 
     left : (other : KeyShape) → is_idle new other ≡ (not (same_key key other) && is_idle mid other)
     left other = given other ∙ ap (λ (b : Bool). not (same_key key other && b) && is_idle mid other) some ∙ ap (λ (b : Bool). not b && is_idle mid other) (and-true (same_key key other))
 
     issued-known : HasSeenAll journal key queries → KeepsQueries journal front new.copies new.idle queries.entries
     issued-known known =
-        keeps-issued journal front mid.copies mid.idle queries.entries keeps key commit (mid.clock + ttl) new.copies new.idle (omega (arith, last)) more left (by known)
+        keeps-issued journal front mid.copies mid.idle queries.entries keeps key commit until new.copies new.idle (omega (arith, last)) more left (by known)
       where
         by : HasSeenAll journal key queries → (is_query key ≡ false) ⊎ (is_some (lookup (same_key key) queries.entries) ≡ true)
         by (inl none) = inl none
@@ -137,7 +137,7 @@ module _ (journal : List Change) (front : ℕ) (mid new : CopiesView) (key : Key
         let seen = started.seen in
         let e : (key, own.1) ≡ own = (λ i. (sym started.key_is i, own.1)) in
         subst (λ (x : KeyShape × Following). KeepsQueries journal front new.copies new.idle (queries.entries ++ x ∷ [])) e
-        (keeps-started journal front mid.copies mid.idle queries.entries keeps key commit (mid.clock + ttl) new.copies new.idle (omega (arith, last)) more left
+        (keeps-started journal front mid.copies mid.idle queries.entries keeps key commit until new.copies new.idle (omega (arith, last)) more left
         own.1 started.query started.absent started.follows (begun ∙ sym last) (seen ∙ sym last) started.changed (omega (arith, within, last)))
 
   pub kept-issued : (started : Option (KeyShape × Following)) → IsAtHand journal key started queries → KeepsQueries journal front new.copies new.idle (with_started started ttl queries.entries)

@@ -1,21 +1,22 @@
 -- Each part of a hub keeps with the state through each step.
-use Rattle.std.proofs.Common.{◌≡◌, ℕ, ◌+◌, ◌≤◌, Bool, max, nat_lt, List, [], ◌∷◌, ◌++◌, length, map, filter, if◌then◌else◌, refl, sym, ap, ap₂, ◌∙◌, subst, arith, inl, inr, append-nil}
+use Rattle.std.proofs.Common.{◌≡◌, ℕ, ◌+◌, ◌≤◌, Bool, true, false, max, nat_lt, List, [], ◌∷◌, ◌++◌, length, map, filter, if◌then◌else◌, refl, sym, ap, ap₂, ◌∙◌, subst, arith, inl, inr, append-nil}
 use Rattle.std.proofs.lemmas.Bool.{cases_Bool, cases_lt, lt-ltb, le-ltb}
 use Rattle.std.proofs.lemmas.List.{map-append}
 use Rattle.query_normal.specs.Keys.{same_key}
 use Rattle.query_normal.specs.declared.key.KeyShape.{KeyShape}
 use Rattle.issued_expiries.specs.Copies.{Copy, unexpired, latest_where, is_active, SameCopies}
 use Rattle.hub_model.specs.Copies.{issues, is_live, live, is_active as is_active_in}
-use Rattle.hub_model.specs.Lifetime.{ttl_of}
+use Rattle.hub_model.specs.Lifetime.{kept_for, ttl_of}
 use Rattle.hub_model.specs.Record.{is_outdated_in}
 use Rattle.hub_model.specs.Setting.{Setting}
 use Rattle.hub_model.specs.State.{IssuedCopy, State, at_moment, until_of}
-use Rattle.hub_model.specs.Step.{has_read, with_change}
+use Rattle.hub_model.specs.Step.{copy_of_read, has_read, with_change}
 use Rattle.hub_model.proofs.Issues.{live-read, outdated_until-read}
 use Rattle.hub_model.proofs.Recorded.{outdated_until-longer}
 use Rattle.hub_model.proofs.Untils.{until-at_moment}
 use Rattle.commit_book.specs.declared.change.Change.{Change}
-use Rattle.hub_core.specs.HubState.{HasTime, HasCopies, HasInvalidations, copy_of, copies_of}
+use Rattle.hub_core.specs.Copied.{copy_of, copies_of}
+use Rattle.hub_core.specs.HubState.{HasTime, HasCopies, HasInvalidations}
 use Rattle.hub_core.specs.CopiesView.{while_later, until_in}
 use Rattle.issued_expiries.proofs.LawLemmas.{active_alike, same_later}
 use Rattle.hub_core.proofs.CopyLemmas.{same-more}
@@ -24,7 +25,7 @@ use Rattle.hub_core.proofs.InvalidationLemmas.{any-map}
 -- ---- the clock
 
 -- what is later than the later of two clocks is later than both
-live-again : (early late : ℕ) (rs : List IssuedCopy) → early ≤ late → filter (is_live late) rs ≡ filter (is_live late) (filter (is_live early) rs)
+pub live-again : (early late : ℕ) (rs : List IssuedCopy) → early ≤ late → filter (is_live late) rs ≡ filter (is_live late) (filter (is_live early) rs)
 live-again early late [] low = refl
 live-again early late (r ∷ rs) low =
     let rest = live-again early late rs low in
@@ -40,7 +41,7 @@ live-again early late (r ∷ rs) low =
           ])
     ]
 
-copies-live : (clock : ℕ) (rs : List IssuedCopy) → map copy_of (filter (is_live clock) rs) ≡ unexpired clock (map copy_of rs)
+pub copies-live : (clock : ℕ) (rs : List IssuedCopy) → map copy_of (filter (is_live clock) rs) ≡ unexpired clock (map copy_of rs)
 copies-live clock [] = refl
 copies-live clock (r ∷ rs) =
     let rest = copies-live clock rs in
@@ -76,28 +77,21 @@ invalidations-written outdated change s at within = λ key. at key ∙ sym (outd
 
 -- ---- a read
 
-pub copies-read : (g : Setting) (copies new : List Copy) (key : KeyShape) (at ttl clock : ℕ) (s : State) → HasCopies copies s → clock ≡ s.clock → ttl ≡ ttl_of g s key at → SameCopies new (if nat_lt 0 ttl then (key, at, clock + ttl) ∷ copies else copies) →
+-- with one copy more, or none
+pub same-read : (some : Bool) (r : IssuedCopy) (copies new old later : List Copy) → SameCopies copies old → later ≡ old ++ map copy_of (if some then r ∷ [] else []) → SameCopies new (if some then copy_of r ∷ copies else copies) → SameCopies new later
+same-read true r copies new old later is all same = λ k test. same k test ∙ same-more (copy_of r) copies old is k test ∙ sym (ap (latest_where k test) all)
+same-read false r copies new old later is all same = λ k test. same k test ∙ is k test ∙ sym (ap (latest_where k test) (all ∙ append-nil old))
+
+pub copies-read : (g : Setting) (copies new : List Copy) (key : KeyShape) (at ttl clock : ℕ) (s : State) → HasCopies copies s → clock ≡ s.clock → ttl ≡ ttl_of g s key at → SameCopies new (if nat_lt 0 ttl then (key, at, clock + kept_for g ttl) ∷ copies else copies) →
     HasCopies new (has_read g key at s)
 copies-read g copies new key at ttl clock s is now life more =
     let n = ttl_of g s key at in
-    let r : IssuedCopy = record { key = key; at = at; clock = s.clock; ttl = n } in
-    let same : SameCopies new (if nat_lt 0 n then (key, at, s.clock + n) ∷ copies else copies) =
-    subst (λ (c : ℕ). SameCopies new (if nat_lt 0 n then (key, at, c + n) ∷ copies else copies)) now
-    (subst (λ (m : ℕ). SameCopies new (if nat_lt 0 m then (key, at, clock + m) ∷ copies else copies)) life more) in
-    let all : copies_of (has_read g key at s) ≡ copies_of s ++ map copy_of (if nat_lt 0 n then r ∷ [] else []) =
-    ap (map copy_of) (live-read g s key at) ∙ map-append copy_of (live s) (if nat_lt 0 n then r ∷ [] else []) in
-    λ k test.
-    same k test
-    ∙ elim (cases_Bool (nat_lt 0 n)) [
-      | inl some ↦ (
-          ap (λ (b : Bool). latest_where k test (if b then (key, at, s.clock + n) ∷ copies else copies)) some
-          ∙ same-more (key, at, s.clock + n) copies (copies_of s) is k test
-          ∙ sym (ap (latest_where k test) (all ∙ ap (λ (b : Bool). copies_of s ++ map copy_of (if b then r ∷ [] else [])) some)))
-      | inr none ↦ (
-          ap (λ (b : Bool). latest_where k test (if b then (key, at, s.clock + n) ∷ copies else copies)) none
-          ∙ is k test
-          ∙ sym (ap (latest_where k test) (all ∙ ap (λ (b : Bool). copies_of s ++ map copy_of (if b then r ∷ [] else [])) none ∙ append-nil (copies_of s))))
-    ]
+    let r : IssuedCopy = copy_of_read g s key at in
+    let same : SameCopies new (if nat_lt 0 n then (key, at, s.clock + kept_for g n) ∷ copies else copies) =
+    subst (λ (c : ℕ). SameCopies new (if nat_lt 0 n then (key, at, c + kept_for g n) ∷ copies else copies)) now
+    (subst (λ (m : ℕ). SameCopies new (if nat_lt 0 m then (key, at, clock + kept_for g m) ∷ copies else copies)) life more) in
+    same-read (nat_lt 0 n) r copies new (copies_of s) (copies_of (has_read g key at s)) is
+    (ap (map copy_of) (live-read g s key at) ∙ map-append copy_of (live s) (if nat_lt 0 n then r ∷ [] else [])) same
 
 pub invalidations-read : (g : Setting) (outdated : List (KeyShape × ℕ)) (key : KeyShape) (at : ℕ) (s : State) → HasInvalidations outdated s → s.front ≤ at → HasInvalidations outdated (has_read g key at s)
 invalidations-read g outdated key at s is low = λ other. is other ∙ sym (outdated_until-read g s key at other low)

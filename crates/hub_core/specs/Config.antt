@@ -3,7 +3,7 @@ use Rattle.std.specs.Prelude.{ℕ, Bool, ◌||◌, nat_lt, if◌then◌else◌, 
 use Rattle.hub_model.specs.Setting.{Setting}
 use Rattle.query_normal.specs.Pages.{least_log2_bits, most_log2_bits, fewest_hashes, most_hashes}
 use Rattle.hub_core.specs.declared.config.ConfigRefusal.{ConfigRefusal}
-use Rattle.hub_core.specs.declared.config.ConfigRefusal.TheVariants.{BadBits, BadHashes, BadTtl, BadActive, BadCapacity}
+use Rattle.hub_core.specs.declared.config.ConfigRefusal.TheVariants.{BadBits, BadHashes, BadTtl, BadActive, BadCapacity, BadTtls}
 
 -- the least lifetime, in seconds; the limits of a page's numbers are the pages' own
 abbrev pub least_ttl : ℕ
@@ -39,3 +39,7 @@ configured g =
     else (if nat_lt most_active g.active then Err (BadActive g.active)
     else (if is_beyond least_capacity most_capacity g.capacity then Err (BadCapacity g.capacity)
     else Ok g))))
+
+-- the configuration with these lifetimes of absent records and for shared caches, or that one is above the greatest
+abbrev pub with_ttls : Setting → ℕ → ℕ → Result Setting ConfigRefusal
+with_ttls g absent shared = if nat_lt most_ttl absent || nat_lt most_ttl shared then Err (BadTtls absent shared) else Ok (record g { ttl_absent = absent; ttl_shared = shared })

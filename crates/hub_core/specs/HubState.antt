@@ -1,17 +1,17 @@
 -- Internal. What contracts see of a hub, and the history that it represents.
-use Rattle.std.specs.Prelude.{◌≡◌, ℕ, ◌+◌, ◌≤◌, ◌&&◌, true, nat_le, if◌then◌else◌, List, [], ◌∷◌, Option, None, length, map}
+use Rattle.std.specs.Prelude.{◌≡◌, ℕ, ◌+◌, ◌≤◌, ◌&&◌, true, nat_le, if◌then◌else◌, List, [], ◌∷◌, Option, None, length}
 use Rattle.std.specs.List.{list_any}
 use Rattle.issued_expiries.specs.Copies.{Copy, SameCopies, is_active}
+use Rattle.issued_expiries.specs.Expiries.{Issued}
 use Rattle.ttl_estimator.specs.Estimates.{Entries, is_known, kept_of}
 use Rattle.ttl_estimator.specs.Rates.{last_eight}
 use Rattle.ttl_estimator.specs.Records.{Names as Writes, clocks_of}
 use Rattle.query_normal.specs.declared.key.KeyShape.{KeyShape}
-use Rattle.hub_model.specs.Copies.{live}
 use Rattle.hub_model.specs.Kept.{kept_in}
 use Rattle.hub_model.specs.Legal.{IsLegal, most_unmatched}
 use Rattle.hub_model.specs.Lifetime.{write_clocks}
 use Rattle.hub_model.specs.Setting.{Setting}
-use Rattle.hub_model.specs.State.{IssuedCopy, State, until_of}
+use Rattle.hub_model.specs.State.{State}
 use Rattle.hub_model.specs.Step.{state_of}
 use Rattle.hub_model.specs.Until.{until_of_outdated}
 use Rattle.commit_book.specs.declared.change.Change.{Change}
@@ -23,6 +23,8 @@ use Rattle.hub_model.specs.declared.entry.Entry.TheVariants.{Match}
 use Rattle.active_queries.specs.Following.{Following}
 use Rattle.active_queries.specs.Queries.{HaveSeen, begun}
 use Rattle.hub_core.specs.declared.lifetimes.Lifetimes.{Lifetimes}
+use Rattle.hub_core.specs.Absents.{HasAbsents}
+use Rattle.hub_core.specs.Copied.{copies_of}
 use Rattle.hub_core.specs.CopiesView.{CopiesView, until_in}
 use Rattle.hub_core.specs.ActiveQueries.{is_query, KeepsQueries}
 use Rattle.hub_core.specs.Lifetimes.{KeepsLifetimes, has_entry}
@@ -58,6 +60,8 @@ pub record HubView : Type 0 where
   pub estimates : Entries
   -- the texts of the purged keys, in the order of their numbers
   pub purges : List (List ℕ)
+  -- the copies of absent records, where their lifetime is bounded
+  pub absents : Issued
   -- the keys of active queries, each with its match set and the commits that it lists
   pub sets : List (KeyShape × Following)
 
@@ -80,6 +84,7 @@ hub_of book front h l = record {
   writes = l.estimator.records;
   estimates = l.estimator.keys;
   purges = l.purges.texts;
+  absents = l.absents;
   sets = [];
 }
 
@@ -104,6 +109,8 @@ pub record IsLean (h : HubView) : Type 0 where
   pub idle : h.idle ≡ []
   pub ready : h.ready ≡ []
   pub invalidatable : h.invalidatable ≡ []
+  pub absents_idle : h.absents.idle ≡ []
+  pub absents_ready : h.absents.reserved ≡ []
   pub writes : (collection id : List ℕ) → has_entry h.writes collection id ≡ list_any (is_of collection id) h.rows
   pub estimates : (key : KeyShape) → is_known h.estimates key ≡ (is_query key && is_active h.copies key)
   pub sets : KeepsQueries h.rows h.front h.copies h.idle h.sets
@@ -126,14 +133,6 @@ pub record IsSoundHub (book : Contents) (front : ℕ) (h : CopiesView) (entries 
   pub lean : IsLean (hub_with book front h entries l)
   pub queries : KeepsQueries book.journal front h.copies h.idle entries
   pub lifetimes : KeepsLifetimes book.journal front h l
-
--- an issued copy, with its until
-abbrev pub copy_of : IssuedCopy → Copy
-copy_of r = (r.key, r.at, until_of r)
-
--- the unexpired copies of a state
-abbrev pub copies_of : State → List Copy
-copies_of s = map copy_of (live s)
 
 -- the clock and the front are the state's
 pub record HasTime (now covered : ℕ) (s : State) : Type 0 where
@@ -171,6 +170,7 @@ pub record IsAt (h : HubView) (s : State) : Type 0 where
   pub writes : HasWrites h.writes s
   pub estimates : HasEstimates h.estimates s
   pub purges : h.purges ≡ s.purges
+  pub absents : HasAbsents h.setting h.absents s
 
 -- the hub has come to the state of the history, which is legal
 pub record Represents (h : HubView) (history : List Entry) : Type 0 where

@@ -1,6 +1,8 @@
+pub mod Absents
 pub mod ActiveQueries
 pub mod Config
 pub mod ConfigRefusal
+pub mod Copied
 pub mod CopiesView
 pub mod HubState
 pub mod Invalidations
@@ -9,6 +11,7 @@ pub mod PageRoom
 pub mod QueryRows
 pub mod ReadAnswer
 pub use Rattle.flat_snapshot.specs.PageText
+pub use Rattle.hub_model.specs.Copies
 pub use Rattle.hub_model.specs.Legal
 pub use Rattle.hub_model.specs.Record
 pub use Rattle.hub_model.specs.Reply

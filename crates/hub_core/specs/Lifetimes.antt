@@ -73,6 +73,7 @@ pub record KeepsLifetimes (journal : List Change) (front : ℕ) (h : CopiesView)
 pub record ViewedAlike (old new : Lifetimes) : Type 0 where
   pub estimator : new.estimator ≡ old.estimator
   pub texts : new.purges.texts ≡ old.purges.texts
+  pub absents : new.absents ≡ old.absents
 
 -- the ids of the records that the query of a key finds at the last commit; of a record's key none has to be told
 abbrev pub ids_at : KeyShape → List Change → List (List ℕ)

@@ -1,6 +1,7 @@
 //! The configuration of a hub.
 ghost use Rattle.std.specs.Prelude.{◌≡◌, []};
-ghost use Rattle.hub_core.specs.Config.{configured};
+ghost use Rattle.hub_core.specs.Config.{configured, with_ttls};
+ghost use Rattle.hub_model.specs.Lifetime.{kept_for, shared_of};
 ghost use Rattle.hub_model.specs.Setting.{IsWithinLimits};
 
 use q_base::SharedText;
@@ -45,6 +46,9 @@ pub struct Config {
     active: u32,
     capacity: u64,
     origins: Option<SharedText>,
+    hosts: Option<SharedText>,
+    ttl_absent: u32,
+    ttl_shared: u32,
 }
 
 impl Model for Config {
@@ -61,6 +65,9 @@ impl Model for Config {
       active = c.active;
       capacity = c.capacity;
       origins = unwrap_or c.origins [];
+      hosts = unwrap_or c.hosts [];
+      ttl_absent = c.ttl_absent;
+      ttl_shared = c.ttl_shared;
     } };
 
     ghost invariant = { λ c. IsWithinLimits (record {
@@ -71,6 +78,9 @@ impl Model for Config {
       active = c.active;
       capacity = c.capacity;
       origins = unwrap_or c.origins [];
+      hosts = unwrap_or c.hosts [];
+      ttl_absent = c.ttl_absent;
+      ttl_shared = c.ttl_shared;
     }) };
 }
 
@@ -87,6 +97,8 @@ pub enum ConfigRefusal {
     BadActive { found: u32 },
     /// The capacity is not 65,792 to 134,217,728 bytes.
     BadCapacity { found: u64 },
+    /// The lifetime of absent records, or that for shared caches, is above 31,536,000 seconds.
+    BadTtls { absent: u32, shared: u32 },
 }
 
 impl fmt::Display for ConfigRefusal {
@@ -113,6 +125,10 @@ impl fmt::Display for ConfigRefusal {
             ConfigRefusal::BadCapacity { found } => {
                 write!(f, "the capacity is 65792 to 134217728 bytes, not {found}")
             }
+            ConfigRefusal::BadTtls { absent, shared } => write!(
+                f,
+                "absent and shared lifetimes are at most 31536000 seconds, not {absent} and {shared}"
+            ),
         }
     }
 }
@@ -137,6 +153,9 @@ impl Config {
           active = active;
           capacity = capacity;
           origins = [];
+          hosts = [];
+          ttl_absent = 0;
+          ttl_shared = 0;
         }) }
     {
         if log2_bits < LEAST_LOG2_BITS || log2_bits > MOST_LOG2_BITS {
@@ -165,6 +184,9 @@ impl Config {
             active,
             capacity,
             origins: None,
+            hosts: None,
+            ttl_absent: 0,
+            ttl_shared: 0,
         })
     }
 
@@ -179,6 +201,32 @@ impl Config {
         }
     }
 
+    /// The same configuration with these names of hosts whose requests are served, with a space between
+    /// two.
+    pub fn with_hosts(self, hosts: SharedText) -> Config
+        ensures { result ≡ record self { hosts = hosts } }
+    {
+        Config {
+            hosts: Some(hosts),
+            ..self
+        }
+    }
+
+    /// The same configuration with these lifetimes of absent records and for shared caches, of which 0 says
+    /// nothing.
+    pub fn with_ttls(self, absent: u32, shared: u32) -> Result<Config, ConfigRefusal>
+        ensures { result ≡ with_ttls self absent shared }
+    {
+        if absent > MOST_TTL || shared > MOST_TTL {
+            return Err(ConfigRefusal::BadTtls { absent, shared });
+        }
+        Ok(Config {
+            ttl_absent: absent,
+            ttl_shared: shared,
+            ..self
+        })
+    }
+
     /// The origins of web pages that may read replies, with a space between two.
     pub fn origins(&self) -> &[u8]
         ensures { result.now ≡ self.now.origins }
@@ -186,6 +234,16 @@ impl Config {
         match &self.origins {
             None => b"",
             Some(origins) => origins.as_slice(),
+        }
+    }
+
+    /// The hosts whose requests are served, with a space between two. It is empty where all are.
+    pub fn hosts(&self) -> &[u8]
+        ensures { result.now ≡ self.now.hosts }
+    {
+        match &self.hosts {
+            None => b"",
+            Some(hosts) => hosts.as_slice(),
         }
     }
 
@@ -220,9 +278,31 @@ impl Config {
 
     /// The greatest number of keys that may be active at once.
     pub fn active(&self) -> u32
-        ensures { result ≡ self.now.active }
+        ensures same { result ≡ self.now.active }
+        ensures within { IsWithinLimits self.now }
     {
         self.active
+    }
+
+    /// The greatest lifetime of a reply that tells of no record, in seconds, or 0 where it is not bounded.
+    pub fn ttl_absent(&self) -> u32
+        ensures { result ≡ self.now.ttl_absent }
+    {
+        self.ttl_absent
+    }
+
+    /// For how many seconds shared caches may keep a reply of this lifetime, or 0 where nothing is said.
+    pub fn shared_of(&self, ttl: u32) -> u32
+        ensures { result ≡ shared_of self.now ttl }
+    {
+        if ttl == 0 { 0 } else { self.ttl_shared }
+    }
+
+    /// For how many seconds some cache may keep a reply of this lifetime.
+    pub fn kept_for(&self, ttl: u32) -> u32
+        ensures { result ≡ kept_for self.now ttl }
+    {
+        ttl.max(self.shared_of(ttl))
     }
 
     /// The greatest number of bytes that the changes may take.
@@ -249,6 +329,9 @@ impl Default for Config {
             active: 10_000,
             capacity: 134_217_728,
             origins: None,
+            hosts: None,
+            ttl_absent: 0,
+            ttl_shared: 0,
         }
     }
 }

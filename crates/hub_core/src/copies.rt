@@ -4,6 +4,7 @@ ghost use Rattle.issued_expiries.specs.Copies.{SameCopies, active_keys, is_activ
 ghost use Rattle.query_normal.specs.Bits.{flat_bits};
 ghost use Rattle.query_normal.specs.Keys.{same_key};
 ghost use Rattle.query_normal.specs.declared.key.KeyShape.{KeyShape as AKey};
+ghost use Rattle.hub_model.specs.Lifetime.{kept_for, shared_of};
 ghost use Rattle.hub_model.specs.Record.{bits_of};
 ghost use Rattle.hub_core.specs.CopiesView.{no_copies, may_issue, until_in, until_below, is_idle, is_invalidated, invalidated_keys, AreInvalidated, IsReadyFor, Passes, IsInvalidationReserved, CanInvalidate};
 
@@ -65,6 +66,20 @@ impl Copies {
         ensures { result.now ≡ self.now.setting }
     {
         &self.config
+    }
+
+    /// For how many seconds shared caches may keep a reply of this lifetime, or 0 where nothing is said.
+    pub fn shared_of(&self, ttl: u32) -> u32
+        ensures { result ≡ shared_of self.now.setting ttl }
+    {
+        self.config.shared_of(ttl)
+    }
+
+    /// For how many seconds some cache may keep a reply of this lifetime.
+    pub fn kept_for(&self, ttl: u32) -> u32
+        ensures { result ≡ kept_for self.now.setting ttl }
+    {
+        self.config.kept_for(ttl)
     }
 
     /// The greatest moment so far.
@@ -138,12 +153,12 @@ impl Copies {
         self.issued.latest(key, from, below).unwrap_or(0)
     }
 
-    /// Issues a copy of a key for a lifetime, and none where that is 0. The key is not ready any
-    /// more.
+    /// Issues a copy of a key for a lifetime, and none where that is 0. It is kept for as long as some cache
+    /// may keep it. The key is not ready any more.
     pub fn issue(&mut self, key: &Key, commit: Commit, ttl: u32)
         requires ready { IsReadyFor self.old key.now }
         requires allowed { 0 < ttl → IsTrue (may_issue self.old key.now) }
-        ensures copies { SameCopies self.new.copies (if nat_lt 0 ttl then (key.now, commit, self.old.clock + ttl) ∷ self.old.copies else self.old.copies) }
+        ensures copies { SameCopies self.new.copies (if nat_lt 0 ttl then (key.now, commit, self.old.clock + kept_for self.old.setting ttl) ∷ self.old.copies else self.old.copies) }
         ensures ready { self.new.ready ≡ [] }
         ensures idle { (other : AKey) → is_idle self.new other ≡ (not (same_key key.now other && nat_lt 0 ttl) && is_idle self.old other) }
         ensures rest { self.new ≡ record self.old { copies = self.new.copies; idle = self.new.idle; ready = self.new.ready } }
@@ -152,7 +167,7 @@ impl Copies {
             self.issued.forget_reserved();
             return;
         }
-        let until = self.issued.clock().seconds() + ttl as u64;
+        let until = self.issued.clock().seconds() + self.config.kept_for(ttl) as u64;
         self.issued.issue(key, commit, until);
     }
 

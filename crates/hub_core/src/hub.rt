@@ -3,8 +3,10 @@ ghost use Rattle.std.specs.Prelude.{◌≡◌, ◌+◌, ◌^◌, ◌<◌, ◌≤
 ghost use Rattle.hub_model.specs.declared.entry.Entry.TheVariants.{Write, Read, Match, Fetch, Purges, Tick, Horizon};
 ghost use Rattle.commit_book.specs.Journal.{document_at, kept};
 ghost use Rattle.query_normal.specs.declared.key.KeyShape.TheVariants.{Record};
+ghost use Rattle.hub_model.specs.Copies.{active_keys};
 ghost use Rattle.hub_model.specs.Journal.{result_at};
 ghost use Rattle.hub_model.specs.Known.{known_at};
+ghost use Rattle.hub_model.specs.Lifetime.{is_absence, is_bounded};
 ghost use Rattle.hub_model.specs.Record.{is_recorded, page_of, record_of};
 ghost use Rattle.hub_model.specs.Reply.{wrote, read, matched, fetched, purged, counted, dropped, outcome_of, reply_in, told_of};
 ghost use Rattle.hub_model.specs.State.{State, start};
@@ -15,6 +17,7 @@ ghost use Rattle.hub_core.specs.ActiveQueries.{is_query};
 ghost use Rattle.hub_core.specs.HubState.{IsAsBefore, IsAt, IsLean};
 ghost use Rattle.hub_core.specs.ReadAnswer.{AnswersRead};
 
+use crate::absents::is_bounded;
 use crate::config::Config;
 use crate::copies::Copies;
 use crate::lifetimes::Lifetimes;
@@ -23,6 +26,7 @@ use crate::page_room::{Numbers, PageRoom};
 use crate::passing::pass;
 use crate::reading::{
     follow_or_start, issue_copy, known_lifetime, outcome_at, record_outcome, reserve_copy,
+    reserve_record,
 };
 use active_queries::ActiveQueries;
 use active_queries::laws::queries_follow_longer_journals;
@@ -193,14 +197,23 @@ impl Hub {
     {
         let commit = self.book.count();
         let result = record_outcome(&self.book, commit, collection, id, tags)?;
-        match known_lifetime(&self.book, &self.copies, &self.life.estimator, moment, key) {
+        let bounded = is_bounded(&self.copies, &result);
+        match known_lifetime(
+            &self.book,
+            &self.copies,
+            &self.life.estimator,
+            moment,
+            key,
+            bounded,
+        ) {
             Some(ttl) => Ok(Answer {
                 commit,
                 clock: self.copies.clock(),
                 ttl,
+                shared: self.copies.shared_of(ttl),
                 result,
             }),
-            None => self.issue_record(moment, key, tags, result),
+            None => self.issue_record(moment, key, tags, result, bounded),
         }
     }
 
@@ -212,15 +225,17 @@ impl Hub {
         key: &Key,
         tags: &Tags,
         found: Outcome,
+        bounded: bool,
     ) -> Result<Answer, Memory>
         requires kind { is_query key.now ≡ false }
+        requires bounded { bounded ≡ is_bounded self.old.setting (is_absence (result_at key.now self.old.rows self.old.commits)) }
         requires outcome { found ≡ outcome_of (result_at key.now self.old.rows self.old.commits) (known_at key.now self.old.rows self.old.horizon self.old.commits tags.now) }
         ensures answers { IfOk result (AnswersRead self.old self.new moment key.now tags.now) }
         ensures setting { self.new.setting ≡ self.old.setting }
         ensures memory { OnErr result (self.new ≡ self.old) }
         ensures lean { IsLean self.new }
     {
-        self.copies.reserve(key)?;
+        reserve_record(&mut self.copies, &mut self.life.absents, key, bounded)?;
         let ttl = issue_copy(
             &self.book,
             &mut self.copies,
@@ -229,11 +244,13 @@ impl Hub {
             moment,
             key,
             None,
+            bounded,
         );
         Ok(Answer {
             commit: self.book.count(),
             clock: self.copies.clock(),
             ttl,
+            shared: self.copies.shared_of(ttl),
             result: found,
         })
     }
@@ -241,6 +258,7 @@ impl Hub {
     /// Reads a query.
     #[inline(never)]
     fn read_query(&mut self, moment: Moment, key: &Key, tags: &Tags) -> Result<Answer, Memory>
+        requires { is_query key.now ≡ true }
         ensures answers { IfOk result (AnswersRead self.old self.new moment key.now tags.now) }
         ensures setting { self.new.setting ≡ self.old.setting }
         ensures memory { OnErr result (IsAsBefore self.old self.new) }
@@ -257,11 +275,13 @@ impl Hub {
             moment,
             key,
             started,
+            false,
         );
         Ok(Answer {
             commit: self.book.count(),
             clock: self.copies.clock(),
             ttl,
+            shared: self.copies.shared_of(ttl),
             result,
         })
     }
@@ -421,6 +441,34 @@ impl Hub {
         ensures { result ≡ self.now.setting.capacity }
     {
         self.copies.config().capacity()
+    }
+
+    /// The configuration.
+    pub fn config(&self) -> &Config
+        ensures { result.now ≡ self.now.setting }
+    {
+        self.copies.config()
+    }
+
+    /// What the documents of the last commit take of the capacity, in bytes.
+    pub fn live(&self) -> u64
+        ensures { result ≡ kept self.now.rows (length self.now.rows) }
+    {
+        self.book.live()
+    }
+
+    /// The number of active keys.
+    pub fn active_count(&self) -> u32
+        ensures { (s : State) → IsAt self.now s → result ≡ length (active_keys s) }
+    {
+        self.copies.active_count()
+    }
+
+    /// The number of purged keys so far.
+    pub fn purge_count(&self) -> u64
+        ensures { result ≡ length self.now.purges }
+    {
+        self.life.purges.last()
     }
 
     /// The number of keys in the record.

@@ -1,6 +1,7 @@
 //! The hub: it represents a history, and answers each entry as the definitions do.
 #![tactic(auto)]
 
+mod absents;
 mod config;
 mod copies;
 mod hub;

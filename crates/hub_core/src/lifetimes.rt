@@ -3,6 +3,7 @@ ghost use Rattle.std.specs.Prelude.{◌≡◌, ◌++◌, ◌<◌, ◌≤◌, ℕ
 ghost use Rattle.std.specs.List.{list_any, IsDistinct};
 ghost use Rattle.query_normal.specs.declared.key.KeyShape.{KeyShape as AKey};
 ghost use Rattle.query_normal.specs.Keys.{key_text, same_key};
+ghost use Rattle.issued_expiries.specs.Expiries.{none_issued};
 ghost use Rattle.ttl_estimator.specs.Estimates.{after_issue, after_purge, is_known, kept_of};
 ghost use Rattle.ttl_estimator.specs.Estimator.{none_noted};
 ghost use Rattle.purge_list.specs.LastChanges.{change_of, is_known as has_change};
@@ -13,19 +14,21 @@ ghost use Rattle.hub_core.specs.Lifetimes.{Drops, kept_while};
 
 use crate::config::Config;
 use crate::invalidations::Invalidation;
+use issued_expiries::Expiries;
 use purge_list::{LastChanges, Purges};
-use q_base::Moment;
+use q_base::{Memory, Moment};
 use query_normal::{Key, KeyShape};
 use std::alloc::Global;
 use ttl_estimator::{Estimator, Limits};
 
 /// The writes of records and the estimates of active queries, the last change of each active key that a
-/// match outdated, and the purged keys.
+/// match outdated, the purged keys, and the copies of absent records, where their lifetime is bounded.
 #[derive(Drop)]
 pub struct Lifetimes {
     pub estimator: Estimator,
     pub changes: LastChanges,
     pub purges: Purges,
+    pub absents: Expiries,
 }
 
 impl Lifetimes {
@@ -34,6 +37,7 @@ impl Lifetimes {
         ensures estimator { result.estimator ≡ none_noted (limits_of config.now) }
         ensures changes { result.changes ≡ [] }
         ensures purges { result.purges.texts ≡ [] }
+        ensures absents { result.absents ≡ none_issued }
     {
         let limits = Limits {
             low: config.ttl_low(),
@@ -44,6 +48,7 @@ impl Lifetimes {
             estimator: Estimator::new(alloc, limits),
             changes: LastChanges::new(alloc),
             purges: Purges::new(alloc),
+            absents: none_issued(alloc),
         }
     }
 
@@ -54,6 +59,16 @@ impl Lifetimes {
         self.estimator.note_idle(key);
         self.estimator.forget(key);
         self.changes.forget(key);
+    }
+}
+
+/// No copy is issued.
+fn none_issued(alloc: Global) -> Expiries
+    ensures { result ≡ none_issued }
+{
+    match Expiries::new(alloc) {
+        Ok(expiries) => expiries,
+        Err(Memory) => unreachable!(),
     }
 }
 

@@ -71,6 +71,7 @@ pub fn match_commits(
     ensures err { OnErr result (copies.new ≡ copies.old) }
     ensures alike { OnErr result (ViewedAlike life.old life.new) }
     ensures gone_on { OnErr result (HaveGoneOn queries.old.entries queries.new.entries) }
+    ensures absents { life.new.absents ≡ life.old.absents }
     ensures setting { copies.new.setting ≡ copies.old.setting }
     ensures lean { IsLeanCopies copies.new }
 {
@@ -135,6 +136,7 @@ fn prepare(
     ensures estimator { life.new.estimator ≡ record life.old.estimator { records = life.new.estimator.records } }
     ensures alike { OnErr result (ViewedAlike life.old life.new) }
     ensures texts { life.new.purges.texts ≡ life.old.purges.texts }
+    ensures absents { life.new.absents ≡ life.old.absents }
     ensures rest { copies.new ≡ record copies.old { invalidatable = copies.new.invalidatable } }
 {
     let invalidations = reserve_invalidations(alloc, book, copies, queries, front, to)?;
@@ -191,6 +193,7 @@ pub fn make_way(
     ensures front { OnErr result (front.new ≡ front.old) }
     ensures alike { OnErr result (ViewedAlike life.old life.new) }
     ensures gone_on { OnErr result (HaveGoneOn queries.old.entries queries.new.entries) }
+    ensures absents { life.new.absents ≡ life.old.absents }
     ensures setting { copies.new.setting ≡ copies.old.setting }
     ensures lean { IsLeanCopies copies.new }
 {

@@ -8,12 +8,13 @@ ghost use Rattle.query_normal.specs.Keys.{same_key};
 ghost use Rattle.query_normal.specs.declared.key.KeyShape.{KeyShape as AKey};
 ghost use Rattle.query_normal.specs.declared.key.KeyShape.TheVariants.{Record, Query as QueryKey};
 ghost use Rattle.issued_expiries.specs.Copies.{Copy, SameCopies, active_keys, is_active};
+ghost use Rattle.issued_expiries.specs.Expiries.{is_reserved};
 ghost use Rattle.ttl_estimator.specs.Estimates.{is_known, kept_of};
 ghost use Rattle.ttl_estimator.specs.Estimator.{lifetime};
 ghost use Rattle.hub_model.specs.Journal.{result_at};
 ghost use Rattle.hub_model.specs.Known.{known_at};
 ghost use Rattle.hub_model.specs.KnownSince.{known_since};
-ghost use Rattle.hub_model.specs.Lifetime.{limits_of, ttl_of};
+ghost use Rattle.hub_model.specs.Lifetime.{is_absence, is_bounded, kept_for, limits_of, ttl_of};
 ghost use Rattle.hub_model.specs.Reply.{outcome_of};
 ghost use Rattle.hub_model.specs.State.{State, at_moment};
 ghost use Rattle.hub_model.specs.Step.{has_read};
@@ -24,6 +25,7 @@ ghost use Rattle.hub_core.specs.CopiesView.{IsReadyFor, Passes};
 ghost use Rattle.hub_core.specs.HubState.{HaveGoneOn, IsAt, hub_of};
 ghost use Rattle.hub_core.specs.Lifetimes.{KeepsLifetimes, ids_at};
 
+use crate::absents::{bound, reserve_absent};
 use crate::copies::Copies;
 use crate::lifetimes::{Lifetimes, note_read};
 use crate::passing::drop_idle;
@@ -32,6 +34,7 @@ use active_queries::laws::rows_are_those_of_the_last_commit_seen;
 use active_queries::{ActiveQueries, ActiveQuery};
 use commit_book::Book;
 use hub_model::{Outcome, Tags};
+use issued_expiries::Expiries;
 use q_base::{Commit, Memory, Moment, Name};
 use query_core::{Kind, Query, Row};
 use query_normal::{Key, KeyShape};
@@ -194,19 +197,24 @@ fn known_since(book: &Book, tags: &Tags, version: Commit, commit: Commit) -> Opt
 }
 
 /// The lifetime of a read of a record's key at the last commit, at a moment, where the read changes nothing:
-/// the clock has reached the moment, and a copy of that commit may be kept as long.
+/// it is not bounded, the clock has reached the moment, and a copy of that commit may be kept as long.
 pub fn known_lifetime(
     book: &Book,
     copies: &Copies,
     estimator: &Estimator,
     moment: Moment,
     key: &Key,
+    bounded: bool,
 ) -> Option<u32>
     requires { is_query key.now ≡ false }
+    ensures unbounded { IfSome result (λ _. bounded ≡ false) }
     ensures passes { IfSome result (λ _. Passes moment copies.now copies.now) }
     ensures ttl { IfSome result (λ ttl. ttl ≡ lifetime estimator.now key.now (ids_at key.now book.now.journal) copies.now.clock (is_active copies.now.copies key.now) (active_keys copies.now.copies)) }
-    ensures same { IfSome result (λ ttl. SameCopies copies.now.copies (if nat_lt 0 ttl then (key.now, length book.now.journal, copies.now.clock + ttl) ∷ copies.now.copies else copies.now.copies)) }
+    ensures same { IfSome result (λ ttl. SameCopies copies.now.copies (if nat_lt 0 ttl then (key.now, length book.now.journal, copies.now.clock + kept_for copies.now.setting ttl) ∷ copies.now.copies else copies.now.copies)) }
 {
+    if bounded {
+        return None;
+    }
     if !copies.has_reached(moment) {
         return None;
     }
@@ -217,7 +225,7 @@ pub fn known_lifetime(
     }
     let clock = copies.clock();
     let ttl = estimator.ttl(key, &[], clock, true, copies.active_count());
-    if until < clock.seconds() + ttl as u64 {
+    if until < clock.seconds() + copies.kept_for(ttl) as u64 {
         return None;
     }
     Some(ttl)
@@ -259,6 +267,33 @@ pub fn reserve_copy(copies: &mut Copies, estimator: &mut Estimator, key: &Key) -
     }
 }
 
+/// Reserves memory for a copy of a record's key, and for that among those of absent records where the
+/// lifetime is bounded.
+pub fn reserve_record(
+    copies: &mut Copies,
+    absents: &mut Expiries,
+    key: &Key,
+    bounded: bool,
+) -> Result<(), Memory>
+    requires { copies.old.ready ≡ [] }
+    ensures ready { OnOk result (IsReadyFor copies.new key.now) }
+    ensures absent { OnOk result (bounded ≡ true → IsTrue (is_reserved absents.new key.now)) }
+    ensures unbounded { bounded ≡ false → absents.new ≡ absents.old }
+    ensures err { OnErr result (copies.new ≡ copies.old) }
+    ensures absents_err { OnErr result (absents.new ≡ absents.old) }
+    ensures rest { copies.new ≡ record copies.old { ready = copies.new.ready } }
+    ensures absents { absents.new ≡ record absents.old { reserved = absents.new.reserved } }
+{
+    copies.reserve(key)?;
+    match reserve_absent(absents, key, bounded) {
+        Ok(()) => Ok(()),
+        Err(Memory) => {
+            copies.forget_reserved();
+            Err(Memory)
+        }
+    }
+}
+
 /// Issues the copy of a read at the last commit, at a moment, for which memory is ready; for how many
 /// seconds it may be kept. The query that the read started is kept with it. It takes no memory.
 pub fn issue_copy(
@@ -269,8 +304,13 @@ pub fn issue_copy(
     moment: Moment,
     key: &Key,
     started: Option<(Key, ActiveQuery)>,
+    bounded: bool,
 ) -> u32
     requires ready { IsReadyFor copies.old key.now }
+    requires bounded { bounded ≡ is_bounded copies.old.setting (is_absence (result_at key.now book.now.journal (length book.now.journal))) }
+    requires absent { bounded ≡ true → IsTrue (is_reserved life.old.absents key.now) }
+    requires present { bounded ≡ false → life.old.absents.reserved ≡ [] }
+    requires absents_idle { life.old.absents.idle ≡ [] }
     requires at_hand { IsAtHand book.now.journal key.now started queries.old }
     requires following { AreFollowing book.now.journal queries.old.entries }
     requires known { is_query key.now ≡ true → IsTrue (is_known life.old.estimator.keys key.now) }
@@ -284,11 +324,14 @@ pub fn issue_copy(
     ensures setting { copies.new.setting ≡ copies.old.setting }
     ensures idle { copies.new.idle ≡ [] }
     ensures ready { copies.new.ready ≡ [] }
+    ensures absents_idle { life.new.absents.idle ≡ [] }
+    ensures absents_ready { life.new.absents.reserved ≡ [] }
     ensures invalidatable { copies.new.invalidatable ≡ copies.old.invalidatable }
 {
     copies.advance(moment);
+    let commit = book.count();
     let active = copies.is_active(key);
-    let ttl = lifetime(
+    let estimated = lifetime(
         book,
         copies,
         queries,
@@ -297,15 +340,16 @@ pub fn issue_copy(
         key,
         active,
     );
-    copies.issue(key, book.count(), ttl);
+    let ttl = bound(&mut life.absents, copies, key, commit, estimated, bounded);
+    copies.issue(key, commit, ttl);
     note_read(&mut life.estimator, key, active, ttl, copies.clock());
     add_started(queries, started, ttl);
     drop_idle(copies, queries, life);
     ttl
 }
 
-/// For how many seconds a copy of a key may be kept at the clock: by the writes of the records that its
-/// result is of, or by the estimate of an active query.
+/// For how many seconds a copy of a key may be kept at the clock, where nothing is said of absent records: by
+/// the writes of the records that its result is of, or by the estimate of an active query.
 fn lifetime(
     book: &Book,
     copies: &Copies,

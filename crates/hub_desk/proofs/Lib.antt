@@ -1,3 +1,4 @@
 mod DropLemmas
+mod FiguresLemmas
 mod HistoryLemmas
 mod SeatedLemmas

@@ -1,12 +1,15 @@
 pub mod Calls
 pub mod Desk
+pub mod Figures
 pub mod HubValue
 pub mod Seated
 pub use Rattle.hub_core.specs.Config
 pub use Rattle.hub_core.specs.PageRoom
 pub use Rattle.hub_core.specs.HubState
+pub use Rattle.hub_model.specs.Copies
 pub use Rattle.hub_model.specs.Helps
 pub use Rattle.hub_model.specs.Legal
+pub use Rattle.hub_model.specs.Record
 pub use Rattle.hub_model.specs.Reply
 pub use Rattle.hub_model.specs.Setting
 pub use Rattle.hub_model.specs.State

@@ -8,7 +8,9 @@ ghost use Rattle.hub_model.specs.Reply.{wrote, read, purged, counted, told_of};
 ghost use Rattle.hub_model.specs.Setting.{Setting};
 ghost use Rattle.hub_model.specs.Step.{is_accepted, state_of};
 ghost use Rattle.hub_desk.specs.Desk.{MatchesAll, DropsOld, Fetches, IsBehind};
+ghost use Rattle.hub_desk.specs.Figures.{AreFiguresOf};
 
+use crate::figures::Figures;
 use crate::trim::Trim;
 use hub_core::PageRoom;
 use hub_model::{Answer, Change, Condition, Dropped, Matched, PurgeReply, Stats, Tags, Written};
@@ -120,6 +122,14 @@ pub trait Desk {
     fn tick(&mut self, moment: Moment) -> Stats
         requires { is_ready self.old }
         ensures made { Makes (setting self.old) (seen self.old) (seen self.new) (mine self.old) (mine self.new) (Tick moment) (counted result) }
+        ensures anchor { anchor self.new ≡ anchor self.old }
+        ensures setting { setting self.new ≡ setting self.old };
+
+    /// The figures of the store, as the history is that the desk knows then. It makes no entry, and takes
+    /// no memory.
+    fn figures(&mut self) -> Figures
+        ensures figures { AreFiguresOf (setting self.old) (state_of (setting self.old) (seen self.new)) result }
+        ensures none { Learns (setting self.old) (seen self.old) (seen self.new) (mine self.old) (mine self.new) }
         ensures anchor { anchor self.new ≡ anchor self.old }
         ensures setting { setting self.new ≡ setting self.old };
 }

@@ -5,9 +5,12 @@ ghost use Rattle.hub_model.specs.declared.entry.Entry.{Entry as AnEntry};
 ghost use Rattle.hub_model.specs.declared.entry.Entry.TheVariants.{Write, Read, Match, Purges, Tick, Horizon};
 ghost use Rattle.hub_model.specs.Reply.{wrote, read, matched, purged, counted, dropped, told_of};
 ghost use Rattle.hub_model.specs.Step.{is_accepted, state_of};
+ghost use Rattle.hub_desk.specs.Figures.{AreFiguresOf};
 ghost use Rattle.hub_desk.specs.HubValue.{hub_setting, StandsFor, StandsStill, Adds, AddsPage};
 
+use crate::figures::{Figures, figures_of};
 use crate::laws::calls_make_entries;
+use crate::turn_time::TurnTime;
 use hub_core::{Config, Hub, PageRoom, hubs_represent_histories};
 use hub_model::laws::{front_is_within, helps_are_told_by_the_front};
 use hub_model::{
@@ -38,12 +41,25 @@ impl Model for Noted {
     ghost view = { λ n. n.entry };
 }
 
+/// How long a window of turns is, in microseconds: a minute.
+const WINDOW: u64 = 60_000_000;
+
 /// A hub, and how many entries the history has that it represents. The hub is on the heap, so that a
-/// turn moves a few words.
+/// turn moves a few words. How many turns were taken, and how long they were, no clause reads.
 #[derive(Drop)]
 pub struct HubValue {
     hub: Box<Hub, Global>,
     count: u64,
+    /// How many turns were taken.
+    turns: u64,
+    /// Whether they are timed: from the first time on that the figures are asked for.
+    is_timed: bool,
+    /// The number of the window in which the last of them ended.
+    window: u64,
+    /// The longest of them in that window, in microseconds.
+    longest: u64,
+    /// The longest of them in the window before.
+    longest_before: u64,
 }
 
 impl Model for HubValue {
@@ -92,7 +108,15 @@ impl HubValue {
         // The law of a hub that represents no entry.
         hubs_represent_histories();
         let hub = Box::new(alloc, Hub::new(alloc, config)?)?;
-        Ok(HubValue { hub, count: 0 })
+        Ok(HubValue {
+            hub,
+            count: 0,
+            turns: 0,
+            is_timed: false,
+            window: 0,
+            longest: 0,
+            longest_before: 0,
+        })
     }
 
     /// The hub.
@@ -100,6 +124,40 @@ impl HubValue {
         ensures { result.now ≡ self.now.hub }
     {
         &self.hub
+    }
+
+    /// Whether turns are timed.
+    pub(crate) fn is_timed(&self) -> bool {
+        self.is_timed
+    }
+
+    /// The figures of the hub and of the turns, which are timed from then on.
+    pub(crate) fn figures(&mut self) -> Figures
+        ensures figures { (history : List AnEntry) → StandsFor self.old history → AreFiguresOf (hub_setting self.old) (state_of (hub_setting self.old) history) result }
+        ensures same { self.new ≡ self.old }
+    {
+        let longest = self.longest.max(self.longest_before);
+        let figures = figures_of(self.hub(), self.turns, longest);
+        self.is_timed = true;
+        figures
+    }
+
+    /// Notes how long a turn was that ends.
+    pub(crate) fn note_turn(&mut self, time: TurnTime)
+        ensures { self.new ≡ self.old }
+    {
+        self.turns = self.turns.saturating_add(1);
+        if time.ended == 0 {
+            return;
+        }
+        let window = time.ended / WINDOW;
+        if window != self.window {
+            let is_next = window == self.window.saturating_add(1);
+            self.longest_before = if is_next { self.longest } else { 0 };
+            self.longest = 0;
+            self.window = window;
+        }
+        self.longest = self.longest.max(time.lasted());
     }
 
     /// Writes, as one entry behind those that have to come ahead of it. There are no more commits than

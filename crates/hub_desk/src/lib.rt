@@ -2,13 +2,16 @@
 #![tactic(auto)]
 
 mod desk;
+mod figures;
 mod hub_value;
 mod laws;
 mod owned;
 mod seated;
 mod trim;
+mod turn_time;
 
 pub use desk::Desk;
+pub use figures::Figures;
 pub use hub_core::{Config, ConfigRefusal, Hub, PageRoom};
 pub use hub_model::{
     Answer, Change, Condition, Dropped, Entry, Found, Matched, Outcome, PurgeReply, Stats, Tags,

@@ -6,6 +6,7 @@ ghost use Rattle.hub_model.specs.Helps.{match_between};
 ghost use Rattle.hub_desk.specs.Desk.{most_entries};
 
 use crate::desk::Desk;
+use crate::figures::{Figures, figures_of};
 use crate::laws::calls_make_entries;
 use crate::trim::{Trim, target_of};
 use hub_core::{Config, Hub, PageRoom};
@@ -213,5 +214,10 @@ impl Desk for Owned {
         let stats = self.hub.tick(moment);
         note(&mut self.entries, Entry::Tick { moment });
         stats
+    }
+
+    /// It has one owner, and no turns.
+    fn figures(&mut self) -> Figures {
+        figures_of(&self.hub, 0, 0)
     }
 }

@@ -1,18 +1,23 @@
 -- What a read leaves of the copies and their untils.
-use Rattle.std.proofs.Common.{◌≡◌, ℕ, ◌+◌, ◌<◌, ◌≤◌, max, Bool, true, false, cond, ◌&&◌, List, [], ◌∷◌, ◌++◌, map, filter, refl, ap, ◌∙◌, arith}
+use Rattle.std.proofs.Common.{◌≡◌, ℕ, zero, suc, ◌+◌, ◌<◌, ◌≤◌, max, Bool, true, false, cond, ◌&&◌, List, [], ◌∷◌, ◌++◌, map, filter, refl, sym, ap, ◌∙◌, arith}
 use Rattle.std.specs.Prelude.{nat_lt, if◌then◌else◌}
 use Rattle.std.proofs.lemmas.Bool.{lt-ltb, ltb-true}
 use Rattle.std.proofs.lemmas.List.Elements.{filter-append}
 use Rattle.query_normal.specs.declared.key.KeyShape.{KeyShape}
 use Rattle.query_normal.specs.Keys.{same_key}
 use Rattle.hub_model.specs.Copies.{issues, is_live, live}
-use Rattle.hub_model.specs.Lifetime.{ttl_of}
+use Rattle.hub_model.specs.Lifetime.{ttl_of, kept_for}
 use Rattle.hub_model.specs.Record.{is_outdated_in}
 use Rattle.hub_model.specs.Setting.{Setting}
 use Rattle.hub_model.specs.State.{IssuedCopy, State, until_of}
-use Rattle.hub_model.specs.Step.{has_read}
+use Rattle.hub_model.specs.Step.{copy_of_read, has_read}
 use Rattle.hub_model.specs.Until.{greatest, until_among, until_of_outdated}
 use Rattle.hub_model.proofs.Recorded.{not_outdated}
+
+-- some cache may keep a reply where its lifetime is above 0
+pub kept-some : (g : Setting) (ttl : ℕ) → nat_lt 0 (kept_for g ttl) ≡ nat_lt 0 ttl
+kept-some g zero = refl
+kept-some g (suc n) = lt-ltb 0 (kept_for g (suc n)) (omega arith) ∙ sym (lt-ltb 0 (suc n) (omega arith))
 
 -- a copy that is issued now is unexpired where it has a lifetime at all
 live_one : (b : Bool) (clock : ℕ) (r : IssuedCopy) → nat_lt 0 r.ttl ≡ b → r.clock ≡ clock → filter (is_live clock) (cond b (r ∷ []) []) ≡ cond b (r ∷ []) []
@@ -21,13 +26,19 @@ live_one true clock r some now = (
     ap (λ (b : Bool). cond b (r ∷ []) []) (lt-ltb clock (until_of r) above))
 live_one false clock r some now = refl
 
--- a read issues one copy, behind those there were
-pub live-read : (g : Setting) (s : State) (key : KeyShape) (at : ℕ) → live (has_read g key at s) ≡ live s ++ (if nat_lt 0 (ttl_of g s key at) then record { key = key; at = at; clock = s.clock; ttl = ttl_of g s key at } ∷ [] else [])
-live-read g s key at =
-    let r : IssuedCopy = record { key = key; at = at; clock = s.clock; ttl = ttl_of g s key at } in
+-- one copy more that is issued now
+pub live-more : (s : State) (r : IssuedCopy) → r.clock ≡ s.clock → live (record s { copies = s.copies ++ r ∷ [] }) ≡ live s ++ (if nat_lt 0 r.ttl then r ∷ [] else [])
+live-more s r now =
     ap (filter (is_live s.clock)) (filter-append (λ r. nat_lt 0 r.ttl) s.copies (r ∷ []))
     ∙ filter-append (is_live s.clock) (issues s) (filter (λ r. nat_lt 0 r.ttl) (r ∷ []))
-    ∙ ap (λ (l : List IssuedCopy). live s ++ l) (live_one (nat_lt 0 r.ttl) s.clock r refl refl)
+    ∙ ap (λ (l : List IssuedCopy). live s ++ l) (live_one (nat_lt 0 r.ttl) s.clock r refl now)
+
+-- a read issues one copy, behind those there were
+pub live-read : (g : Setting) (s : State) (key : KeyShape) (at : ℕ) → live (has_read g key at s) ≡ live s ++ (if nat_lt 0 (ttl_of g s key at) then copy_of_read g s key at ∷ [] else [])
+live-read g s key at =
+    let r : IssuedCopy = copy_of_read g s key at in
+    live-more s r refl
+    ∙ ap (λ (b : Bool). live s ++ cond b (r ∷ []) []) (kept-some g (ttl_of g s key at))
 
 greatest-append : (ns ms : List ℕ) → greatest (ns ++ ms) ≡ max (greatest ns) (greatest ms)
 greatest-append [] ms = omega arith
@@ -52,18 +63,18 @@ one_until true false key test r passes = ap (λ (b : Bool). greatest (map until_
 one_until false b key test r passes = refl
 
 -- a read raises the untils of the tests that its copy passes
-pub until-read : (g : Setting) (s : State) (key : KeyShape) (at : ℕ) (other : KeyShape) (test : IssuedCopy → Bool) → until_among other test (live (has_read g key at s)) ≡ max (until_among other test (live s)) (if nat_lt 0 (ttl_of g s key at) && (same_key other key && test (record { key = key; at = at; clock = s.clock; ttl = ttl_of g s key at })) then s.clock + ttl_of g s key at else 0)
+pub until-read : (g : Setting) (s : State) (key : KeyShape) (at : ℕ) (other : KeyShape) (test : IssuedCopy → Bool) → until_among other test (live (has_read g key at s)) ≡ max (until_among other test (live s)) (if nat_lt 0 (ttl_of g s key at) && (same_key other key && test (copy_of_read g s key at)) then s.clock + kept_for g (ttl_of g s key at) else 0)
 until-read g s key at other test =
-    let r : IssuedCopy = record { key = key; at = at; clock = s.clock; ttl = ttl_of g s key at } in
+    let r : IssuedCopy = copy_of_read g s key at in
     ap (until_among other test) (live-read g s key at)
-    ∙ until-append other test (live s) (if nat_lt 0 r.ttl then r ∷ [] else [])
-    ∙ ap (max (until_among other test (live s))) (one_until (nat_lt 0 r.ttl) (same_key other key && test r) other test r refl)
+    ∙ until-append other test (live s) (if nat_lt 0 (ttl_of g s key at) then r ∷ [] else [])
+    ∙ ap (max (until_among other test (live s))) (one_until (nat_lt 0 (ttl_of g s key at)) (same_key other key && test r) other test r refl)
 
 -- a read at the front or above it leaves how long each key stays in the record
 pub outdated_until-read : (g : Setting) (s : State) (key : KeyShape) (at : ℕ) (other : KeyShape) → s.front ≤ at → until_of_outdated (has_read g key at s) other ≡ until_of_outdated s other
 outdated_until-read g s key at other h =
     until-read g s key at other (is_outdated_in s)
-    ∙ nothing (nat_lt 0 (ttl_of g s key at)) (same_key other key) (is_outdated_in s (record { key = key; at = at; clock = s.clock; ttl = ttl_of g s key at })) (until_of_outdated s other) (s.clock + ttl_of g s key at) (not_outdated key at s.journal s.front h)
+    ∙ nothing (nat_lt 0 (ttl_of g s key at)) (same_key other key) (is_outdated_in s (copy_of_read g s key at)) (until_of_outdated s other) (s.clock + kept_for g (ttl_of g s key at)) (not_outdated key at s.journal s.front h)
   where
     nothing : (a b c : Bool) (old new : ℕ) → c ≡ false → max old (if a && (b && c) then new else 0) ≡ old
     nothing a b true old new e = cc

@@ -20,8 +20,8 @@ use Rattle.hub_model.specs.Lifetime.{limits_of, write_clocks, estimate, last_iss
 use Rattle.hub_model.specs.Purge.{is_purged, purged_keys}
 use Rattle.hub_model.specs.Setting.{Setting}
 use Rattle.hub_model.specs.State.{IssuedCopy, State, WriteClock, at_moment}
-use Rattle.hub_model.specs.Step.{with_change, has_read, has_matched}
-use Rattle.hub_model.proofs.Issues.{live-read}
+use Rattle.hub_model.specs.Step.{with_change, copy_of_read, has_read, has_matched}
+use Rattle.hub_model.proofs.Issues.{kept-some, live-read}
 use Rattle.hub_model.proofs.KeySets.{same_key-flips}
 use Rattle.hub_model.proofs.Purged.{among-purged, purged-active}
 
@@ -96,7 +96,7 @@ module _ (g : Setting) (s : State) (key : KeyShape) (at : ℕ) where
   ttl = ttl_of g s key at
 
   abbrev copy : IssuedCopy
-  copy = record { key = key; at = at; clock = s.clock; ttl = ttl }
+  copy = copy_of_read g s key at
 
   active-read : (other : KeyShape) → is_active (has_read g key at s) other ≡ (is_active s other || (same_key other key && nat_lt 0 ttl))
   active-read other =
@@ -111,7 +111,9 @@ module _ (g : Setting) (s : State) (key : KeyShape) (at : ℕ) where
       one false false is = refl
 
   issues-read : issues (has_read g key at s) ≡ issues s ++ (if nat_lt 0 ttl then copy ∷ [] else [])
-  issues-read = filter-append (λ (r : IssuedCopy). nat_lt 0 r.ttl) s.copies (copy ∷ [])
+  issues-read =
+      filter-append (λ (r : IssuedCopy). nat_lt 0 r.ttl) s.copies (copy ∷ [])
+      ∙ ap (λ (b : Bool). issues s ++ cond b (copy ∷ []) []) (kept-some g ttl)
 
   last_issue-read : (other : KeyShape) → last_issue (has_read g key at s) other ≡ (if nat_lt 0 ttl && same_key other key then s.clock else last_issue s other)
   last_issue-read other =

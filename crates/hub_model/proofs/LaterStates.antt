@@ -6,10 +6,9 @@ use Rattle.hub_model.specs.declared.entry.Entry.TheVariants.{Write, Read, Match,
 use Rattle.hub_model.specs.Desk.{IsPrefix}
 use Rattle.hub_model.specs.Later.{IsLater}
 use Rattle.hub_model.specs.Legal.{MayFollow, IsLegalFrom, IsLegal}
-use Rattle.hub_model.specs.Lifetime.{ttl_of}
 use Rattle.hub_model.specs.Setting.{Setting}
 use Rattle.hub_model.specs.State.{IssuedCopy, State, at_moment}
-use Rattle.hub_model.specs.Step.{after, after_all, moment_of, state_of}
+use Rattle.hub_model.specs.Step.{after, after_all, copy_of_read, moment_of, state_of}
 use Rattle.hub_model.proofs.Accepted.{wrote-keeps}
 use Rattle.hub_model.proofs.Histories.{state_of-append, legal-parts}
 
@@ -63,7 +62,7 @@ later_after g s (Write moment change condition) may =
     (record { clock = omega arith; front = omega arith; horizon = omega arith; commits = change ∷ []; journal = refl; issued = []; copies = sym (append-nil s.copies); fresh = All-nil (IsFrom s) })
     (later_clock s (at_moment s moment).clock (omega arith))
 later_after g s (Read moment key tags at) may =
-    let r : IssuedCopy = record { key = key; at = at; clock = (at_moment s moment).clock; ttl = ttl_of g (at_moment s moment) key at } in
+    let r : IssuedCopy = copy_of_read g (at_moment s moment) key at in
     record { clock = omega arith; front = omega arith; horizon = omega arith; commits = []; journal = sym (append-nil s.journal); issued = r ∷ []; copies = refl; fresh = All-cons (IsFrom s) r [] may.0.0 (All-nil (IsFrom s)) }
 later_after g s (Match moment to) may =
     record { clock = omega arith; front = (let up = may.0.0 in omega (arith, up)); horizon = omega arith; commits = []; journal = sym (append-nil s.journal); issued = []; copies = sym (append-nil s.copies); fresh = All-nil (IsFrom s) }

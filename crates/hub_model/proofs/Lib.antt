@@ -19,3 +19,4 @@ mod Rows
 pub mod Untils
 mod Unmatched
 mod WorkedDrops
+mod WorkedTtls

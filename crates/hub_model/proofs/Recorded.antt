@@ -18,12 +18,11 @@ use Rattle.hub_model.specs.declared.entry.Tags.{Tags}
 use Rattle.hub_model.specs.Copies.{IsActive, issues, live, some_copy, active_keys, is_active}
 use Rattle.hub_model.specs.Journal.{result_at, same_finding}
 use Rattle.hub_model.specs.Legal.{IsLegal}
-use Rattle.hub_model.specs.Lifetime.{ttl_of}
 use Rattle.hub_model.specs.Outdated.{IsOutdated, is_outdated}
 use Rattle.hub_model.specs.Record.{count_among, IsRecorded, is_outdated_in, is_recorded, record_of, outdated_copies, bits_of}
 use Rattle.hub_model.specs.Setting.{Setting}
 use Rattle.hub_model.specs.State.{IssuedCopy, State, at_moment}
-use Rattle.hub_model.specs.Step.{after, has_read, state_of}
+use Rattle.hub_model.specs.Step.{after, copy_of_read, has_read, state_of}
 use Rattle.hub_model.specs.Until.{until_among, until_of_outdated}
 use Rattle.hub_model.proofs.Accepted.{wrote-keeps}
 use Rattle.hub_model.proofs.Copies.{any_from, found_by, live-parts, live-from, copy-parts, copy-from, among-keys_of, distinct-keys_of}
@@ -128,7 +127,7 @@ filter-none p q r h = by (q r)
 -- a read at the front or above it adds no outdated copy
 pub outdated_copies-read : (g : Setting) (s : State) (key : KeyShape) (at : ℕ) → s.front ≤ at → outdated_copies (has_read g key at s) ≡ outdated_copies s
 outdated_copies-read g s key at h =
-    let r : IssuedCopy = record { key = key; at = at; clock = s.clock; ttl = ttl_of g s key at } in
+    let r : IssuedCopy = copy_of_read g s key at in
     let q : IssuedCopy → Bool = λ r. nat_lt 0 r.ttl in
     ap (filter (is_outdated_in s)) (filter-append q s.copies (r ∷ []))
     ∙ filter-append (is_outdated_in s) (issues s) (filter q (r ∷ []))

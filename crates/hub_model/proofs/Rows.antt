@@ -1,5 +1,5 @@
 -- Worked histories, computed from the definitions alone.
-use Rattle.std.proofs.Common.{◌≡◌, ◌<◌, ◌≤◌, ℕ, ◌++◌, List, [], ◌∷◌, Some, None, true, false, pos, codes, map, refl, ap, arith}
+use Rattle.std.proofs.Common.{◌≡◌, Bool, ◌<◌, ◌≤◌, ℕ, ◌++◌, List, [], ◌∷◌, Some, None, true, false, pos, codes, map, refl, ap, arith}
 use Rattle.std.specs.Prelude.{replicate}
 use Rattle.std.specs.Fmt.{digits}
 use Rattle.json.specs.Print.{escape_byte}
@@ -62,7 +62,7 @@ abbrev covered : List Entry
 covered = copied ++ Match 110 2 ∷ []
 
 covered_replies : (reply sixty [] (Write 100 (put_p1 1) Always) ≡ wrote (Done 1 Missing 100))
-    × (reply sixty (Write 100 (put_p1 1) Always ∷ []) (Read 100 p1 (Listed []) 1) ≡ read (record { commit = 1; clock = 100; ttl = 60; result = Whole (printed (a_is 1)) (Some 1) }))
+    × (reply sixty (Write 100 (put_p1 1) Always ∷ []) (Read 100 p1 (Listed []) 1) ≡ read (record { commit = 1; clock = 100; ttl = 60; shared = 0; result = Whole (printed (a_is 1)) (Some 1) }))
     × (reply sixty (Write 100 (put_p1 1) Always ∷ Read 100 p1 (Listed []) 1 ∷ []) (Write 110 (put_p1 2) Always) ≡ wrote (Done 2 (At 1) 110))
     × (reply sixty copied (Match 110 2) ≡ matched (record { front = 2; clock = 110 }))
 unfolding state_of reply cost_of digits escape_byte
@@ -155,11 +155,11 @@ back_again =
     ∷ Match 100 3
     ∷ []
 
-abbrev copy_of_p1 : ℕ → IssuedCopy
-copy_of_p1 at = record { key = p1; at = at; clock = 100; ttl = 60 }
+abbrev copy_of_p1 : ℕ → Bool → IssuedCopy
+copy_of_p1 at none = record { key = p1; at = at; clock = 100; ttl = 60; absent = none }
 
 undone_between : (record_of (state_of sixty back_again) ≡ p1 ∷ [])
-    × (outdated_copies (state_of sixty back_again) ≡ copy_of_p1 1 ∷ copy_of_p1 2 ∷ [])
+    × (outdated_copies (state_of sixty back_again) ≡ copy_of_p1 1 true ∷ copy_of_p1 2 false ∷ [])
     × (result_at p1 (state_of sixty back_again).journal 1 ≡ result_at p1 (state_of sixty back_again).journal 3)
 unfolding state_of cost_of digits escape_byte
 undone_between = (refl, refl, refl)
@@ -169,7 +169,7 @@ undone_between = (refl, refl, refl)
 abbrev ten_to_ninety : Setting
 ten_to_ninety = record default_setting { ttl_low = 10; ttl_high = 90 }
 
-lifetimes : (reply ten_to_ninety [] (Read 100 p1 (Listed []) 0) ≡ read (record { commit = 0; clock = 100; ttl = 90; result = Nothing }))
+lifetimes : (reply ten_to_ninety [] (Read 100 p1 (Listed []) 0) ≡ read (record { commit = 0; clock = 100; ttl = 90; shared = 0; result = Nothing }))
     × (record_of (state_of ten_to_ninety (covered ++ Fetch 109 ∷ [])) ≡ [])
     × (record_of (state_of ten_to_ninety (Write 100 (put_p1 1) Always ∷ Read 100 p1 (Listed []) 1 ∷ Write 105 (put_p1 2) Always ∷ Match 105 2 ∷ Fetch 109 ∷ [])) ≡ p1 ∷ [])
     × (record_of (state_of ten_to_ninety (Write 100 (put_p1 1) Always ∷ Read 100 p1 (Listed []) 1 ∷ Write 105 (put_p1 2) Always ∷ Match 105 2 ∷ Fetch 110 ∷ [])) ≡ [])
@@ -181,7 +181,7 @@ lifetimes = (refl, refl, refl, refl)
 abbrev few_active : ℕ → Setting
 few_active n = record sixty { active = n }
 
-abbrev p2 : KeyShape
+abbrev pub p2 : KeyShape
 p2 = Record (codes "shop") (codes "p2")
 
 one_active : (ttl_of (few_active 1) (at_moment (state_of (few_active 1) (Read 100 p1 (Listed []) 0 ∷ [])) 159) p2 0 ≡ 0)
@@ -228,7 +228,7 @@ put_twice = Write 100 (put_p1 1) Always ∷ Write 100 (put_p1 1) Always ∷ []
 equal_documents : (reply sixty put_twice (Write 100 (put_p1 2) (unchanged 1)) ≡ wrote (Precondition (At 2) 100))
     × (reply sixty put_twice (Write 100 (put_p1 2) (unchanged 2)) ≡ wrote (Done 3 (At 2) 100))
     × (is_outdated p1 1 (state_of sixty put_twice).journal 2 ≡ true)
-    × (reply sixty put_twice (Read 100 p1 (Listed (1 ∷ [])) 2) ≡ read (record { commit = 2; clock = 100; ttl = 60; result = Whole (printed (a_is 1)) (Some 2) }))
+    × (reply sixty put_twice (Read 100 p1 (Listed (1 ∷ [])) 2) ≡ read (record { commit = 2; clock = 100; ttl = 60; shared = 0; result = Whole (printed (a_is 1)) (Some 2) }))
 unfolding state_of reply cost_of digits escape_byte
 equal_documents = (refl, refl, refl, refl)
 
@@ -239,7 +239,7 @@ abbrev told_at_7 : Tags → Replied
 told_at_7 tags = reply sixty seven (Read 100 p1 tags 7)
 
 abbrev pub answer_at_7 : Outcome → Replied
-answer_at_7 result = read (record { commit = 7; clock = 100; ttl = 60; result = result })
+answer_at_7 result = read (record { commit = 7; clock = 100; ttl = 60; shared = 0; result = result })
 
 -- commit 4 put what is there: the greatest listed commit from there to 7 is told, and else the whole
 known_results : (told_at_7 (Listed (3 ∷ 5 ∷ [])) ≡ answer_at_7 (Same 5 (Some 4)))
@@ -251,8 +251,8 @@ unfolding state_of reply cost_of digits escape_byte
 known_results = (refl, refl, refl, refl, refl)
 
 -- what is not there is absent, whatever is known
-unknown_record : (reply sixty [] (Read 100 p1 Any 0) ≡ read (record { commit = 0; clock = 100; ttl = 60; result = Nothing }))
-    × (reply sixty [] (Read 100 p1 (Listed (0 ∷ [])) 0) ≡ read (record { commit = 0; clock = 100; ttl = 60; result = Nothing }))
+unknown_record : (reply sixty [] (Read 100 p1 Any 0) ≡ read (record { commit = 0; clock = 100; ttl = 60; shared = 0; result = Nothing }))
+    × (reply sixty [] (Read 100 p1 (Listed (0 ∷ [])) 0) ≡ read (record { commit = 0; clock = 100; ttl = 60; shared = 0; result = Nothing }))
 unfolding state_of reply cost_of digits escape_byte
 unknown_record = (refl, refl)
 
@@ -304,7 +304,7 @@ abbrev told_at_4 : Kind → Tags → Replied
 told_at_4 kind tags = reply sixty (map (λ change. Write 100 change Always) four) (Read 100 (where_a_is_1 kind) tags 4)
 
 abbrev answer_at_4 : Outcome → Replied
-answer_at_4 result = read (record { commit = 4; clock = 100; ttl = 60; result = result })
+answer_at_4 result = read (record { commit = 4; clock = 100; ttl = 60; shared = 0; result = result })
 
 query_replies : (told_at_4 Ids (Listed []) ≡ answer_at_4 (Whole (codes "[\"p1\"]") None))
     × (told_at_4 Objects (Listed []) ≡ answer_at_4 (Whole (codes "[{\"doc\":{\"a\":1},\"id\":\"p1\",\"version\":4}]") None))
@@ -315,8 +315,8 @@ unfolding state_of reply cost_of digits escape_byte
 query_replies = (refl, refl, refl, refl, refl)
 
 -- at commit 1, as a caller that has put p1 alone reads it
-first_query : (reply sixty (Write 100 (put_p1 1) Always ∷ []) (Read 100 (where_a_is_1 Objects) (Listed []) 1) ≡ read (record { commit = 1; clock = 100; ttl = 60; result = Whole (codes "[{\"doc\":{\"a\":1},\"id\":\"p1\",\"version\":1}]") None }))
-    × (reply sixty [] (Read 100 (where_a_is_1 Ids) (Listed []) 0) ≡ read (record { commit = 0; clock = 100; ttl = 60; result = Whole (codes "[]") None }))
+first_query : (reply sixty (Write 100 (put_p1 1) Always ∷ []) (Read 100 (where_a_is_1 Objects) (Listed []) 1) ≡ read (record { commit = 1; clock = 100; ttl = 60; shared = 0; result = Whole (codes "[{\"doc\":{\"a\":1},\"id\":\"p1\",\"version\":1}]") None }))
+    × (reply sixty [] (Read 100 (where_a_is_1 Ids) (Listed []) 0) ≡ read (record { commit = 0; clock = 100; ttl = 60; shared = 0; result = Whole (codes "[]") None }))
 unfolding state_of reply cost_of digits escape_byte
 first_query = (refl, refl)
 
@@ -386,13 +386,13 @@ there_and_back =
     ∷ []
 
 abbrev copy_of_query : ℕ → IssuedCopy
-copy_of_query at = record { key = where_a_is_1 Ids; at = at; clock = 100; ttl = 60 }
+copy_of_query at = record { key = where_a_is_1 Ids; at = at; clock = 100; ttl = 60; absent = false }
 
 query_undone : (result_at (where_a_is_1 Ids) (state_of sixty there_and_back).journal 5 ≡ queried (ids []))
     × (result_at (where_a_is_1 Ids) (state_of sixty there_and_back).journal 6 ≡ queried (ids (codes "p1" ∷ [])))
     × (record_of (state_of sixty there_and_back) ≡ where_a_is_1 Ids ∷ [])
     × (outdated_copies (state_of sixty there_and_back) ≡ copy_of_query 5 ∷ copy_of_query 6 ∷ [])
-    × (reply sixty there_and_back (Read 100 (where_a_is_1 Ids) (Listed (5 ∷ [])) 7) ≡ read (record { commit = 7; clock = 100; ttl = 60; result = Same 5 None }))
+    × (reply sixty there_and_back (Read 100 (where_a_is_1 Ids) (Listed (5 ∷ [])) 7) ≡ read (record { commit = 7; clock = 100; ttl = 60; shared = 0; result = Same 5 None }))
 unfolding state_of reply cost_of digits escape_byte
 query_undone = (refl, refl, refl, refl, refl)
 
@@ -423,7 +423,7 @@ not_helped = (refl, refl, refl)
 abbrev hour : Setting
 hour = record default_setting { ttl_low = 1; ttl_high = 3600 }
 
-abbrev p3 : KeyShape
+abbrev pub p3 : KeyShape
 p3 = Record (codes "shop") (codes "p3")
 
 -- p1 is written at 100, 200 and 300, and p2 at 100

@@ -1,5 +1,5 @@
 -- Internal. What a history has come to, said of its entries: the clock, the journal, the front and the horizon of these alone, the copies with the lifetimes that the states before them give.
-use Rattle.std.specs.Prelude.{◌≡◌, ◌⊎◌, ◌≤◌, Contains, ℕ, max, List, [], ◌∷◌, ◌++◌, length, map, fold, Option, Some, None, unwrap_or}
+use Rattle.std.specs.Prelude.{◌≡◌, ◌⊎◌, ◌≤◌, Contains, ℕ, max, Bool, List, [], ◌∷◌, ◌++◌, length, map, fold, Option, Some, None, unwrap_or}
 use Rattle.std.specs.List.{filter_map, last_or}
 use Rattle.q_doc.specs.Tree.{Tree}
 use Rattle.query_normal.specs.declared.key.KeyShape.{KeyShape}
@@ -13,7 +13,7 @@ use Rattle.hub_model.specs.declared.entry.Entry.{Entry}
 use Rattle.hub_model.specs.declared.entry.Entry.TheVariants.{Write, Read, Match, Horizon}
 use Rattle.hub_model.specs.declared.entry.Tags.{Tags}
 use Rattle.hub_model.specs.declared.entry.Tags.TheVariants.{Any, Listed}
-use Rattle.hub_model.specs.Lifetime.{ttl_of}
+use Rattle.hub_model.specs.Lifetime.{ttl_of, kept_for, is_absent}
 use Rattle.hub_model.specs.Setting.{Setting}
 use Rattle.hub_model.specs.State.{at_moment}
 use Rattle.hub_model.specs.Step.{found_of, moment_of, state_of}
@@ -79,12 +79,13 @@ dropped_to e = None
 abbrev pub horizon_of : List Entry → ℕ
 horizon_of history = unwrap_or (last_or None (filter_map dropped_to history)) 0
 
--- the history has a read of the key at that commit, with that clock after it and that lifetime
-pub record IsRead (g : Setting) (history : List Entry) (key : KeyShape) (at clock ttl : ℕ) : Type 0 where
+-- the history has a read of the key at that commit, with that clock after it, whose copy some cache may keep for that long, and which finds that there is no such record or not
+pub record IsRead (g : Setting) (history : List Entry) (key : KeyShape) (at clock ttl : ℕ) (absent : Bool) : Type 0 where
   pub before : List Entry
   pub moment : ℕ
   pub tags : Tags
   pub rest : List Entry
   pub split : history ≡ before ++ Read moment key tags at ∷ rest
   pub clock_is : clock ≡ clock_of (before ++ Read moment key tags at ∷ [])
-  pub ttl_is : ttl ≡ ttl_of g (at_moment (state_of g before) moment) key at
+  pub ttl_is : ttl ≡ kept_for g (ttl_of g (at_moment (state_of g before) moment) key at)
+  pub absent_is : absent ≡ is_absent (state_of g before) key at

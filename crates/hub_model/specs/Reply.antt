@@ -21,7 +21,7 @@ use Rattle.hub_model.specs.declared.entry.Written.{Written}
 use Rattle.hub_model.specs.declared.entry.Written.TheVariants.{Done, Precondition, Full}
 use Rattle.hub_model.specs.Journal.{Finding, absent, present, queried, result_at}
 use Rattle.hub_model.specs.Known.{known_at}
-use Rattle.hub_model.specs.Lifetime.{ttl_of}
+use Rattle.hub_model.specs.Lifetime.{ttl_of, shared_of}
 use Rattle.hub_model.specs.Record.{page_of}
 use Rattle.hub_model.specs.Setting.{Setting}
 use Rattle.hub_model.specs.State.{State, at_moment}
@@ -73,6 +73,7 @@ answered g key tags at s = record {
   commit = at;
   clock = s.clock;
   ttl = ttl_of g s key at;
+  shared = shared_of g (ttl_of g s key at);
   result = outcome_of (result_at key s.journal at) (known_at key s.journal s.horizon at tags);
 }
 

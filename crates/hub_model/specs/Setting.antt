@@ -16,6 +16,12 @@ pub record Setting : Type 0 where
   pub capacity : ℕ
   -- the origins of web pages that may read replies, with a space between two; no entry depends on them
   pub origins : List ℕ
+  -- the names of hosts whose requests are served, with a space between two, or none where all are; no entry depends on them
+  pub hosts : List ℕ
+  -- the greatest lifetime in seconds of a reply that tells that a record is absent; 0 where nothing is said of those
+  pub ttl_absent : ℕ
+  -- for how many seconds shared caches, which are purged, may keep replies; 0 where nothing is said of those
+  pub ttl_shared : ℕ
 
 -- each number is within its limits
 pub record IsWithinLimits (g : Setting) : Type 0 where
@@ -29,6 +35,8 @@ pub record IsWithinLimits (g : Setting) : Type 0 where
   pub active_most : g.active ≤ 1000000
   pub capacity_low : 65792 ≤ g.capacity
   pub capacity_high : g.capacity ≤ 134217728
+  pub absent_most : g.ttl_absent ≤ 31536000
+  pub shared_most : g.ttl_shared ≤ 31536000
 
 -- the configuration where none is asked for
 abbrev pub default_setting : Setting
@@ -40,4 +48,7 @@ default_setting = record {
   active = 10000;
   capacity = 134217728;
   origins = [];
+  hosts = [];
+  ttl_absent = 0;
+  ttl_shared = 0;
 }

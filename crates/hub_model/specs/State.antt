@@ -1,5 +1,5 @@
 -- Believed. What a history has come to.
-use Rattle.std.specs.Prelude.{ℕ, ◌+◌, max, List, []}
+use Rattle.std.specs.Prelude.{ℕ, ◌+◌, max, Bool, List, []}
 use Rattle.query_normal.specs.declared.key.KeyShape.{KeyShape}
 use Rattle.commit_book.specs.declared.change.Change.{Change}
 
@@ -10,8 +10,10 @@ pub record IssuedCopy : Type 0 where
   pub at : ℕ
   -- the clock after the read
   pub clock : ℕ
-  -- for how many seconds it may be kept
+  -- for how many seconds some cache may keep it
   pub ttl : ℕ
+  -- it tells that there is no such record
+  pub absent : Bool
 
 -- until when the copy may be kept
 abbrev pub until_of : IssuedCopy → ℕ

@@ -13,10 +13,10 @@ use Rattle.hub_model.specs.declared.entry.Found.TheVariants.{Missing, At}
 use Rattle.hub_model.specs.declared.entry.Tags.TheVariants.{Any, Listed}
 use Rattle.commit_book.specs.Journal.{document_at, kept_with}
 use Rattle.hub_model.specs.Copies.{is_active}
-use Rattle.hub_model.specs.Lifetime.{ttl_of, estimate_after}
+use Rattle.hub_model.specs.Lifetime.{ttl_of, kept_for, is_absent, estimate_after}
 use Rattle.hub_model.specs.Purge.{purged_keys, purged_texts}
 use Rattle.hub_model.specs.Setting.{Setting}
-use Rattle.hub_model.specs.State.{State, start, at_moment}
+use Rattle.hub_model.specs.State.{IssuedCopy, State, start, at_moment}
 
 -- what a write finds of a document
 abbrev pub found_of : Option (ℕ × Tree) → Found
@@ -55,10 +55,14 @@ with_change change s = record s {
 abbrev pub wrote : Setting → Change → Condition → State → State
 wrote g change condition s = if is_accepted g s change condition then with_change change s else s
 
+-- the copy that a read issues, in a state whose clock is that of the read
+abbrev pub copy_of_read : Setting → State → KeyShape → ℕ → IssuedCopy
+copy_of_read g s key at = record { key = key; at = at; clock = s.clock; ttl = kept_for g (ttl_of g s key at); absent = is_absent s key at }
+
 -- a read issues a copy, for a lifetime that may be 0; if the key was not active, the lifetime becomes its estimate
 abbrev pub has_read : Setting → KeyShape → ℕ → State → State
 has_read g key at s = record s {
-  copies = s.copies ++ record { key = key; at = at; clock = s.clock; ttl = ttl_of g s key at } ∷ [];
+  copies = s.copies ++ copy_of_read g s key at ∷ [];
   estimates = if nat_lt 0 (ttl_of g s key at) && not (is_active s key) then (key, ttl_of g s key at) ∷ s.estimates else s.estimates;
 }
 

@@ -129,6 +129,9 @@ pub struct Answer {
     pub clock: Moment,
     /// For how many seconds the reply may be kept: its freshness lifetime (RFC 9111, section 4.2.1).
     pub ttl: u32,
+    /// For how many seconds shared caches may keep it (RFC 9111, section 5.2.2.10), or 0 where nothing is
+    /// said of those, or where it may not be kept at all.
+    pub shared: u32,
     pub result: Outcome,
 }
 

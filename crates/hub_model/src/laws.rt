@@ -30,13 +30,13 @@ ghost use Rattle.hub_model.specs.KnownSince.{known_since, IsGreatestSame};
 ghost use Rattle.hub_model.specs.Later.{IsLater};
 ghost use Rattle.hub_model.specs.Helps.{helps_of, match_between};
 ghost use Rattle.hub_model.specs.Legal.{most_unmatched, Admits, MayFollow, IsLegalFrom, IsLegal};
-ghost use Rattle.hub_model.specs.Lifetime.{ttl_of};
+ghost use Rattle.hub_model.specs.Lifetime.{ttl_of, kept_for};
 ghost use Rattle.hub_model.specs.Outdated.{IsOutdated, IsChangedAfter, is_outdated, is_changed};
 ghost use Rattle.hub_model.specs.Purge.{is_newly_outdated};
 ghost use Rattle.hub_model.specs.Record.{IsRecorded, is_recorded, record_of, outdated_copies, bits_of, page_of};
 ghost use Rattle.hub_model.specs.Setting.{Setting};
 ghost use Rattle.hub_model.specs.State.{IssuedCopy, State, start, at_moment};
-ghost use Rattle.hub_model.specs.Step.{is_accepted, after, after_all, has_matched, has_read, state_of};
+ghost use Rattle.hub_model.specs.Step.{is_accepted, after, after_all, copy_of_read, has_matched, has_read, state_of};
 ghost use Rattle.hub_model.specs.Until.{until_among, latest_until, until_of_outdated};
 
 // What the tests of the definitions decide.
@@ -129,9 +129,10 @@ pub fn horizon_is_last()
     ensures { (g : Setting) (history : List AnEntry) → (state_of g history).horizon ≡ horizon_of history }
 {}
 
-/// The copies are the reads, each with the clock after it and its lifetime.
+/// The copies are the reads, each with the clock after it, for how long some cache may keep it, and whether
+/// it tells of no record.
 pub fn copies_are_of_reads()
-    ensures { (g : Setting) (history : List AnEntry) (key : KeyShape) (at clock ttl : ℕ) → IsRead g history key at clock ttl ↔ Contains (state_of g history).copies (record { key = key; at = at; clock = clock; ttl = ttl }) }
+    ensures { (g : Setting) (history : List AnEntry) (key : KeyShape) (at clock ttl : ℕ) (absent : Bool) → IsRead g history key at clock ttl absent ↔ Contains (state_of g history).copies (record { key = key; at = at; clock = clock; ttl = ttl; absent = absent }) }
 {}
 
 // What outdated means.
@@ -292,12 +293,12 @@ pub fn untils_pass()
 
 /// A read with a lifetime above 0 issues one copy, behind those there were.
 pub fn reads_issue()
-    ensures { (g : Setting) (s : State) (key : KeyShape) (at : ℕ) → live (has_read g key at s) ≡ live s ++ (if nat_lt 0 (ttl_of g s key at) then record { key = key; at = at; clock = s.clock; ttl = ttl_of g s key at } ∷ [] else []) }
+    ensures { (g : Setting) (s : State) (key : KeyShape) (at : ℕ) → live (has_read g key at s) ≡ live s ++ (if nat_lt 0 (ttl_of g s key at) then copy_of_read g s key at ∷ [] else []) }
 {}
 
 /// It raises the greatest until of the copies that pass a test exactly where its own copy passes.
 pub fn reads_raise()
-    ensures { (g : Setting) (s : State) (key : KeyShape) (at : ℕ) (other : KeyShape) (test : IssuedCopy → Bool) → until_among other test (live (has_read g key at s)) ≡ max (until_among other test (live s)) (if nat_lt 0 (ttl_of g s key at) && (same_key other key && test (record { key = key; at = at; clock = s.clock; ttl = ttl_of g s key at })) then s.clock + ttl_of g s key at else 0) }
+    ensures { (g : Setting) (s : State) (key : KeyShape) (at : ℕ) (other : KeyShape) (test : IssuedCopy → Bool) → until_among other test (live (has_read g key at s)) ≡ max (until_among other test (live s)) (if nat_lt 0 (ttl_of g s key at) && (same_key other key && test (copy_of_read g s key at)) then s.clock + kept_for g (ttl_of g s key at) else 0) }
 {}
 
 /// A read at the front or above it leaves how long each key stays in the record.

@@ -17,6 +17,12 @@ fn new_hub(alloc: Global, low: u32, high: u32, active: u32) -> Result<Box<Hub>, 
     Ok(Box::new(alloc, Hub::new(alloc, config)?)?)
 }
 
+/// A new hub whose lifetimes are all 60 seconds, but as these say of absent records and for shared caches.
+fn new_hub_with(alloc: Global, active: u32, absent: u32, shared: u32) -> Result<Box<Hub>, Fail> {
+    let config = Config::new(10, 6, 60, 60, active, 65_792)?.with_ttls(absent, shared)?;
+    Ok(Box::new(alloc, Hub::new(alloc, config)?)?)
+}
+
 /// Puts a document of the collection shop at a second.
 fn put(alloc: Global, hub: &mut Hub, second: u64, id: &[u8], text: &[u8]) -> Result<(), Fail> {
     let change = Change {
@@ -87,6 +93,84 @@ fn lifetimes_follow_the_writes_of_a_record(rt: HostRuntime) -> Result<(), Fail> 
     assert_eq!(rt; record_lifetime(alloc, &mut hub, 400, b"p3")?, 3_600);
     let mut none = new_hub(alloc, 1, 3_600, 0)?;
     assert_eq!(rt; record_lifetime(alloc, &mut none, 400, b"p3")?, 0);
+    Ok(())
+}
+
+#[test]
+fn absent_keys_take_a_quarter_of_the_places(rt: HostRuntime) -> Result<(), Fail> {
+    let alloc = rt.alloc();
+    let mut hub = new_hub_with(alloc, 7, 30, 0)?;
+    put(alloc, &mut hub, 100, b"p1", br#"{"a":1}"#)?;
+    // Of seven places one goes to an absent key. It keeps it, and another absent key gets none.
+    assert_eq!(rt; record_lifetime(alloc, &mut hub, 100, b"p2")?, 30);
+    assert_eq!(rt; record_lifetime(alloc, &mut hub, 101, b"p3")?, 0);
+    assert_eq!(rt; record_lifetime(alloc, &mut hub, 102, b"p2")?, 30);
+    // A present one does, and so does a query.
+    assert_eq!(rt; record_lifetime(alloc, &mut hub, 102, b"p1")?, 60);
+    assert_eq!(rt; lifetime(alloc, &mut hub, 102, &query_key(alloc)?)?, 60);
+    // The last copy of p2 expires at 132, and its place is free.
+    assert_eq!(rt; record_lifetime(alloc, &mut hub, 131, b"p3")?, 0);
+    assert_eq!(rt; record_lifetime(alloc, &mut hub, 132, b"p3")?, 30);
+    assert_eq!(rt; record_lifetime(alloc, &mut hub, 132, b"p2")?, 0);
+    // As a document p3 has the longer lifetime, and its absent copy has its place until 162 still.
+    put(alloc, &mut hub, 140, b"p3", br#"{"a":1}"#)?;
+    assert_eq!(rt; record_lifetime(alloc, &mut hub, 140, b"p3")?, 60);
+    assert_eq!(rt; record_lifetime(alloc, &mut hub, 161, b"p2")?, 0);
+    assert_eq!(rt; record_lifetime(alloc, &mut hub, 162, b"p2")?, 30);
+    Ok(())
+}
+
+#[test]
+fn absent_keys_are_as_others_where_nothing_is_said(rt: HostRuntime) -> Result<(), Fail> {
+    let alloc = rt.alloc();
+    let mut hub = new_hub_with(alloc, 3, 0, 0)?;
+    assert_eq!(rt; record_lifetime(alloc, &mut hub, 100, b"p1")?, 60);
+    assert_eq!(rt; record_lifetime(alloc, &mut hub, 100, b"p2")?, 60);
+    assert_eq!(rt; record_lifetime(alloc, &mut hub, 100, b"p3")?, 60);
+    assert_eq!(rt; record_lifetime(alloc, &mut hub, 100, b"p4")?, 0);
+    Ok(())
+}
+
+/// Whether the record of a hub has p1 at a second.
+fn is_recorded(alloc: Global, hub: &mut Hub, second: u64) -> Result<bool, Fail> {
+    hub.tick(Moment::of(second));
+    Ok(hub.holds(&record_key(alloc, b"p1")?))
+}
+
+#[test]
+fn a_shared_copy_is_recorded_as_long_as_it_may_be_kept(rt: HostRuntime) -> Result<(), Fail> {
+    let alloc = rt.alloc();
+    let rows = [(0, 160), (20, 160), (90, 190)];
+    for (shared, end) in rows {
+        let mut hub = new_hub_with(alloc, 10, 0, shared)?;
+        put(alloc, &mut hub, 100, b"p1", br#"{"a":1}"#)?;
+        // The second read changes nothing.
+        for _ in 0..2 {
+            let tags = Tags::Listed(Commits::new(alloc));
+            let answer = hub.read(Moment::of(100), &record_key(alloc, b"p1")?, &tags)?;
+            assert_eq!(rt; answer.ttl, 60);
+            assert_eq!(rt; answer.shared, shared);
+        }
+        put(alloc, &mut hub, 110, b"p1", br#"{"a":2}"#)?;
+        match_all(&mut hub, 110)?;
+        assert!(rt; is_recorded(alloc, &mut hub, end - 1)?);
+        assert!(rt; !is_recorded(alloc, &mut hub, end)?);
+    }
+    let mut none = new_hub_with(alloc, 0, 0, 90)?;
+    let tags = Tags::Listed(Commits::new(alloc));
+    assert_eq!(rt;
+        none.read(Moment::of(100), &record_key(alloc, b"p1")?, &tags)?
+            .shared,
+        0
+    );
+    Ok(())
+}
+
+#[test]
+fn lifetimes_are_at_most_a_year(rt: HostRuntime) -> Result<(), Fail> {
+    assert!(rt; Config::default().with_ttls(31_536_000, 31_536_000).is_ok());
+    assert!(rt; Config::default().with_ttls(31_536_001, 0).is_err());
+    assert!(rt; Config::default().with_ttls(0, 31_536_001).is_err());
     Ok(())
 }
 

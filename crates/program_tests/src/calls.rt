@@ -8,11 +8,12 @@ use q_base::{Memory, Moment};
 use q_outside::{
     Clock, EndlessSink, Limits, ListDoors, ListSink, ListSource, PlainSource, Script, Served, Sink,
 };
-use quaestor_prog::{ListPlaces, Status, run};
+use quaestor_prog::{ListPlaces, Status, Watched, run};
 use std::alloc::Global;
 use std::collections::VecDeque;
 use std::marker::Brand;
 use std::process::Abort;
+use std::rt;
 use std::sync::Wait;
 use std::sync::ledger::{Blank, Ledger};
 use std::thread::Threads;
@@ -71,6 +72,8 @@ pub(crate) struct Kept {
     pub handed: Option<Vec<Option<Served>>>,
     /// The limits of time that they were asked for.
     pub limits: Option<Limits>,
+    /// Who they were told to watch.
+    pub watched: Option<Watched>,
     /// How many answers the link has left, where the places have one.
     pub left: Option<usize>,
     /// Why a read had no answer.
@@ -195,7 +198,7 @@ where
     K: Sink,
     M: Ledger,
     F: Ledger,
-    R: Threads + Wait + Copy + Send + 'static,
+    R: Threads + Wait + rt::Clock + Copy + Send + 'static,
     requires doors { (doors.name ≡ M.name) × (doors.parts ≡ M.parts) × (0 < M.parts) }
     requires places { (places.name ≡ F.name) × (places.parts ≡ F.parts) × (0 < F.parts) }
 {
@@ -212,6 +215,7 @@ where
     let kept = Kept {
         handed: handed_of(alloc, places.kept)?,
         limits: places.limits,
+        watched: places.watched,
         left: places.link.as_ref().map(|link| link.answers.len()),
         heard: places.heard,
     };
@@ -235,7 +239,7 @@ where
     L: Ledger,
     M: Ledger,
     F: Ledger,
-    R: Threads + Wait + Copy + Send + 'static,
+    R: Threads + Wait + rt::Clock + Copy + Send + 'static,
     requires sink { (sink.name ≡ L.name) × (sink.parts ≡ L.parts) × (0 < L.parts) }
     requires doors { (doors.name ≡ M.name) × (doors.parts ≡ M.parts) × (0 < M.parts) }
     requires places { (places.name ≡ F.name) × (places.parts ≡ F.parts) × (0 < F.parts) }
@@ -252,7 +256,7 @@ where
 }
 
 /// Runs the program with these words over this input and this place.
-fn run_in<R: Threads + Wait + Copy + Send + AllocGlobal + 'static>(
+fn run_in<R: Threads + Wait + rt::Clock + Copy + Send + AllocGlobal + 'static>(
     rt: &R,
     line: &[&str],
     input: &[u8],
@@ -281,7 +285,7 @@ fn run_in<R: Threads + Wait + Copy + Send + AllocGlobal + 'static>(
 }
 
 /// Runs the program with these words over this input, where such connections come.
-pub(crate) fn run_at<R: Threads + Wait + Copy + Send + AllocGlobal + 'static>(
+pub(crate) fn run_at<R: Threads + Wait + rt::Clock + Copy + Send + AllocGlobal + 'static>(
     rt: &R,
     line: &[&str],
     input: &[u8],
@@ -299,7 +303,7 @@ pub(crate) fn run_at<R: Threads + Wait + Copy + Send + AllocGlobal + 'static>(
 }
 
 /// Runs the program with these words, where a link answers so, over a sink of this capacity.
-pub(crate) fn read_over<R: Threads + Wait + Copy + Send + AllocGlobal + 'static>(
+pub(crate) fn read_over<R: Threads + Wait + rt::Clock + Copy + Send + AllocGlobal + 'static>(
     rt: &R,
     line: &[&str],
     answers: Option<Vec<LinkAnswer>>,
@@ -322,7 +326,7 @@ pub(crate) fn read_over<R: Threads + Wait + Copy + Send + AllocGlobal + 'static>
 }
 
 /// Runs the program with these words over this input.
-pub(crate) fn run_over<R: Threads + Wait + Copy + Send + AllocGlobal + 'static>(
+pub(crate) fn run_over<R: Threads + Wait + rt::Clock + Copy + Send + AllocGlobal + 'static>(
     rt: &R,
     line: &[&str],
     input: &[u8],
@@ -334,7 +338,7 @@ pub(crate) fn run_over<R: Threads + Wait + Copy + Send + AllocGlobal + 'static>(
 }
 
 /// Serves this input by a clock that gives these moments.
-pub(crate) fn pipe_by<R: Threads + Wait + Copy + Send + AllocGlobal + 'static>(
+pub(crate) fn pipe_by<R: Threads + Wait + rt::Clock + Copy + Send + AllocGlobal + 'static>(
     rt: &R,
     input: &[u8],
     moments: &'static [u64],
@@ -349,7 +353,7 @@ pub(crate) fn pipe_by<R: Threads + Wait + Copy + Send + AllocGlobal + 'static>(
 }
 
 /// Serves this input at the moment 100.
-pub(crate) fn pipe_over<R: Threads + Wait + Copy + Send + AllocGlobal + 'static>(
+pub(crate) fn pipe_over<R: Threads + Wait + rt::Clock + Copy + Send + AllocGlobal + 'static>(
     rt: &R,
     input: &[u8],
     takes: Calls,

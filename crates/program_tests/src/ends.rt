@@ -8,9 +8,10 @@ use crate::calls::{
 use crate::texts::{Row, joined, repeated, reply_of};
 use crate::worked::{CLOSED, ELSEWHERE, EMPTY, GET, NO_ROUTE, NO_ROUTE_LAST, PUT};
 use q_base::Memory;
-use q_outside::{Failed, ListSource, Sink};
+use q_outside::{Failed, ListSource, Note, Sink};
 use quaestor_prog::Status;
 use std::marker::Brand;
+use std::rt;
 use std::sync::Wait;
 use std::sync::ledger::Blank;
 use std::test::Fail;
@@ -53,10 +54,12 @@ impl Sink for Ended {
     fn end(&mut self) {
         self.ends = self.ends.saturating_add(1);
     }
+
+    fn note(&mut self, _note: &Note<'_>) {}
 }
 
 /// Runs the program with these words over such a sink, where one connection comes.
-fn run_ended<R: Threads + Wait + Copy + Send + AllocGlobal + 'static>(
+fn run_ended<R: Threads + Wait + rt::Clock + Copy + Send + AllocGlobal + 'static>(
     rt: &R,
     line: &[&str],
     sink: &mut Ended,

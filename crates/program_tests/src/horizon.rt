@@ -2,11 +2,12 @@
 
 use crate::calls::{AMPLE, WHOLE, assert_run, calls_of, run_over, words_of};
 use crate::texts::{Row, all_of, reply_of};
-use crate::worked::{MATCH, NO_STORE, PUT, PUT_AGAIN};
+use crate::worked::{MATCH, MINUTE, NO_STORE, PUT, PUT_AGAIN};
 use q_base::Memory;
 use quaestor_prog::{Status, refusal_of};
 use std::alloc::Global;
 use std::process::Abort;
+use std::rt;
 use std::sync::Wait;
 use std::test::Fail;
 use std::thread::Threads;
@@ -25,6 +26,21 @@ const OK: &[u8] = b"HTTP/1.1 200 OK";
 
 const CREATED: &[u8] = b"HTTP/1.1 201 Created";
 
+/// The small document is put as commit 2, and again as commit 3.
+const SECOND: Row<'static> = (
+    PUT_SMALL,
+    CREATED,
+    b"Cache-Control: no-store\r\nQuaestor-Commit: 2\r\n",
+    b"{\"commit\":2}",
+);
+
+const THIRD: Row<'static> = (
+    PUT_SMALL,
+    OK,
+    b"Cache-Control: no-store\r\nQuaestor-Commit: 3\r\n",
+    b"{\"commit\":3}",
+);
+
 /// The greatest document is put: 65,606 bytes of the store.
 fn put_greatest(alloc: Global) -> Result<Vec<u8>, Memory> {
     let letters = vec![in alloc; b'x'; 65_528]?;
@@ -40,7 +56,7 @@ fn put_greatest(alloc: Global) -> Result<Vec<u8>, Memory> {
 
 /// Runs the program with these words over the requests of the rows, which have their replies. A row without
 /// a first line has its whole reply as its body.
-fn assert_rows<R: Threads + Wait + Copy + Send + AllocGlobal + Abort + 'static>(
+fn assert_rows<R: Threads + Wait + rt::Clock + Copy + Send + AllocGlobal + Abort + 'static>(
     rt: &R,
     line: &[&str],
     rows: &[Row<'_>],
@@ -79,18 +95,8 @@ fn a_store_that_was_full_takes_a_write_behind_a_drop(rt: HostRuntime) -> Result<
             b"Cache-Control: no-store\r\nQuaestor-Commit: 1\r\n",
             b"{\"commit\":1}",
         ),
-        (
-            PUT_SMALL,
-            CREATED,
-            b"Cache-Control: no-store\r\nQuaestor-Commit: 2\r\n",
-            b"{\"commit\":2}",
-        ),
-        (
-            PUT_SMALL,
-            OK,
-            b"Cache-Control: no-store\r\nQuaestor-Commit: 3\r\n",
-            b"{\"commit\":3}",
-        ),
+        SECOND,
+        THIRD,
         full,
         // nothing was matched, so nothing is dropped
         (DROP, OK, NO_STORE, b"{\"horizon\":0}"),
@@ -121,12 +127,7 @@ fn a_store_full_of_what_lives_has_room_behind_a_deletion(rt: HostRuntime) -> Res
             b"Cache-Control: no-store\r\nQuaestor-Commit: 1\r\n",
             b"{\"commit\":1}",
         ),
-        (
-            PUT_SMALL,
-            CREATED,
-            b"Cache-Control: no-store\r\nQuaestor-Commit: 2\r\n",
-            b"{\"commit\":2}",
-        ),
+        SECOND,
         (MATCH, OK, NO_STORE, b"{\"front\":2}"),
         (DROP, OK, NO_STORE, b"{\"horizon\":2}"),
         (
@@ -178,12 +179,7 @@ fn a_store_without_room_for_a_deletion_stays_full(rt: HostRuntime) -> Result<(),
             b"Cache-Control: no-store\r\nQuaestor-Commit: 1\r\n",
             b"{\"commit\":1}",
         ),
-        (
-            PUT_SMALL,
-            CREATED,
-            b"Cache-Control: no-store\r\nQuaestor-Commit: 2\r\n",
-            b"{\"commit\":2}",
-        ),
+        SECOND,
         (
             b"PUT /v1/d/shop/p3 HTTP/1.1\r\nHost: a\r\nContent-Length: 7\r\n\r\n{\"a\":1}",
             CREATED,
@@ -221,18 +217,8 @@ fn a_tag_below_the_horizon_is_not_known(rt: HostRuntime) -> Result<(), Fail> {
             b"Cache-Control: no-store\r\nQuaestor-Commit: 1\r\n",
             b"{\"commit\":1}",
         ),
-        (
-            PUT_SMALL,
-            CREATED,
-            b"Cache-Control: no-store\r\nQuaestor-Commit: 2\r\n",
-            b"{\"commit\":2}",
-        ),
-        (
-            PUT_SMALL,
-            OK,
-            b"Cache-Control: no-store\r\nQuaestor-Commit: 3\r\n",
-            b"{\"commit\":3}",
-        ),
+        SECOND,
+        THIRD,
         stored,
         (
             PUT_SMALL,
@@ -280,19 +266,7 @@ fn a_tag_below_the_horizon_is_not_known(rt: HostRuntime) -> Result<(), Fail> {
             b"{\"commit\":8}",
         ),
     ];
-    assert_rows(
-        &rt,
-        &[
-            "pipe",
-            "--clock",
-            "100",
-            "--ttl-low",
-            "60",
-            "--ttl-high",
-            "60",
-        ],
-        &rows,
-    )
+    assert_rows(&rt, &MINUTE, &rows)
 }
 
 /// How many commits are kept is a number, for `serve` alone.

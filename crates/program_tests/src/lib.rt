@@ -18,6 +18,8 @@ mod helped;
 #[cfg(test)]
 mod horizon;
 #[cfg(test)]
+mod lifetimes;
+#[cfg(test)]
 mod limits;
 #[cfg(test)]
 mod purges;

@@ -6,6 +6,7 @@ use itoa::Buffer;
 use q_base::Memory;
 use quaestor_prog::Status;
 use std::alloc::Global;
+use std::rt;
 use std::sync::Wait;
 use std::test::Fail;
 use std::thread::Threads;
@@ -242,7 +243,7 @@ fn put_of(alloc: Global, document: &[u8]) -> Result<Vec<u8>, Memory> {
 }
 
 /// Whether a request is served, and another one refused so.
-fn is_kept<R: Threads + Wait + Copy + Send + AllocGlobal + 'static>(
+fn is_kept<R: Threads + Wait + rt::Clock + Copy + Send + AllocGlobal + 'static>(
     rt: &R,
     within: &[u8],
     beyond: &[u8],

@@ -7,6 +7,7 @@ use flat_snapshot::Page;
 use q_base::{Moment, SharedText};
 use quaestor_prog::Status;
 use std::alloc::Global;
+use std::rt;
 use std::sync::Wait;
 use std::test::Fail;
 use std::thread::Threads;
@@ -59,7 +60,7 @@ fn reply_of(
 }
 
 /// The program reads a key at a level, where a link gives these answers in turn.
-fn read_with<R: Threads + Wait + Copy + Send + AllocGlobal + 'static>(
+fn read_with<R: Threads + Wait + rt::Clock + Copy + Send + AllocGlobal + 'static>(
     rt: &R,
     level: &str,
     key: &str,

@@ -7,6 +7,7 @@ use crate::worked::{
 };
 use q_base::Memory;
 use std::alloc::Global;
+use std::rt;
 use std::sync::Wait;
 use std::thread::Threads;
 
@@ -101,7 +102,7 @@ pub(crate) fn is_between(steps: &[Step<'_>], taken: usize) -> bool {
 }
 
 /// Runs the program over these bytes, and a sink that takes as much as this.
-pub(crate) fn run_script<R: Threads + Wait + Copy + Send + AllocGlobal + 'static>(
+pub(crate) fn run_script<R: Threads + Wait + rt::Clock + Copy + Send + AllocGlobal + 'static>(
     rt: &R,
     input: &[u8],
     takes: Calls,

@@ -181,3 +181,49 @@ fn the_places_get_the_limits_of_time(rt: HostRuntime) -> Result<(), Fail> {
     }
     Ok(())
 }
+
+/// What a server is watched by goes to the places, as it is written.
+#[test]
+fn the_places_are_told_who_watches(rt: HostRuntime) -> Result<(), Fail> {
+    let rows: [(&[&str], Option<&str>, Option<&str>, bool); 4] = [
+        (&["serve", "here"], None, None, false),
+        (
+            &["serve", "here", "--metrics", "127.0.0.1:9090"],
+            Some("127.0.0.1:9090"),
+            None,
+            false,
+        ),
+        (&["serve", "here", "--log=-"], None, Some("-"), false),
+        (
+            &[
+                "serve",
+                "here",
+                "--log",
+                "a.log",
+                "--log-json",
+                "--metrics=there:0",
+            ],
+            Some("there:0"),
+            Some("a.log"),
+            true,
+        ),
+    ];
+    for (line, metrics, log, json) in rows {
+        let outcome = run_at(
+            &rt,
+            line,
+            b"",
+            calls_of(WHOLE),
+            AMPLE,
+            calls_of(WHOLE),
+            coming(1),
+        )?;
+        let Some(watched) = &outcome.kept.watched else {
+            return Err(Fail::from("the places were not asked"));
+        };
+        assert_eq!(rt; watched.metrics.as_deref(), metrics);
+        assert_eq!(rt; watched.log.as_deref(), log);
+        assert_eq!(rt; watched.json, json);
+    }
+    Ok(())
+}

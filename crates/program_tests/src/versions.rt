@@ -2,21 +2,10 @@
 
 use crate::calls::{AMPLE, WHOLE, assert_run, calls_of, run_over};
 use crate::texts::{Row, reply_of};
-use crate::worked::{NO_STORE, PUT};
+use crate::worked::{MINUTE, NO_STORE, PUT};
 use quaestor_prog::Status;
 use std::alloc::Global;
 use std::test::Fail;
-
-/// Each copy may be kept for a minute, and the clock stands at 100.
-const WORDS: [&str; 7] = [
-    "pipe",
-    "--clock",
-    "100",
-    "--ttl-low",
-    "60",
-    "--ttl-high",
-    "60",
-];
 
 /// A document is put under another name.
 const PUT_ELSEWHERE: &[u8] =
@@ -128,7 +117,7 @@ fn a_record_is_read_and_written_by_what_is_known_of_it(rt: HostRuntime) -> Resul
     replies.extend_from_slice(NOT_MODIFIED)?;
     ask(alloc, &LAST, &mut input, &mut replies)?;
     let all = calls_of(WHOLE);
-    let outcome = run_over(&rt, &WORDS, &input, all, AMPLE, all)?;
+    let outcome = run_over(&rt, &MINUTE, &input, all, AMPLE, all)?;
     assert_run(&rt, &outcome, Status::Done, &replies, 0);
     Ok(())
 }

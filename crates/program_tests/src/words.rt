@@ -6,6 +6,7 @@ use crate::worked::{FOUND, GET, LAST, PUT, STORED, USAGE};
 use q_base::Memory;
 use quaestor_prog::{Status, refusal_of};
 use std::alloc::Global;
+use std::rt;
 use std::sync::Wait;
 use std::test::Fail;
 use std::thread::Threads;
@@ -48,7 +49,7 @@ fn words_are_taken_or_refused(rt: HostRuntime) -> Result<(), Fail> {
 }
 
 /// Runs the program with the words of this line over a document that is put and read.
-fn run_line<R: Threads + Wait + Copy + Send + AllocGlobal + 'static>(
+fn run_line<R: Threads + Wait + rt::Clock + Copy + Send + AllocGlobal + 'static>(
     rt: &R,
     line: &str,
 ) -> Result<Outcome, Memory> {
@@ -128,6 +129,27 @@ fn options_are_numbers_within_their_limits(rt: HostRuntime) -> Result<(), Fail> 
             Status::Words,
         ),
         ("pipe --allow-origin https://a.example", Status::Words),
+        (
+            "pipe --ttl-absent 60 --ttl-shared=31536000 --host a",
+            Status::Done,
+        ),
+        ("pipe --ttl-absent 0", Status::Words),
+        ("pipe --ttl-absent 1 --ttl-absent 1", Status::Words),
+        ("pipe --ttl-shared 31536001", Status::Words),
+        ("pipe --host", Status::Words),
+        ("pipe --host a/b", Status::Words),
+        ("pipe --host a --host b", Status::Words),
+        ("pipe --metrics 127.0.0.1:9090", Status::Words),
+        ("pipe --log -", Status::Words),
+        ("pipe --log-json", Status::Words),
+        ("serve here --ttl-shared x", Status::Words),
+        ("serve here --host a,b", Status::Words),
+        ("serve here --metrics", Status::Words),
+        ("serve here --metrics a --metrics b", Status::Words),
+        ("serve here --log", Status::Words),
+        ("serve here --log-json", Status::Words),
+        ("serve here --log - --log-json --log-json", Status::Words),
+        ("serve here --log - --log-json=true", Status::Words),
     ];
     for (at, (line, status)) in rows.into_iter().enumerate() {
         let outcome = run_line(&rt, line)?;
@@ -143,7 +165,7 @@ fn options_are_numbers_within_their_limits(rt: HostRuntime) -> Result<(), Fail> 
 #[test]
 fn numbers_are_taken_up_to_their_limits(rt: HostRuntime) -> Result<(), Fail> {
     // The words ahead of the number, two numbers that are taken, and two that are not.
-    let rows: [(&[&str], [&str; 2], [&str; 2]); 17] = [
+    let rows: [(&[&str], [&str; 2], [&str; 2]); 21] = [
         (&["pipe", "--bits"], ["10", "22"], ["9", "23"]),
         (&["pipe", "--hashes"], ["1", "16"], ["0", "17"]),
         (&["pipe", "--ttl-low"], ["1", "3600"], ["0", "3601"]),
@@ -192,6 +214,26 @@ fn numbers_are_taken_up_to_their_limits(rt: HostRuntime) -> Result<(), Fail> {
             ["0", "1000001"],
         ),
         (&["serve", "here", "--grace"], ["0", "3600"], ["00", "3601"]),
+        (
+            &["pipe", "--ttl-absent"],
+            ["1", "31536000"],
+            ["0", "31536001"],
+        ),
+        (
+            &["pipe", "--ttl-shared"],
+            ["1", "31536000"],
+            ["0", "31536001"],
+        ),
+        (
+            &["serve", "here", "--ttl-absent"],
+            ["1", "31536000"],
+            ["00", "31536001"],
+        ),
+        (
+            &["serve", "here", "--ttl-shared"],
+            ["1", "31536000"],
+            ["00", "31536001"],
+        ),
         (&["world", "7"], ["1", "1000000"], ["0", "1000001"]),
     ];
     for (words, within, beyond) in rows {
@@ -326,7 +368,7 @@ fn help_and_version_are_written(rt: HostRuntime) -> Result<(), Fail> {
 
 #[test]
 fn refused_words_have_a_message(rt: HostRuntime) -> Result<(), Fail> {
-    let rows: [(&[&str], &str); 11] = [
+    let rows: [(&[&str], &str); 15] = [
         (
             &["world", "7", "0"],
             "error: STEPS is a decimal number from 1 to 1000000, not '0'\n",
@@ -371,6 +413,22 @@ fn refused_words_have_a_message(rt: HostRuntime) -> Result<(), Fail> {
             &["serve", "here", "--allow-origin", "https://a.example/"],
             "error: --allow-origin is *, or origins such as https://example.com with a space between two, without a path or a slash at the end, not 'https://a.example/'\n",
         ),
+        (
+            &["serve", "here", "--host", "https://a.example"],
+            "error: --host is names such as example.com or example.com:8080, of at most 255 bytes each, with a space between two, not 'https://a.example'\n",
+        ),
+        (
+            &["serve", "here", "--ttl-absent", "0"],
+            "error: --ttl-absent is a decimal number from 1 to 31536000, not '0'\n",
+        ),
+        (
+            &["pipe", "--ttl-shared", "31536001"],
+            "error: --ttl-shared is a decimal number from 1 to 31536000, not '31536001'\n",
+        ),
+        (
+            &["serve", "here", "--log-json"],
+            "error: --log-json is given without --log\n",
+        ),
     ];
     for (line, message) in rows {
         let words = words_of(rt.alloc(), line)?;
@@ -408,6 +466,98 @@ fn origins_are_taken_or_refused(rt: HostRuntime) -> Result<(), Fail> {
         let words = words_of(rt.alloc(), &["serve", "here", "--allow-origin", origins])?;
         let refusal = refusal_of(rt.alloc(), &words)?;
         assert_eq!(rt; refusal.is_none(), taken, "of '{origins}'");
+    }
+    Ok(())
+}
+
+/// The names of hosts: with one space between two, each of 1 to 255 bytes, with or without a port.
+#[test]
+fn hosts_are_taken_or_refused(rt: HostRuntime) -> Result<(), Fail> {
+    let rows = [
+        ("a.example", true),
+        ("a.example:8080", true),
+        ("[::1]:8080 localhost", true),
+        ("a.example b.example c.example", true),
+        ("", false),
+        (" a.example", false),
+        ("a.example ", false),
+        ("a.example  b.example", false),
+        ("a.example,b.example", false),
+        ("https://a.example", false),
+        ("a.example/", false),
+        ("*", false),
+        ("*.example", false),
+    ];
+    for (hosts, taken) in rows {
+        let alloc = rt.alloc();
+        assert_eq!(rt;
+            is_taken(alloc, &["serve", "here", "--host"], hosts)?,
+            taken,
+            "of '{hosts}'"
+        );
+        assert_eq!(rt;
+            is_taken(alloc, &["pipe", "--host"], hosts)?,
+            taken,
+            "of '{hosts}'"
+        );
+    }
+    Ok(())
+}
+
+/// A server may be watched by an address, by a log, or by both; the form of a log needs one.
+#[test]
+fn watching_is_taken_or_refused(rt: HostRuntime) -> Result<(), Fail> {
+    let rows: [(&[&str], &str, bool); 8] = [
+        (&["serve", "here", "--metrics"], "127.0.0.1:9090", true),
+        (&["serve", "here", "--log"], "quaestor.log", true),
+        (&["serve", "here", "--log"], "-", true),
+        (&["serve", "here", "--log", "-"], "--log-json", true),
+        (&["serve", "--log-json", "here"], "--log=-", true),
+        (&["serve", "here"], "--log-json", false),
+        (
+            &["serve", "here", "--metrics", "there"],
+            "--log-json",
+            false,
+        ),
+        (&["pipe"], "--log=-", false),
+    ];
+    for (words, last, taken) in rows {
+        assert_eq!(rt; is_taken(rt.alloc(), words, last)?, taken, "of '{last}'");
+    }
+    Ok(())
+}
+
+/// The help of a command has each of its options, in lines of 100 columns at most.
+#[test]
+fn help_has_each_option(rt: HostRuntime) -> Result<(), Fail> {
+    let rows: [(&str, &[&str]); 2] = [
+        (
+            "pipe --help",
+            &["--ttl-absent <N>", "--ttl-shared <N>", "--host <NAMES>"],
+        ),
+        (
+            "serve --help",
+            &[
+                "--ttl-absent <N>",
+                "--ttl-shared <N>",
+                "--host <NAMES>",
+                "--metrics <ADDRESS>",
+                "--log <FILE>",
+                "--log-json",
+            ],
+        ),
+    ];
+    for (line, options) in rows {
+        let outcome = run_line(&rt, line)?;
+        let Ok(text) = str::from_utf8(&outcome.written) else {
+            return Err(Fail::from("the help is no text"));
+        };
+        for option in options {
+            assert!(rt; text.contains(*option), "{line} has {option}");
+        }
+        for shown in text.split('\n') {
+            assert!(rt; shown.len() <= 100, "{shown}");
+        }
     }
     Ok(())
 }

@@ -1,5 +1,16 @@
 //! Worked requests, and their replies.
 
+/// The words of a conversation in which each copy may be kept for a minute, and the clock stands at 100.
+pub const MINUTE: [&str; 7] = [
+    "pipe",
+    "--clock",
+    "100",
+    "--ttl-low",
+    "60",
+    "--ttl-high",
+    "60",
+];
+
 /// A document is put.
 pub const PUT: &[u8] =
     b"PUT /v1/d/shop/p1 HTTP/1.1\r\nHost: a\r\nContent-Length: 7\r\n\r\n{\"a\":1}";

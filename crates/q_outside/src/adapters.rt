@@ -5,6 +5,7 @@
 ghost use Rattle.std.specs.Prelude.{◌≡◌, ℕ, Some, None};
 
 use crate::environment::{Clock, Failed, Sink, Source};
+use crate::note::Note;
 use q_base::Moment;
 use std::io::{Read, Write};
 use std::rt;
@@ -91,6 +92,8 @@ impl<W: Write + Drop> Sink for WriteSink<W> {
     fn end(&mut self) {
         let _ = self.writer.flush();
     }
+
+    fn note(&mut self, _note: &Note<'_>) {}
 }
 
 /// The clock of the operating system. The moment is 0 where it fails or is before 1970.

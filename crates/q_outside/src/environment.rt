@@ -6,6 +6,7 @@
 ghost use Rattle.std.specs.Prelude.{◌≡◌, ℕ, ◌<◌, List, [], length, true, None};
 ghost use Rattle.q_outside.specs.Ends.{End, HasEnded, LastEnd, Took, GaveFromBuffer, GaveSome};
 
+use crate::note::Note;
 use q_base::Moment;
 
 /// A source or sink has failed. Its count of faults has risen.
@@ -70,6 +71,11 @@ pub trait Sink {
     fn end(&mut self)
         ensures keeps { at self.new ≡ at self.old }
         ensures ends { HasEnded (ended self.new) (at self.new).bytes };
+
+    /// Takes note of a request and its reply, behind the reply. It is of no effect on what is served.
+    fn note(&mut self, note: &Note<'_>)
+        ensures same { at self.new ≡ at self.old }
+        ensures keeps_end { ended self.new ≡ ended self.old };
 }
 
 /// A source of moments. It never fails. It may stop or go back.

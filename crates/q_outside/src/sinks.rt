@@ -3,6 +3,7 @@ ghost use Rattle.std.specs.Prelude.{◌≡◌, ℕ, ◌+◌, ◌<◌, ◌≤◌,
 
 use crate::environment::{Failed, Sink};
 use crate::faults::Faults;
+use crate::note::Note;
 use crate::script::{Script, ScriptStep};
 use q_base::Memory;
 use std::alloc::Global;
@@ -22,6 +23,8 @@ impl Sink for EndlessSink {
     }
 
     fn end(&mut self) {}
+
+    fn note(&mut self, _note: &Note<'_>) {}
 }
 
 /// A sink that stores what it is given in a buffer of fixed capacity. A script says which calls fail and
@@ -88,4 +91,6 @@ impl<L: Ledger> Sink for ListSink<L> {
     fn end(&mut self) {
         self.ended = Some(self.bytes.len());
     }
+
+    fn note(&mut self, _note: &Note<'_>) {}
 }

@@ -1,12 +1,17 @@
 //! The program: its words, standard input and output, the system's clock and its network.
 #![tactic(auto)]
 
+mod board;
 mod clock;
 mod link;
+mod log_writer;
 mod places;
+mod posts;
+mod watching;
 
 use clock::HostClock;
 use places::TcpPlaces;
+use posts::{may_watch, start_posts};
 use q_outside::{ReadSource, WriteSink};
 use quaestor_prog::{Status, refusal_of, run};
 use std::env;
@@ -44,7 +49,12 @@ fn main(rt: HostRuntime) -> ExitCode {
             let mut source = ReadSource::new(rt.stdin());
             let mut sink = WriteSink::new(rt.stdout());
             let mut clock = HostClock::new(rt);
-            let mut places = TcpPlaces::new(rt, rt.stderr().is_terminal());
+            let posts = if may_watch(&words) {
+                start_posts(rt).ok()
+            } else {
+                None
+            };
+            let mut places = TcpPlaces::new(rt, posts, rt.stderr().is_terminal());
             let status = run(
                 &rt,
                 rt.alloc(),

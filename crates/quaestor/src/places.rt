@@ -1,28 +1,36 @@
 //! Places of this machine, where connections are listened for over TCP, and servers are reached.
 ghost use Rattle.std.specs.Prelude.{◌≡◌, IfOk};
 
+use crate::board::{Board, BoardMonitor};
 use crate::link::{TcpLink, connect};
+use crate::log_writer::end_log;
+use crate::posts::Posts;
+use crate::watching::{Watched, bind_watched};
 use client_session::SessionRefusal;
 use client_wire::WireLink;
 use q_outside::{Failed, Limits, WriteSink};
-use quaestor_prog::Places;
+use quaestor_prog::{Places, Watching};
 use std::fs::{File, Files};
 use std::io;
 use std::net::{Net, TcpListener, TcpStream};
 use std::rt::Clock;
 use std::sync::atomic::{AtomicU64, Ordering};
-use std::sync::{OnceLock, Wait};
+use std::sync::{Arc, OnceLock, Wait};
 use tcp_doors::TcpDoors;
 
 /// The addresses of this machine, and those that it reaches. Why one of them cannot be listened at or
 /// reached, and why a server gives no answer, is said on standard error. The address that is told is that of
 /// the first doors: a run has one listener.
 #[derive(Drop)]
-pub struct TcpPlaces<R: Drop> {
+pub struct TcpPlaces<R: Clock + AllocGlobal + Drop> {
     rt: R,
     faults: u64,
     address: OnceLock<String>,
     kept: Option<TcpDoors<R>>,
+    /// The threads that watch, where there are any.
+    posts: Option<Arc<Posts<R>>>,
+    /// The board of those who watch the first doors, where somebody does.
+    board: Option<Arc<Board>>,
     link: Option<TcpLink>,
     /// Whether someone looks at standard error.
     is_watched: bool,
@@ -30,14 +38,17 @@ pub struct TcpPlaces<R: Drop> {
     noted_at: AtomicU64,
 }
 
-impl<R: AllocGlobal + Drop> TcpPlaces<R> {
-    /// Places without a fault yet. How far a world has come is said where somebody watches.
-    pub fn new(rt: R, is_watched: bool) -> TcpPlaces<R> {
+impl<R: Clock + AllocGlobal + Drop> TcpPlaces<R> {
+    /// Places without a fault yet, with the threads that are to watch. How far a world has come is said where
+    /// somebody looks.
+    pub fn new(rt: R, posts: Option<Arc<Posts<R>>>, is_watched: bool) -> TcpPlaces<R> {
         TcpPlaces {
             address: OnceLock::new(),
             rt,
             faults: 0,
             kept: None,
+            posts,
+            board: None,
             link: None,
             is_watched,
             noted_at: AtomicU64::new(0),
@@ -45,25 +56,30 @@ impl<R: AllocGlobal + Drop> TcpPlaces<R> {
     }
 }
 
-/// Doors at an address, which is noted as it is told.
+/// Doors at an address, which is noted as it is told, with what is to watch them.
 fn listening<R>(
     note: &OnceLock<String>,
     rt: R,
     address: &str,
     limits: Limits,
-) -> io::Result<TcpDoors<R>>
+    watching: Watching<'_>,
+    posts: Option<&Posts<R>>,
+) -> io::Result<Watched<R>>
 where
     R: Net<Listener = TcpListener, Stream = TcpStream>
         + Files<File = File>
         + AllocGlobal
+        + Eprint
+        + Wait
+        + Clock
         + Copy
         + Drop,
-    ensures closings { IfOk result (λ d. d.closings ≡ 0) }
-    ensures faults { IfOk result (λ d. d.faults ≡ 0) }
+    ensures closings { IfOk result (λ w. w.doors.closings ≡ 0) }
+    ensures faults { IfOk result (λ w. w.doors.faults ≡ 0) }
 {
-    let doors = TcpDoors::bind(rt, address, limits)?;
-    let _ = note.try_set(address_of(&rt, &doors, address)?);
-    Ok(doors)
+    let watched = bind_watched(rt, address, limits, watching, posts)?;
+    let _ = note.try_set(address_of(&rt, &watched.doors, address)?);
+    Ok(watched)
 }
 
 /// The address at which doors are, as it is told: with the port that the system chose, where it was to.
@@ -108,18 +124,29 @@ where
 
     type Link = TcpLink;
 
+    type Monitor = BoardMonitor;
+
     ghost at = { λ p. record { faults = p.faults; kept = p.kept; link = p.link } };
 
-    ghost gives = { λ _ _ _ _ _. Unit {0} };
+    ghost gives = { λ _ _ _ _ _ _. Unit {0} };
 
     ghost tells = { λ _ _. Unit {0} };
 
     ghost links = { λ _ _ _ _. Unit {0} };
 
-    fn listen(&mut self, address: &str, limits: Limits) -> Result<TcpDoors<R>, Failed> {
+    fn listen(
+        &mut self,
+        address: &str,
+        limits: Limits,
+        watching: Watching<'_>,
+    ) -> Result<TcpDoors<R>, Failed> {
         for _ in self.rt.forever() {
-            match listening(&self.address, self.rt, address, limits) {
-                Ok(doors) => return Ok(doors),
+            let posts = self.posts.as_deref();
+            match listening(&self.address, self.rt, address, limits, watching, posts) {
+                Ok(Watched { doors, board }) => {
+                    self.board = board;
+                    return Ok(doors);
+                }
                 Err(error) => {
                     if self.faults < u64::MAX {
                         let _ = eprint!(self.rt; "quaestor: cannot listen on {address}: {error}\n");
@@ -136,6 +163,13 @@ where
         match self.address.get() {
             Some(told) => told.as_str(),
             None => "",
+        }
+    }
+
+    fn monitor(&self) -> BoardMonitor {
+        match &self.board {
+            Some(board) => BoardMonitor::new(Arc::try_clone(board).ok()),
+            None => BoardMonitor::new(None),
         }
     }
 
@@ -160,6 +194,11 @@ where
 
     fn keep_doors(&mut self, doors: TcpDoors<R>) {
         self.kept = Some(doors);
+        if let Some(board) = &self.board {
+            if let Some(log) = board.observer.log() {
+                end_log(&self.rt, log);
+            }
+        }
     }
 
     fn hear(&mut self, refusal: SessionRefusal) {

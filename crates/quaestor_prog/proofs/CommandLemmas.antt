@@ -7,11 +7,11 @@ use Rattle.clap.specs.declared.parser.matches.ArgMatches.{ArgMatches}
 use Rattle.clap.specs.declared.error.kind.ErrorKind.{ErrorKind}
 use Rattle.clap.specs.declared.error.kind.ErrorKind.TheVariants as kind
 use Rattle.hub_model.specs.Setting.{Setting}
-use Rattle.quaestor_prog.specs.Commands.{option_rule, word_rule, with_limit_rules, with_setting_rules, versioned, pipe_app, serve_app, read_app, world_app, program_app, NamesPipe, NamesServe, NamesRead, NamesWorld, NamesNone, FaultsAre, IsAnswered, AskHelp}
+use Rattle.quaestor_prog.specs.Commands.{flag_rule, option_rule, word_rule, with_limit_rules, with_number_rules, with_setting_rules, with_watch_rules, versioned, pipe_app, serve_app, read_app, world_app, program_app, NamesPipe, NamesServe, NamesRead, NamesWorld, NamesNone, FaultsAre, IsAnswered, AskHelp}
 use Rattle.quaestor_prog.specs.Help.{IsHelpOf, IsShownFor}
 use Rattle.quaestor_prog.specs.declared.help.HelpText.{HelpText}
 use Rattle.quaestor_prog.specs.declared.help.HelpText.TheVariants as texts
-use Rattle.quaestor_prog.specs.Words.{AreRun, AreTaken, Asks, FoundRead, IsAnswerOf, IsPipe, IsRead, IsServe, IsServeOf, IsWorld, AreServeOptions, ReadAsk, ServeAsk}
+use Rattle.quaestor_prog.specs.Words.{AreRun, AreTaken, Asks, FoundRead, IsAnswerOf, IsPipe, IsPipeOf, IsRead, IsServe, IsServeOf, IsWorld, AreOptions, AreServeOptions, ReadAsk, ServeAsk}
 use Rattle.quaestor_prog.specs.declared.words.Invocation.{Invocation}
 use Rattle.quaestor_prog.specs.declared.words.Invocation.TheVariants.{Pipe, Serve, Read, World, Help, Invalid}
 use Rattle.quaestor_prog.specs.declared.refusal.Refusal.TheVariants as why
@@ -19,10 +19,18 @@ use Rattle.quaestor_prog.proofs.Singles.{Single, fault_single}
 
 -- one option after another makes the command
 pub six : (a b c d e f g : App) → b ≡ with_rule a (option_rule (codes "bits")) → c ≡ with_rule b (option_rule (codes "hashes")) → d ≡ with_rule c (option_rule (codes "ttl-low")) → e ≡ with_rule d (option_rule (codes "ttl-high"))
-    → f ≡ with_rule e (option_rule (codes "active")) → g ≡ with_rule f (option_rule (codes "bytes")) → g ≡ with_setting_rules a
+    → f ≡ with_rule e (option_rule (codes "active")) → g ≡ with_rule f (option_rule (codes "bytes")) → g ≡ with_number_rules a
 six a b c d e f g pb pc pd pe pf pg =
     pg ∙ ap (λ x. with_rule x (option_rule (codes "bytes"))) (pf ∙ ap (λ x. with_rule x (option_rule (codes "active")))
     (pe ∙ ap (λ x. with_rule x (option_rule (codes "ttl-high"))) (pd ∙ ap (λ x. with_rule x (option_rule (codes "ttl-low"))) (pc ∙ ap (λ x. with_rule x (option_rule (codes "hashes"))) pb))))
+
+pub nine : (a b c d e : App) → b ≡ with_number_rules a → c ≡ with_rule b (option_rule (codes "ttl-absent")) → d ≡ with_rule c (option_rule (codes "ttl-shared")) → e ≡ with_rule d (option_rule (codes "host")) → e ≡ with_setting_rules a
+nine a b c d e pb pc pd pe =
+    pe ∙ ap (λ x. with_rule x (option_rule (codes "host"))) (pd ∙ ap (λ x. with_rule x (option_rule (codes "ttl-shared"))) (pc ∙ ap (λ x. with_rule x (option_rule (codes "ttl-absent"))) pb))
+
+pub three : (a b c d : App) → b ≡ with_rule a (option_rule (codes "metrics")) → c ≡ with_rule b (option_rule (codes "log")) → d ≡ with_rule c (flag_rule (codes "log-json")) → d ≡ with_watch_rules a
+three a b c d pb pc pd =
+    pd ∙ ap (λ x. with_rule x (flag_rule (codes "log-json"))) (pc ∙ ap (λ x. with_rule x (option_rule (codes "log"))) pb)
 
 pub pipe_is : (a b c : App) → a ≡ versioned (codes "pipe") → b ≡ with_setting_rules a → c ≡ with_rule b (option_rule (codes "clock")) → c ≡ pipe_app
 pipe_is a b c pa pb pc = pc ∙ ap (λ x. with_rule x (option_rule (codes "clock"))) (pb ∙ ap with_setting_rules pa)
@@ -33,12 +41,12 @@ five a b c d e f pb pc pd pe pf =
     pf ∙ ap (λ x. with_rule x (option_rule (codes "grace"))) (pe ∙ ap (λ x. with_rule x (option_rule (codes "least-rate")))
     (pd ∙ ap (λ x. with_rule x (option_rule (codes "reply-time"))) (pc ∙ ap (λ x. with_rule x (option_rule (codes "head-time"))) pb)))
 
-pub serve_is : (a b c d e f k g h i : App) → a ≡ versioned (codes "serve") → b ≡ with_rule a (word_rule (codes "ADDR")) → c ≡ with_setting_rules b → d ≡ with_rule c (option_rule (codes "places")) → e ≡ with_rule d (option_rule (codes "workers"))
-    → f ≡ with_rule e (option_rule (codes "matchers")) → k ≡ with_rule f (option_rule (codes "keep")) → g ≡ with_rule k (option_rule (codes "connections")) → h ≡ with_limit_rules g → i ≡ with_rule h (option_rule (codes "allow-origin")) → i ≡ serve_app
-serve_is a b c d e f k g h i pa pb pc pd pe pf pk pg ph pi =
-    pi ∙ ap (λ x. with_rule x (option_rule (codes "allow-origin"))) (ph ∙ ap with_limit_rules (pg ∙ ap (λ x. with_rule x (option_rule (codes "connections"))) (pk ∙ ap (λ x. with_rule x (option_rule (codes "keep"))) (pf ∙ ap (λ x. with_rule x (option_rule (codes "matchers")))
+pub serve_is : (a b c d e f k g h i j : App) → a ≡ versioned (codes "serve") → b ≡ with_rule a (word_rule (codes "ADDR")) → c ≡ with_setting_rules b → d ≡ with_rule c (option_rule (codes "places")) → e ≡ with_rule d (option_rule (codes "workers"))
+    → f ≡ with_rule e (option_rule (codes "matchers")) → k ≡ with_rule f (option_rule (codes "keep")) → g ≡ with_rule k (option_rule (codes "connections")) → h ≡ with_limit_rules g → i ≡ with_rule h (option_rule (codes "allow-origin")) → j ≡ with_watch_rules i → j ≡ serve_app
+serve_is a b c d e f k g h i j pa pb pc pd pe pf pk pg ph pi pj =
+    pj ∙ ap with_watch_rules (pi ∙ ap (λ x. with_rule x (option_rule (codes "allow-origin"))) (ph ∙ ap with_limit_rules (pg ∙ ap (λ x. with_rule x (option_rule (codes "connections"))) (pk ∙ ap (λ x. with_rule x (option_rule (codes "keep"))) (pf ∙ ap (λ x. with_rule x (option_rule (codes "matchers")))
     (pe ∙ ap (λ x. with_rule x (option_rule (codes "workers"))) (pd ∙ ap (λ x. with_rule x (option_rule (codes "places")))
-    (pc ∙ ap with_setting_rules (pb ∙ ap (λ x. with_rule x (word_rule (codes "ADDR"))) pa))))))))
+    (pc ∙ ap with_setting_rules (pb ∙ ap (λ x. with_rule x (word_rule (codes "ADDR"))) pa)))))))))
 
 pub read_is : (a b c d : App) → a ≡ versioned (codes "read") → b ≡ with_rule a (word_rule (codes "ADDR")) → c ≡ with_rule b (word_rule (codes "LEVEL")) → d ≡ with_rule c (word_rule (codes "KEY")) → d ≡ read_app
 read_is a b c d pa pb pc pd =
@@ -264,6 +272,20 @@ read_asked words (Ok (Serve s)) named taken found = absurd found
 read_asked words (Ok (World w)) named taken found = absurd found
 read_asked words (Ok (Help t)) named taken found = absurd found
 read_asked words (Err e) named taken found = tt
+
+-- what clap found for the words of `pipe` says what they ask for
+pub pipe_asked : {E : Type 0} (words : List Text) (g : Setting) (at : Option ℕ) (r : Result Invocation E) → NamesPipe words → fault_of pipe_app words ≡ [] → AreOptions (matches_of pipe_app words) g at → IfOk r (IsPipeOf g at) → IfOk r (Asks words)
+pipe_asked words g at (Ok (Pipe p)) named taken options is = record {
+  named = named;
+  taken = taken;
+  options = subst (λ (k : Setting). AreOptions (matches_of pipe_app words) k p.clock) (sym is.0) (subst (AreOptions (matches_of pipe_app words) g) (sym is.1) options);
+}
+pipe_asked words g at (Ok (Serve s)) named taken options is = absurd is
+pipe_asked words g at (Ok (Read r)) named taken options is = absurd is
+pipe_asked words g at (Ok (World w)) named taken options is = absurd is
+pipe_asked words g at (Ok (Help t)) named taken options is = absurd is
+pipe_asked words g at (Ok (Invalid f)) named taken options is = absurd is
+pipe_asked words g at (Err e) named taken options is = tt
 
 -- what clap found for the words of `serve` says what they ask for
 pub serve_asked : {E : Type 0} (words : List Text) (ask : ServeAsk) (r : Result Invocation E) → NamesServe words → fault_of serve_app words ≡ [] → AreServeOptions (matches_of serve_app words) ask → IfOk r (IsServeOf ask) → IfOk r (Asks words)

@@ -15,7 +15,7 @@ use Rattle.clap.specs.Words.{Text}
 use Rattle.q_outside.specs.Doors.{DoorsView}
 use Rattle.q_outside.specs.declared.limits.Limits.{Limits}
 use Rattle.quaestor_prog.specs.Commands.{AskHelp, IsAnswered}
-use Rattle.quaestor_prog.specs.Places.{PlacesView}
+use Rattle.quaestor_prog.specs.Places.{PlacesView, WatchAsk}
 use Rattle.quaestor_prog.specs.Reading.{HasRead}
 use Rattle.quaestor_prog.specs.Serving.{HasServed}
 use Rattle.client_session.specs.Link.{Exchange, LinkView}
@@ -76,7 +76,7 @@ pub no_help_serving : (words : List Text) (ask : ServeAsk) → IsServe words ask
 no_help_serving words ask s help = nothing_answered _ s.taken (faults_serve IsAnswered words s.named help)
 
 -- what `serve` did is said of what the words ask it for
-pub served_of : {P D L S K C : Type 0} (source_at : S → End) (sink_at : K → End) (ended_at : K → LastEnd) (tick : C → ℕ → C → Type 0) (may : C → Type 0) (doors_at : D → DoorsView S K) (places_at : P → PlacesView D L) (gives : P → List ℕ → Limits → D → P → Type 0) (tells : P → List ℕ → Type 0)
+pub served_of : {P D L S K C : Type 0} (source_at : S → End) (sink_at : K → End) (ended_at : K → LastEnd) (tick : C → ℕ → C → Type 0) (may : C → Type 0) (doors_at : D → DoorsView S K) (places_at : P → PlacesView D L) (gives : P → List ℕ → Limits → WatchAsk → D → P → Type 0) (tells : P → List ℕ → Type 0)
     (words : List Text) (a b : ServeAsk) (sink sink' : End) (ended : LastEnd) (places places' : P) (status : Status) → IsServe words a → IsServe words b
     → HasServed source_at sink_at ended_at tick may doors_at places_at gives tells a sink sink' ended places places' status → HasServed source_at sink_at ended_at tick may doors_at places_at gives tells b sink sink' ended places places' status
 served_of source_at sink_at ended_at tick may doors_at places_at gives tells words a b sink sink' ended places places' status p q served =

@@ -7,14 +7,15 @@ use Rattle.clap.specs.Words.{Row, Text, first_of}
 use Rattle.client_core.specs.declared.level.Level.{Level}
 use Rattle.client_core.specs.declared.level.Level.TheVariants as level
 use Rattle.query_lang.proofs.KeyReading.{texts_tell}
-use Rattle.hub_core.specs.Config.{configured}
+use Rattle.hub_core.specs.Config.{configured, with_ttls}
 use Rattle.hub_core.specs.declared.config.ConfigRefusal.{ConfigRefusal}
 use Rattle.hub_desk.specs.declared.trim.Trim.{Trim}
 use Rattle.hub_desk.specs.declared.trim.Trim.TheVariants.{Below, Full}
 use Rattle.hub_model.specs.Setting.{Setting, IsWithinLimits}
 use Rattle.q_outside.specs.declared.limits.Limits.{Limits}
-use Rattle.quaestor_prog.specs.declared.ranges.TheConstants.{MOST_PLACES, DEFAULT_PLACES, MOST_WORKERS, DEFAULT_WORKERS, MOST_MATCHERS, DEFAULT_MATCHERS, MOST_KEPT, MOST_CONNECTIONS, MOST_SECONDS, DEFAULT_IDLE, DEFAULT_HEAD_TIME, DEFAULT_REPLY_TIME, MOST_RATE, DEFAULT_RATE, DEFAULT_GRACE, MOST_SEED, MOST_STEPS}
-use Rattle.quaestor_prog.specs.Words.{IsCount, IsNumber, IsNumberIn, IsClock, IsConfiguration, IsPipe, IsServe, IsRead, IsTrim, IsWorld, AreLimits, AreOrigins, AreServeOptions, AreReadOptions, ReadAsk, ServeAsk, are_origins, level_word}
+use Rattle.quaestor_prog.specs.declared.ranges.TheConstants.{MOST_PLACES, DEFAULT_PLACES, MOST_WORKERS, DEFAULT_WORKERS, MOST_MATCHERS, DEFAULT_MATCHERS, MOST_KEPT, MOST_CONNECTIONS, MOST_SECONDS, DEFAULT_IDLE, DEFAULT_HEAD_TIME, DEFAULT_REPLY_TIME, MOST_RATE, DEFAULT_RATE, DEFAULT_GRACE, MOST_LIFETIME, MOST_SEED, MOST_STEPS}
+use Rattle.quaestor_prog.specs.Words.{IsCount, IsNumber, IsNumberIn, IsClock, IsConfiguration, IsLifetime, IsPipe, IsSetting, IsServe, IsRead, IsTrim, IsWorld, AreHosts, AreLimits, AreOrigins, AreServeOptions, AreWatching, AreReadOptions, ReadAsk, ServeAsk, are_hosts, are_origins, is_given, level_word}
+use Rattle.quaestor_prog.specs.Places.{WatchAsk}
 
 -- the first word, as a text
 pub first_is : {A : Type 0} (f : A → Text) (xs : List A) (x : A) (t : Text) → slice_get xs 0 ≡ Some x → f x ≡ t → slice_get (map f xs) 0 ≡ Some t
@@ -59,6 +60,9 @@ clock_none given e = subst (λ o. IsClock o None) (sym e) refl
 pub clock_is : (given : Option Text) (t : Text) (at : Option ℕ) → given ≡ Some t → IsClock given at → (n : ℕ) × (at ≡ Some n) × (n < 2 ^ 64) × (t ≡ decimal n)
 clock_is given t at e p = subst (λ o. IsClock o at) e p
 
+small : (n most : ℕ) → most < 2 ^ 64 → n ≤ most → n < 2 ^ 64
+small n most fits within = omega (arith, fits, within)
+
 -- the least lifetime is not above the greatest
 pub crossed : (found : List Row) (g : Setting) (l h : ℕ) → IsNumber (first_of (codes "ttl-low") found) 1 l → IsNumber (first_of (codes "ttl-high") found) 3600 h → l ≤ 31536000 → h ≤ 31536000 → h < l → IsConfiguration found g → ⊥
 crossed found g l h low high lsmall hsmall above p =
@@ -68,11 +72,11 @@ crossed found g l h low high lsmall hsmall above p =
     let b : g.ttl_high ≡ h = one_number _ 3600 _ _ p.high high (omega (arith, most)) (omega (arith, hsmall)) in
     absurd (omega (arith, a, b, order, above))
 
-same_setting : (g h : Setting) → g.log2_bits ≡ h.log2_bits → g.hashes ≡ h.hashes → g.ttl_low ≡ h.ttl_low → g.ttl_high ≡ h.ttl_high → g.active ≡ h.active → g.capacity ≡ h.capacity → g.origins ≡ h.origins → g ≡ h
-same_setting g h a b c d e f o = λ i. record { log2_bits = a i; hashes = b i; ttl_low = c i; ttl_high = d i; active = e i; capacity = f i; origins = o i }
+same_setting : (g h : Setting) → g.log2_bits ≡ h.log2_bits → g.hashes ≡ h.hashes → g.ttl_low ≡ h.ttl_low → g.ttl_high ≡ h.ttl_high → g.active ≡ h.active → g.capacity ≡ h.capacity → g.origins ≡ h.origins → g.hosts ≡ h.hosts → g.ttl_absent ≡ h.ttl_absent → g.ttl_shared ≡ h.ttl_shared → g ≡ h
+same_setting g h a b c d e f o n m s = λ i. record { log2_bits = a i; hashes = b i; ttl_low = c i; ttl_high = d i; active = e i; capacity = f i; origins = o i; hosts = n i; ttl_absent = m i; ttl_shared = s i }
 
-pub one_setting : (found : List Row) (g h : Setting) → IsConfiguration found g → IsConfiguration found h → g.origins ≡ h.origins → g ≡ h
-one_setting found g h p q origins =
+one_configuration : (found : List Row) (g h : Setting) → IsConfiguration found g → IsConfiguration found h → g.origins ≡ h.origins → g.hosts ≡ h.hosts → g.ttl_absent ≡ h.ttl_absent → g.ttl_shared ≡ h.ttl_shared → g ≡ h
+one_configuration found g h p q origins hosts absent shared =
     let v = p.within in
     let w = q.within in
     let order : g.ttl_low ≤ g.ttl_high = v.ttl_order in
@@ -87,13 +91,27 @@ one_setting found g h p q origins =
     (one_number _ _ _ _ p.active q.active (omega (arith, v.active_most)) (omega (arith, w.active_most)))
     (one_number _ _ _ _ p.bytes q.bytes (omega (arith, v.capacity_high)) (omega (arith, w.capacity_high)))
     origins
+    hosts
+    absent
+    shared
+
+one_lifetime : (given : Option Text) (m n : ℕ) → IsLifetime given m → IsLifetime given n → m ≡ n
+one_lifetime None m n p q = p ∙ sym q
+one_lifetime (Some text) m n p q = decimal_injective m n (small _ MOST_LIFETIME (omega arith) p.2) (small _ MOST_LIFETIME (omega arith) q.2) (sym p.0 ∙ q.0)
+
+one_hosts : (given : Option Text) (a b : Text) → AreHosts given a → AreHosts given b → a ≡ b
+one_hosts None a b p q = p ∙ sym q
+one_hosts (Some text) a b p q = p.0 ∙ sym q.0
+
+pub one_setting : (found : List Row) (g h : Setting) → IsSetting found g → IsSetting found h → g.origins ≡ h.origins → g ≡ h
+one_setting found g h p q origins = one_configuration found g h p.numbers q.numbers origins
+    (one_hosts _ _ _ p.hosts q.hosts)
+    (one_lifetime _ _ _ p.absent q.absent)
+    (one_lifetime _ _ _ p.shared q.shared)
 
 -- words ask for one configuration and one clock
 pub one_pipe : (words : List Text) (g h : Setting) (a b : Option ℕ) → IsPipe words g a → IsPipe words h b → (g ≡ h) × (a ≡ b)
 one_pipe words g h a b p q = (one_setting _ g h p.options.0 q.options.0 (p.options.1 ∙ sym q.options.1), one_clock _ a b p.options.2 q.options.2)
-
-small : (n most : ℕ) → most < 2 ^ 64 → n ≤ most → n < 2 ^ 64
-small n most fits within = omega (arith, fits, within)
 
 -- the number of connections of a text, and where none is given
 pub count_some : (given : Option Text) (t : Text) (n : ℕ) → given ≡ Some t → (t ≡ decimal n) × (1 ≤ n) × (n ≤ MOST_CONNECTIONS) → IsCount given n
@@ -123,8 +141,8 @@ one_trim : (given : Option Text) (a b : Trim) → IsTrim given a → IsTrim give
 one_trim None a b p q = p ∙ sym q
 one_trim (Some text) a b p q = p.1 ∙ (ap Below (decimal_injective p.0 q.0 (small _ MOST_KEPT (omega arith) p.3) (small _ MOST_KEPT (omega arith) q.3) (sym p.2 ∙ q.2)) ∙ sym q.1)
 
-same_ask : (a b : ServeAsk) → a.address ≡ b.address → a.setting ≡ b.setting → a.places ≡ b.places → a.workers ≡ b.workers → a.matchers ≡ b.matchers → a.trim ≡ b.trim → a.connections ≡ b.connections → a.limits ≡ b.limits → a ≡ b
-same_ask a b p q o r s d t u = λ i. record { address = p i; setting = q i; places = o i; workers = r i; matchers = s i; trim = d i; connections = t i; limits = u i }
+same_ask : (a b : ServeAsk) → a.address ≡ b.address → a.setting ≡ b.setting → a.places ≡ b.places → a.workers ≡ b.workers → a.matchers ≡ b.matchers → a.trim ≡ b.trim → a.connections ≡ b.connections → a.limits ≡ b.limits → a.watching ≡ b.watching → a ≡ b
+same_ask a b p q o r s d t u w = λ i. record { address = p i; setting = q i; places = o i; workers = r i; matchers = s i; trim = d i; connections = t i; limits = u i; watching = w i }
 
 same_limits : (a b : Limits) → a.idle ≡ b.idle → a.head_time ≡ b.head_time → a.reply_time ≡ b.reply_time → a.least_rate ≡ b.least_rate → a.grace ≡ b.grace → a ≡ b
 same_limits a b p q r s t = λ i. record { idle = p i; head_time = q i; reply_time = r i; least_rate = s i; grace = t i }
@@ -161,9 +179,42 @@ one_origins : (given : Option Text) (a b : Text) → AreOrigins given a → AreO
 one_origins None a b p q = p ∙ sym q
 one_origins (Some text) a b p q = p.0 ∙ sym q.0
 
--- the numbers of a configuration do not depend on its origins
-pub any_origins : (found : List Row) (g : Setting) (o : Text) → IsConfiguration found g → IsConfiguration found (record g { origins = o })
-any_origins found g o p =
+-- the hosts of a text, and where none is given
+pub hosts_some : (given : Option Text) (t : Text) → given ≡ Some t → are_hosts t ≡ true → AreHosts given t
+hosts_some given t e p = subst (λ o. AreHosts o t) (sym e) (refl, p)
+
+pub hosts_none : (given : Option Text) → given ≡ None → AreHosts given []
+hosts_none given e = subst (λ o. AreHosts o []) (sym e) refl
+
+pub not_hosts : (given : Option Text) (t o : Text) → given ≡ Some t → are_hosts t ≡ false → AreHosts given o → ⊥
+not_hosts given t o e bad p =
+    let good : are_hosts t ≡ true = (subst (λ x. AreHosts x o) e p).1 in
+    let no : false ≡ true = sym bad ∙ good in
+    absurd cc
+
+-- the lifetime of a text, and where none is given
+pub lifetime_some : (given : Option Text) (t : Text) (n : ℕ) → given ≡ Some t → (t ≡ decimal n) × (1 ≤ n) × (n ≤ MOST_LIFETIME) → IsLifetime given n
+lifetime_some given t n e p = subst (λ o. IsLifetime o n) (sym e) p
+
+pub lifetime_none : (given : Option Text) → given ≡ None → IsLifetime given 0
+lifetime_none given e = subst (λ o. IsLifetime o 0) (sym e) refl
+
+pub lifetime_is : (given : Option Text) (t : Text) (n : ℕ) → given ≡ Some t → IsLifetime given n → (t ≡ decimal n) × (1 ≤ n) × (n ≤ MOST_LIFETIME)
+lifetime_is given t n e p = subst (λ o. IsLifetime o n) e p
+
+-- the form of a log is not given without one
+pub not_alone : (found : List Row) (w : WatchAsk) → is_given (first_of (codes "log-json") found) ≡ true → first_of (codes "log") found ≡ None → AreWatching found w → ⊥
+not_alone found w given none p = p.of_log (p.json ∙ given) (p.log ∙ none)
+
+same_watch : (a b : WatchAsk) → a.metrics ≡ b.metrics → a.log ≡ b.log → a.json ≡ b.json → a ≡ b
+same_watch a b p q r = λ i. record { metrics = p i; log = q i; json = r i }
+
+one_watch : (found : List Row) (a b : WatchAsk) → AreWatching found a → AreWatching found b → a ≡ b
+one_watch found a b p q = same_watch a b (p.metrics ∙ sym q.metrics) (p.log ∙ sym q.log) (p.json ∙ sym q.json)
+
+-- the numbers of a configuration do not depend on its names, nor on its lifetimes of absent records and in shared caches
+any_rest : (found : List Row) (g : Setting) (o h : Text) (m n : ℕ) → m ≤ MOST_LIFETIME → n ≤ MOST_LIFETIME → IsConfiguration found g → IsConfiguration found (record g { origins = o; hosts = h; ttl_absent = m; ttl_shared = n })
+any_rest found g o h m n absent shared p =
     let w = p.within in
     record {
       bits = p.bits;
@@ -180,11 +231,33 @@ any_origins found g o p =
         ttl_some = w.ttl_some;
         ttl_order = w.ttl_order;
         ttl_most = w.ttl_most;
+        absent_most = absent;
+        shared_most = shared;
         active_most = w.active_most;
         capacity_low = w.capacity_low;
         capacity_high = w.capacity_high;
       };
     }
+
+-- what options ask for, of what they show
+pub setting_is : (found : List Row) (g k : Setting) (h : Text) (m n : ℕ) → k ≡ record g { ttl_absent = m; ttl_shared = n } → m ≤ MOST_LIFETIME → n ≤ MOST_LIFETIME → IsConfiguration found g
+    → IsLifetime (first_of (codes "ttl-absent") found) m → IsLifetime (first_of (codes "ttl-shared") found) n → AreHosts (first_of (codes "host") found) h → IsSetting found (record k { hosts = h })
+setting_is found g k h m n e absent_most shared_most numbers absent shared hosts =
+    subst (λ (x : Setting). IsSetting found (record x { hosts = h })) (sym e) (record {
+      numbers = any_rest found g g.origins h m n absent_most shared_most numbers;
+      absent = absent;
+      shared = shared;
+      hosts = hosts;
+    })
+
+-- it does not depend on the origins
+pub any_origins : (found : List Row) (g : Setting) (o : Text) → IsSetting found g → IsSetting found (record g { origins = o })
+any_origins found g o p = record {
+  numbers = any_rest found g o g.hosts g.ttl_absent g.ttl_shared p.numbers.within.absent_most p.numbers.within.shared_most p.numbers;
+  absent = p.absent;
+  shared = p.shared;
+  hosts = p.hosts;
+}
 
 one_options : (found : List Row) (a b : ServeAsk) → AreServeOptions found a → AreServeOptions found b → a ≡ b
 one_options found a b p q = same_ask a b
@@ -196,6 +269,7 @@ one_options found a b p q = same_ask a b
     (one_trim (first_of (codes "keep") found) a.trim b.trim p.trim q.trim)
     (one_count (first_of (codes "connections") found) a.connections b.connections p.connections q.connections)
     (one_limits found a.limits b.limits p.limits q.limits)
+    (one_watch found a.watching b.watching p.watching q.watching)
 
 -- what holds anyway holds of an error
 pub of_error : {T E : Type 0} (Q : Type 0) (r : Result T E) → Q → IfErr r (λ _. Q)
@@ -255,3 +329,7 @@ configured_within g w =
     ∙ (skip _ _ _ (neither _ _ (neither _ _ (not_less _ _ w.ttl_some) (not_less _ _ w.ttl_order)) (not_less _ _ w.ttl_most))
     ∙ (skip _ _ _ (not_less _ _ w.active_most)
     ∙ skip _ _ _ (neither _ _ (not_less _ _ w.capacity_low) (not_less _ _ w.capacity_high)))))
+
+-- lifetimes within their limits are taken
+pub lasting_is : (g : Setting) (m n : ℕ) → m ≤ MOST_LIFETIME → n ≤ MOST_LIFETIME → with_ttls g m n ≡ Ok (record g { ttl_absent = m; ttl_shared = n })
+lasting_is g m n a b = skip _ _ _ (neither _ _ (not_less _ _ a) (not_less _ _ b))

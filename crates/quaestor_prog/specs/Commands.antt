@@ -1,12 +1,16 @@
 -- Believed. The commands as clap reads them: their names, options and flags.
 use Rattle.std.specs.Prelude.{◌≡◌, ◌⊎◌, true, List, Some, codes, slice_get}
 use Rattle.clap.specs.Words.{App, Rule, Text, new_app, new_rule, with_rule, fault_of, Kinds, IsAmong}
-use Rattle.clap.specs.declared.builder.action.ArgAction.TheVariants.{Set}
+use Rattle.clap.specs.declared.builder.action.ArgAction.TheVariants.{Set, SetTrue}
 use Rattle.clap.specs.declared.error.kind.ErrorKind.TheVariants as kind
 
 -- an option `--NAME VALUE`, which may be given once
 abbrev pub option_rule : Text → Rule
 option_rule name = record (new_rule name) { long = Some name; action = Some Set; value_names = 1 }
+
+-- an option `--NAME` without a value, which may be given once
+abbrev pub flag_rule : Text → Rule
+flag_rule name = record (new_rule name) { long = Some name; action = Some SetTrue }
 
 -- a command of this name, with the flag `--version`
 abbrev pub versioned : Text → App
@@ -16,11 +20,16 @@ versioned name = record (new_app name) { top = record (new_app name).top { has_v
 abbrev pub word_rule : Text → Rule
 word_rule name = record (new_rule name) { action = Some Set; value_names = 1; required = true }
 
--- the command with the six options of a configuration behind its others
-abbrev pub with_setting_rules : App → App
-with_setting_rules app = with_rule (with_rule (with_rule (with_rule (with_rule (with_rule app
+-- the command with the six options of the numbers that every configuration has behind its others
+abbrev pub with_number_rules : App → App
+with_number_rules app = with_rule (with_rule (with_rule (with_rule (with_rule (with_rule app
     (option_rule (codes "bits"))) (option_rule (codes "hashes"))) (option_rule (codes "ttl-low"))) (option_rule (codes "ttl-high")))
     (option_rule (codes "active"))) (option_rule (codes "bytes"))
+
+-- the command with the nine options of a configuration behind its others
+abbrev pub with_setting_rules : App → App
+with_setting_rules app = with_rule (with_rule (with_rule (with_number_rules app)
+    (option_rule (codes "ttl-absent"))) (option_rule (codes "ttl-shared"))) (option_rule (codes "host"))
 
 -- the command `pipe`
 abbrev pub pipe_app : App
@@ -32,11 +41,16 @@ with_limit_rules app = with_rule (with_rule (with_rule (with_rule (with_rule app
     (option_rule (codes "idle"))) (option_rule (codes "head-time"))) (option_rule (codes "reply-time"))) (option_rule (codes "least-rate")))
     (option_rule (codes "grace"))
 
+-- the command with the three options of who watches the server behind its others
+abbrev pub with_watch_rules : App → App
+with_watch_rules app = with_rule (with_rule (with_rule app
+    (option_rule (codes "metrics"))) (option_rule (codes "log"))) (flag_rule (codes "log-json"))
+
 -- the command `serve`
 abbrev pub serve_app : App
-serve_app = with_rule (with_limit_rules (with_rule (with_rule (with_rule (with_rule (with_rule (with_setting_rules (with_rule (versioned (codes "serve")) (word_rule (codes "ADDR"))))
+serve_app = with_watch_rules (with_rule (with_limit_rules (with_rule (with_rule (with_rule (with_rule (with_rule (with_setting_rules (with_rule (versioned (codes "serve")) (word_rule (codes "ADDR"))))
     (option_rule (codes "places"))) (option_rule (codes "workers"))) (option_rule (codes "matchers"))) (option_rule (codes "keep"))) (option_rule (codes "connections"))))
-    (option_rule (codes "allow-origin"))
+    (option_rule (codes "allow-origin")))
 
 -- the command `read`
 abbrev pub read_app : App

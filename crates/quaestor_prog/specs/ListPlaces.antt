@@ -1,6 +1,12 @@
--- Internal. Which doors places in memory may give.
-use Rattle.std.specs.Prelude.{◌≡◌, length, Option, Some}
+-- Internal. Which doors places in memory may give, and what they keep of who watches.
+use Rattle.std.specs.Prelude.{◌≡◌, length, Option, Some, option_map, string_bytes}
 use Rattle.q_outside.specs.declared.list_doors.ListDoors.{ListDoors}
+use Rattle.quaestor_prog.specs.Places.{WatchAsk}
+use Rattle.quaestor_prog.specs.declared.list_places.Watched.{Watched}
+
+-- what they were asked, of what they keep
+abbrev pub watched_of : Watched → WatchAsk
+watched_of w = record { metrics = option_map string_bytes w.metrics; log = option_map string_bytes w.log; json = w.json }
 
 module _ {S K L : Type 0} where
   -- no connection came through the doors, they were not closed, and they have not failed

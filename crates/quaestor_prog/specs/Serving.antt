@@ -4,7 +4,7 @@ use Rattle.dialogue.specs.Dialogue.{Sides}
 use Rattle.q_outside.specs.Doors.{DoorsView}
 use Rattle.q_outside.specs.Ends.{End, GaveBytes, GavePart, HasEnded, LastEnd}
 use Rattle.q_outside.specs.declared.limits.Limits.{Limits}
-use Rattle.quaestor_prog.specs.Places.{AreNew, PlacesView}
+use Rattle.quaestor_prog.specs.Places.{AreNew, PlacesView, WatchAsk}
 use Rattle.quaestor_prog.specs.Status.{or_write_fault, status_of_server}
 use Rattle.quaestor_prog.specs.Words.{ServeAsk}
 use Rattle.quaestor_prog.specs.declared.status.Status.{Status}
@@ -53,14 +53,14 @@ module _ {D S K C : Type 0} (source_at : S → End) (sink_at : K → End) (ended
       IsUnannounced address sink sink' doors doors' status
       ⊎ ((announced : End) × GaveBytes sink announced (listening_line address) × IsServed ask announced sink' doors doors' status)
 
-module _ {P D L S K C : Type 0} (source_at : S → End) (sink_at : K → End) (ended_at : K → LastEnd) (tick : C → ℕ → C → Type 0) (may : C → Type 0) (doors_at : D → DoorsView S K) (places_at : P → PlacesView D L) (gives : P → List ℕ → Limits → D → P → Type 0) (tells : P → List ℕ → Type 0) where
+module _ {P D L S K C : Type 0} (source_at : S → End) (sink_at : K → End) (ended_at : K → LastEnd) (tick : C → ℕ → C → Type 0) (may : C → Type 0) (doors_at : D → DoorsView S K) (places_at : P → PlacesView D L) (gives : P → List ℕ → Limits → WatchAsk → D → P → Type 0) (tells : P → List ℕ → Type 0) where
   -- The places gave doors at the address, and have them back as they are now. The sink was ended behind all that was given.
   pub record HasListened (ask : ServeAsk) (sink sink' : End) (ended : LastEnd) (places places' : P) (status : Status) : Type 0 where
     pub doors : D
     pub doors_left : D
     -- the places behind the call
     pub listening : P
-    pub given : gives places ask.address ask.limits doors listening
+    pub given : gives places ask.address ask.limits ask.watching doors listening
     -- the address as the places tell it
     pub address : List ℕ
     pub told : tells listening address

@@ -1,6 +1,7 @@
 -- Believed. Which words the program takes.
 use Rattle.std.specs.Prelude.{◌≡◌, ◌≢◌, ◌⊎◌, ℕ, ◌+◌, ◌<◌, ◌≤◌, ◌^◌, Bool, true, false, not, ◌&&◌, ◌||◌, ◌==◌, nat_eq, nat_le, nat_lt, bytes_eq, length, drop, List, [], Option, Some, None, Result, Ok, Err, MatchOption, codes, decimal}
 use Rattle.std.specs.List.{list_all, slice_split, starts_with}
+use Rattle.std.specs.Option.{option_map_or}
 use Rattle.clap.specs.Words.{Row, Text, IsAmong, first_of, kind_of, matches_of, fault_of}
 use Rattle.clap.specs.declared.error.kind.ErrorKind.{ErrorKind}
 use Rattle.clap.specs.declared.error.kind.ErrorKind.TheVariants as kind
@@ -16,16 +17,18 @@ use Rattle.query_normal.specs.declared.key.KeyShape.{KeyShape}
 use Rattle.q_outside.specs.declared.limits.Limits.{Limits}
 use Rattle.quaestor_prog.specs.Commands.{pipe_app, serve_app, read_app, world_app, program_app, NamesPipe, NamesServe, NamesRead, NamesWorld, NamesNone, AskHelp, FaultsAre}
 use Rattle.quaestor_prog.specs.Help.{IsHelpOf}
+use Rattle.quaestor_prog.specs.Places.{WatchAsk, watch_of}
 use Rattle.quaestor_prog.specs.declared.help.HelpText.{HelpText}
 use Rattle.quaestor_prog.specs.declared.help.HelpText.TheVariants.{Version}
-use Rattle.quaestor_prog.specs.declared.ranges.TheConstants.{MOST_PLACES, DEFAULT_PLACES, MOST_WORKERS, DEFAULT_WORKERS, MOST_MATCHERS, DEFAULT_MATCHERS, MOST_KEPT, MOST_CONNECTIONS, MOST_SECONDS, DEFAULT_IDLE, DEFAULT_HEAD_TIME, DEFAULT_REPLY_TIME, MOST_RATE, DEFAULT_RATE, DEFAULT_GRACE, MOST_SEED, MOST_STEPS}
+use Rattle.quaestor_prog.specs.declared.ranges.TheConstants.{MOST_PLACES, DEFAULT_PLACES, MOST_WORKERS, DEFAULT_WORKERS, MOST_MATCHERS, DEFAULT_MATCHERS, MOST_KEPT, MOST_CONNECTIONS, MOST_SECONDS, DEFAULT_IDLE, DEFAULT_HEAD_TIME, DEFAULT_REPLY_TIME, MOST_RATE, DEFAULT_RATE, DEFAULT_GRACE, MOST_LIFETIME, MOST_SEED, MOST_STEPS}
 use Rattle.quaestor_prog.specs.declared.refusal.BadValue.{BadValue}
-use Rattle.quaestor_prog.specs.declared.refusal.BadValue.TheVariants.{Number, Lifetimes, Argument, NoLevel, NoKey, NoOrigins}
+use Rattle.quaestor_prog.specs.declared.refusal.BadValue.TheVariants.{Number, Lifetimes, Argument, NoLevel, NoKey, NoOrigins, NoHosts, NoLog}
 use Rattle.quaestor_prog.specs.declared.refusal.Refusal.{Refusal}
 use Rattle.quaestor_prog.specs.declared.refusal.Refusal.TheVariants as why
 use Rattle.quaestor_prog.specs.declared.words.Invocation.{Invocation}
 use Rattle.quaestor_prog.specs.declared.words.ServeOptions.{ServeOptions}
 use Rattle.quaestor_prog.specs.declared.words.ReadOptions.{ReadOptions}
+use Rattle.quaestor_prog.specs.declared.words.Names.{Names}
 use Rattle.quaestor_prog.specs.declared.words.Invocation.TheVariants.{Pipe, Serve, Read, World, Help, Invalid}
 
 -- the number that an option shows in decimal digits without a sign and without leading zeros; the default where it is not given
@@ -36,7 +39,7 @@ IsNumber given default n = MatchOption given (n ≡ default) (λ text. text ≡ 
 abbrev pub IsClock : Option Text → Option ℕ → Type 0
 IsClock given at = MatchOption given (at ≡ None) (λ text. (n : ℕ) × (at ≡ Some n) × (n < 2 ^ 64) × (text ≡ decimal n))
 
--- The numbers of the configuration that options ask for, by what clap found for each: within the limits of the hub, with its defaults.
+-- The numbers that every configuration has, as options ask for them, by what clap found for each: within the limits of the hub, with its defaults.
 pub record IsConfiguration (found : List Row) (g : Setting) : Type 0 where
   pub bits : IsNumber (first_of (codes "bits") found) default_setting.log2_bits g.log2_bits
   pub hashes : IsNumber (first_of (codes "hashes") found) default_setting.hashes g.hashes
@@ -70,9 +73,32 @@ are_origins text = bytes_eq text (codes "*") || are_web_origins text
 abbrev pub AreOrigins : Option Text → Text → Type 0
 AreOrigins given origins = MatchOption given (origins ≡ []) (λ text. (origins ≡ text) × (are_origins text ≡ true))
 
+-- the name of a host, with or without a port: 1 to 255 bytes
+unfoldable pub is_host_name : Text → Bool
+is_host_name text = nat_lt 0 (length text) && (nat_le (length text) 255 && list_all is_host_byte text)
+
+-- each part between two spaces is the name of a host
+unfoldable pub are_hosts : Text → Bool
+are_hosts text = list_all is_host_name (slice_split (λ byte. byte == 32) text)
+
+-- the names of hosts that the option shows, or none where it is not given
+abbrev pub AreHosts : Option Text → Text → Type 0
+AreHosts given hosts = MatchOption given (hosts ≡ []) (λ text. (hosts ≡ text) × (are_hosts text ≡ true))
+
+-- the option shows a lifetime in seconds, or is not given, and there is none
+abbrev pub IsLifetime : Option Text → ℕ → Type 0
+IsLifetime given n = MatchOption given (n ≡ 0) (λ text. (text ≡ decimal n) × (1 ≤ n) × (n ≤ MOST_LIFETIME))
+
+-- The configuration that options ask for, by what clap found for each, but for the origins of web pages.
+pub record IsSetting (found : List Row) (g : Setting) : Type 0 where
+  pub numbers : IsConfiguration found g
+  pub absent : IsLifetime (first_of (codes "ttl-absent") found) g.ttl_absent
+  pub shared : IsLifetime (first_of (codes "ttl-shared") found) g.ttl_shared
+  pub hosts : AreHosts (first_of (codes "host") found) g.hosts
+
 -- the options of `pipe`: a configuration, which names no origins of pages, and the moment of a fixed clock
 abbrev pub AreOptions : List Row → Setting → Option ℕ → Type 0
-AreOptions found g at = IsConfiguration found g × (g.origins ≡ []) × IsClock (first_of (codes "clock") found) at
+AreOptions found g at = IsSetting found g × (g.origins ≡ []) × IsClock (first_of (codes "clock") found) at
 
 -- The words are `pipe` and options that clap takes, which ask for this configuration and this clock.
 pub record IsPipe (words : List Text) (g : Setting) (at : Option ℕ) : Type 0 where
@@ -94,6 +120,8 @@ pub record ServeAsk : Type 0 where
   pub connections : ℕ
   -- the limits of time
   pub limits : Limits
+  -- how it is watched
+  pub watching : WatchAsk
 
 -- the option shows a number of its range, or is not given and has its default
 abbrev pub IsNumberIn : List Row → Text → (least most default n : ℕ) → Type 0
@@ -115,10 +143,21 @@ pub record AreLimits (found : List Row) (l : Limits) : Type 0 where
   pub least_rate : IsNumberIn found (codes "least-rate") 1 MOST_RATE DEFAULT_RATE l.least_rate
   pub grace : IsNumberIn found (codes "grace") 0 MOST_SECONDS DEFAULT_GRACE l.grace
 
+-- whether an option without a value is given: clap has `false` for one that is not
+abbrev pub is_given : Option Text → Bool
+is_given found = option_map_or (λ text. bytes_eq text (codes "true")) found false
+
+-- How options ask for a server to be watched, by what clap found for each: the form of a log is not given without one.
+pub record AreWatching (found : List Row) (w : WatchAsk) : Type 0 where
+  pub metrics : w.metrics ≡ first_of (codes "metrics") found
+  pub log : w.log ≡ first_of (codes "log") found
+  pub json : w.json ≡ is_given (first_of (codes "log-json") found)
+  pub of_log : w.json ≡ true → w.log ≡ None → ⊥
+
 -- The options of `serve`, by what clap found for each.
 pub record AreServeOptions (found : List Row) (ask : ServeAsk) : Type 0 where
   pub address : first_of (codes "ADDR") found ≡ Some ask.address
-  pub setting : IsConfiguration found ask.setting
+  pub setting : IsSetting found ask.setting
   pub origins : AreOrigins (first_of (codes "allow-origin") found) ask.setting.origins
   pub places : IsNumberIn found (codes "places") 1 MOST_PLACES DEFAULT_PLACES ask.places
   pub workers : IsNumberIn found (codes "workers") 1 MOST_WORKERS DEFAULT_WORKERS ask.workers
@@ -126,6 +165,7 @@ pub record AreServeOptions (found : List Row) (ask : ServeAsk) : Type 0 where
   pub trim : IsTrim (first_of (codes "keep") found) ask.trim
   pub connections : IsCount (first_of (codes "connections") found) ask.connections
   pub limits : AreLimits found ask.limits
+  pub watching : AreWatching found ask.watching
 
 -- The words are `serve`, an address and options that clap takes, which ask for this.
 pub record IsServe (words : List Text) (ask : ServeAsk) : Type 0 where
@@ -204,13 +244,15 @@ IsRange option least most =
     ⊎ ((option ≡ codes "reply-time") × (least ≡ 1) × (most ≡ MOST_SECONDS))
     ⊎ ((option ≡ codes "least-rate") × (least ≡ 1) × (most ≡ MOST_RATE))
     ⊎ ((option ≡ codes "grace") × (least ≡ 0) × (most ≡ MOST_SECONDS))
+    ⊎ ((option ≡ codes "ttl-absent") × (least ≡ 1) × (most ≡ MOST_LIFETIME))
+    ⊎ ((option ≡ codes "ttl-shared") × (least ≡ 1) × (most ≡ MOST_LIFETIME))
 
 -- the least and the greatest number of a positional word
 abbrev pub IsArgumentRange : Text → ℕ → ℕ → Type 0
 IsArgumentRange word least most =
     ((word ≡ codes "SEED") × (least ≡ 0) × (most ≡ MOST_SEED)) ⊎ ((word ≡ codes "STEPS") × (least ≡ 1) × (most ≡ MOST_STEPS))
 
--- what is refused of the values: an option or a word shows no number of its range, the least lifetime is above the greatest, a word is that of no level or of no key, or a text is not that of origins
+-- what is refused of the values: an option or a word shows no number of its range, the least lifetime is above the greatest, a word is that of no level or of no key, a text is not that of origins or of hosts, or the form of a log is given without one
 abbrev pub IsBadValue : List Row → BadValue → Type 0
 IsBadValue found (Number option text least most) =
     IsRange option.now least most × (first_of option.now found ≡ Some text.now) × ((n : ℕ) → text.now ≡ decimal n → least ≤ n → n ≤ most → ⊥)
@@ -221,6 +263,8 @@ IsBadValue found (Argument word text least most) =
 IsBadValue found (NoLevel text) = (first_of (codes "LEVEL") found ≡ Some text.now) × ((l : Level) → text.now ≡ level_word l → ⊥)
 IsBadValue found (NoKey text place) = (first_of (codes "KEY") found ≡ Some text.now) × (read_key text.now ≡ Err (BadKey place))
 IsBadValue found (NoOrigins text) = (first_of (codes "allow-origin") found ≡ Some text.now) × (are_origins text.now ≡ false)
+IsBadValue found (NoHosts text) = (first_of (codes "host") found ≡ Some text.now) × (are_hosts text.now ≡ false)
+IsBadValue found NoLog = (is_given (first_of (codes "log-json") found) ≡ true) × (first_of (codes "log") found ≡ None)
 
 -- clap finds no fault with the words of a command that is named, and what it finds for them is such
 abbrev pub FoundAre : (List Row → Type 0) → List Text → Type 0
@@ -247,11 +291,16 @@ ask_of s = record {
   trim = s.trim;
   connections = s.connections;
   limits = s.limits;
+  watching = watch_of s.watching;
 }
 
--- the same, with these origins in its configuration
-abbrev pub asked_with : ServeOptions → Text → ServeAsk
-asked_with s origins = record (ask_of s) { setting = record s.config { origins = origins } }
+-- the configuration with these names
+abbrev pub setting_with : Setting → Names → Setting
+setting_with g names = record g { origins = names.origins.now; hosts = names.hosts.now }
+
+-- the same as what is asked for, with these names in its configuration
+abbrev pub asked_with : ServeOptions → Names → ServeAsk
+asked_with s names = record (ask_of s) { setting = setting_with s.config names }
 
 -- the same of `read`
 abbrev pub read_ask_of : ReadOptions → ReadAsk
@@ -261,6 +310,11 @@ read_ask_of r = record { address = r.address.now; level = r.level; key = r.key }
 abbrev pub IsServeOf : ServeAsk → Invocation → Type 0
 IsServeOf ask (Serve s) = ask_of s ≡ ask
 IsServeOf ask other = ⊥
+
+-- to serve one connection in this configuration by this clock
+abbrev pub IsPipeOf : Setting → Option ℕ → Invocation → Type 0
+IsPipeOf g at (Pipe p) = (p.config ≡ g) × (p.clock ≡ at)
+IsPipeOf g at other = ⊥
 
 -- what the words ask for
 abbrev pub Asks : List Text → Invocation → Type 0

@@ -1,7 +1,7 @@
 //! The commands as clap reads them.
 ghost use Rattle.std.specs.Prelude.{◌≡◌, codes, false, IfOk};
 ghost use Rattle.clap.specs.Words.{app_of, rule_of, with_rule};
-ghost use Rattle.quaestor_prog.specs.Commands.{option_rule, pipe_app, program_app, read_app, serve_app, versioned, with_limit_rules, with_setting_rules, word_rule, world_app};
+ghost use Rattle.quaestor_prog.specs.Commands.{flag_rule, option_rule, pipe_app, program_app, read_app, serve_app, versioned, with_limit_rules, with_number_rules, with_setting_rules, with_watch_rules, word_rule, world_app};
 
 use clap::{Arg, ArgAction, Command};
 use std::alloc::{AllocError, Global};
@@ -44,7 +44,8 @@ pub(crate) fn serve_command<'a>(alloc: Global) -> Result<Command<'a>, AllocError
     let connections = with_number(alloc, keep, "connections")?;
     let limits = with_limits(alloc, connections)?;
     let origins = with_option(alloc, limits, "allow-origin", "ORIGINS")?;
-    Ok(origins)
+    let watching = with_watching(alloc, origins)?;
+    Ok(watching)
 }
 
 /// The command `read`.
@@ -80,9 +81,30 @@ fn with_limits<'a>(alloc: Global, command: Command<'a>) -> Result<Command<'a>, A
     Ok(grace)
 }
 
+/// The command with the options of who watches the server.
+fn with_watching<'a>(alloc: Global, command: Command<'a>) -> Result<Command<'a>, AllocError>
+    ensures { IfOk result (λ c. app_of c ≡ with_watch_rules (app_of command.entry)) }
+{
+    let metrics = with_option(alloc, command, "metrics", "ADDRESS")?;
+    let log = with_option(alloc, metrics, "log", "FILE")?;
+    let json = with_flag(alloc, log, "log-json")?;
+    Ok(json)
+}
+
 /// The command with the options of a configuration.
 fn with_config<'a>(alloc: Global, command: Command<'a>) -> Result<Command<'a>, AllocError>
     ensures { IfOk result (λ c. app_of c ≡ with_setting_rules (app_of command.entry)) }
+{
+    let numbers = with_numbers(alloc, command)?;
+    let absent = with_number(alloc, numbers, "ttl-absent")?;
+    let shared = with_number(alloc, absent, "ttl-shared")?;
+    let hosts = with_option(alloc, shared, "host", "NAMES")?;
+    Ok(hosts)
+}
+
+/// The command with the options of the numbers that every configuration has.
+fn with_numbers<'a>(alloc: Global, command: Command<'a>) -> Result<Command<'a>, AllocError>
+    ensures { IfOk result (λ c. app_of c ≡ with_number_rules (app_of command.entry)) }
 {
     let bits = with_number(alloc, command, "bits")?;
     let hashes = with_number(alloc, bits, "hashes")?;
@@ -114,6 +136,17 @@ fn with_option<'a>(
     ensures { IfOk result (λ c. app_of c ≡ with_rule (app_of command.entry) (option_rule name.entry.now)) }
 {
     command.arg(option_argument(alloc, name, value))
+}
+
+/// The command with one more option, which has no value.
+fn with_flag<'a>(
+    alloc: Global,
+    command: Command<'a>,
+    name: &'a str,
+) -> Result<Command<'a>, AllocError>
+    ensures { IfOk result (λ c. app_of c ≡ with_rule (app_of command.entry) (flag_rule name.entry.now)) }
+{
+    command.arg(flag_argument(alloc, name))
 }
 
 /// The command with one more word, which it needs.
@@ -187,4 +220,12 @@ fn option_argument<'a>(alloc: Global, name: &'a str, value: &'a str) -> Arg<'a>
         .long(name)
         .action(ArgAction::Set)
         .value_name(value)
+}
+
+/// An option without a value.
+fn flag_argument<'a>(alloc: Global, name: &'a str) -> Arg<'a>
+    ensures rule { rule_of result ≡ flag_rule name.entry.now }
+    ensures local { result.global ≡ false }
+{
+    Arg::new(alloc, name).long(name).action(ArgAction::SetTrue)
 }

@@ -27,15 +27,21 @@ const PIPE_HELP: &[u8] = b"Serves standard input as one connection, over a store
 Usage: quaestor pipe [OPTIONS]
 
 Options:
-      --bits <N>      2^N bits in a page, 10 to 22 [default: 17]
-      --hashes <N>    N positions of a key, 1 to 16 [default: 6]
-      --ttl-low <N>   Least lifetime, 1 to 31536000 seconds [default: 1]
-      --ttl-high <N>  Greatest lifetime, 1 to 31536000 seconds [default: 3600]
-      --active <N>    At most N active keys, 0 to 1000000 [default: 10000]
-      --bytes <N>     Capacity, 65792 to 134217728 bytes [default: 134217728]
-      --clock <N>     The clock stays at N seconds since 1970 [default: the clock of the system]
-  -h, --help          Print help
-  -V, --version       Print version
+      --bits <N>        2^N bits in a page, 10 to 22 [default: 17]
+      --hashes <N>      N positions of a key, 1 to 16 [default: 6]
+      --ttl-low <N>     Least lifetime, 1 to 31536000 seconds [default: 1]
+      --ttl-high <N>    Greatest lifetime, 1 to 31536000 seconds [default: 3600]
+      --active <N>      At most N active keys, 0 to 1000000 [default: 10000]
+      --bytes <N>       Capacity, 65792 to 134217728 bytes [default: 134217728]
+      --ttl-absent <N>  Greatest lifetime of an absent record, 1 to 31536000 seconds
+                        [default: --ttl-high]
+      --ttl-shared <N>  Shared caches may keep a reply for N seconds, 1 to 31536000
+                        [default: as all others]
+      --host <NAMES>    Only requests to these hosts are served, with a space between two
+                        [default: all are]
+      --clock <N>       The clock stays at N seconds since 1970 [default: the clock of the system]
+  -h, --help            Print help
+  -V, --version         Print version
 ";
 
 /// The help of `serve`.
@@ -54,6 +60,12 @@ Options:
       --ttl-high <N>            Greatest lifetime, 1 to 31536000 seconds [default: 3600]
       --active <N>              At most N active keys, 0 to 1000000 [default: 10000]
       --bytes <N>               Capacity, 65792 to 134217728 bytes [default: 134217728]
+      --ttl-absent <N>          Greatest lifetime of an absent record, 1 to 31536000 seconds
+                                [default: --ttl-high]
+      --ttl-shared <N>          Shared caches may keep a reply for N seconds, 1 to 31536000
+                                [default: as all others]
+      --host <NAMES>            Only requests to these hosts are served, with a space between two
+                                [default: all are]
       --places <N>              At most N connections at the same time, 1 to 32768 [default: 4096]
       --workers <N>             At most N of them are served at the same time, 1 to 64
                                 [default: 16]
@@ -76,6 +88,11 @@ Options:
       --allow-origin <ORIGINS>  Web pages of these origins may read replies: * for all, or
                                 https://HOST and the like, with a space between two
                                 [default: none]
+      --metrics <ADDRESS>       Answers GET /v1/health and /v1/metrics, and nothing else, at this
+                                address [default: none]
+      --log <FILE>              Writes a line for each request to this file, or to standard error
+                                where it is - [default: none]
+      --log-json                Writes these lines as JSON
   -h, --help                    Print help
   -V, --version                 Print version
 ";

@@ -3,6 +3,7 @@
 
 mod commands;
 mod help;
+mod hosts;
 mod list_places;
 mod numbers;
 mod origins;
@@ -14,11 +15,12 @@ mod refusal;
 mod serving;
 mod status;
 mod trim;
+mod watching;
 mod words;
 
 pub use help::HelpText;
-pub use list_places::ListPlaces;
-pub use places::Places;
+pub use list_places::{ListPlaces, Watched};
+pub use places::{Places, Watching};
 pub use program::{refusal_of, run};
 pub use reading::{ReadEnd, read_once};
 pub use refusal::{BadValue, Refusal};

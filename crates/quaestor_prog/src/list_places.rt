@@ -1,12 +1,47 @@
 //! Places with doors and a link in memory.
-ghost use Rattle.std.specs.Prelude.{◌≡◌, ◌<◌, Some, None, IfSome, string_bytes};
-ghost use Rattle.quaestor_prog.specs.ListPlaces.{AreUnused, AreUnusedIn};
+ghost use Rattle.std.specs.Prelude.{◌≡◌, ◌<◌, Some, None, IfOk, IfSome, option_map, string_bytes};
+ghost use Rattle.quaestor_prog.specs.ListPlaces.{AreUnused, AreUnusedIn, watched_of};
+ghost use Rattle.quaestor_prog.specs.Places.{watch_of};
 
-use crate::places::Places;
+use crate::places::{Places, Watching};
 use crate::words::is_text;
 use client_session::{LastReplies, LinkAnswer, ListLink, SessionRefusal};
 use q_outside::{Failed, Faults, Limits, ListDoors, Sink, Source};
+use quaestor_serve::NoMonitor;
+use std::alloc::{AllocError, Global};
 use std::sync::ledger::{Blank, Ledger};
+
+/// Who watches a server, as places keep it.
+#[derive(Debug, Drop)]
+pub struct Watched {
+    /// The address at which its figures are asked for.
+    pub metrics: Option<String>,
+    /// The file that gets a line for each request.
+    pub log: Option<String>,
+    /// Whether these lines are JSON.
+    pub json: bool,
+}
+
+/// The same, kept by places.
+fn watched_by(alloc: Global, watching: Watching<'_>) -> Result<Watched, AllocError>
+    ensures { IfOk result (λ w. watched_of w ≡ watch_of watching.entry) }
+{
+    Ok(Watched {
+        metrics: kept_text(alloc, watching.metrics)?,
+        log: kept_text(alloc, watching.log)?,
+        json: watching.json,
+    })
+}
+
+/// A text where there is one, kept by places.
+fn kept_text(alloc: Global, text: Option<&str>) -> Result<Option<String>, AllocError>
+    ensures { IfOk result (λ t. option_map string_bytes t ≡ option_map (λ s. s.now) text.entry) }
+{
+    match text {
+        Some(text) => Ok(Some(String::from_str(alloc, text)?)),
+        None => Ok(None),
+    }
+}
 
 /// Places that have one address, give its doors and its link once, and otherwise fail. They show all that
 /// they give, hear and keep.
@@ -18,6 +53,8 @@ pub struct ListPlaces<S: Drop, K: Drop, L: Ledger, F: Ledger> {
     pub left: Option<ListDoors<S, K, L>>,
     /// The limits of time that were last asked for.
     pub limits: Option<Limits>,
+    /// Who was last to watch.
+    pub watched: Option<Watched>,
     /// The doors last handed back.
     pub kept: Option<ListDoors<S, K, L>>,
     /// What its link answers, the first answer last, until it is given.
@@ -54,6 +91,7 @@ impl<S: Drop, K: Drop, L: Ledger, F: Ledger> ListPlaces<S, K, L, F> {
             address,
             left: doors,
             limits: None,
+            watched: None,
             kept: None,
             answers,
             link: None,
@@ -72,20 +110,34 @@ where
 
     type Link = ListLink;
 
+    type Monitor = NoMonitor;
+
     ghost at = { λ p. record { faults = p.faults; kept = p.kept; link = p.link } };
 
-    ghost gives = { λ p address limits doors q. (string_bytes p.address ≡ address) × (p.left ≡ Some doors) × (q.limits ≡ Some limits) × (q.address ≡ p.address) };
+    ghost gives = { λ p address limits watching doors q. (string_bytes p.address ≡ address) × (p.left ≡ Some doors) × (q.limits ≡ Some limits) × (option_map watched_of q.watched ≡ Some watching) × (q.address ≡ p.address) };
 
     ghost tells = { λ p address. string_bytes p.address ≡ address };
 
     ghost links = { λ p address link q. (string_bytes p.address ≡ address) × (p.answers ≡ Some link.answers) × (q.address ≡ p.address) };
 
-    fn listen(&mut self, address: &str, limits: Limits) -> Result<ListDoors<S, K, L>, Failed> {
+    fn listen(
+        &mut self,
+        address: &str,
+        limits: Limits,
+        watching: Watching<'_>,
+    ) -> Result<ListDoors<S, K, L>, Failed> {
         if !is_text(&self.address, address) {
             self.faults.rise();
             return Err(Failed);
         }
         self.limits = Some(limits);
+        match watched_by(*self.address.allocator(), watching) {
+            Ok(watched) => self.watched = Some(watched),
+            Err(_) => {
+                self.faults.rise();
+                return Err(Failed);
+            }
+        }
         match self.left.take() {
             Some(doors) => Ok(doors),
             None => {
@@ -97,6 +149,10 @@ where
 
     fn address(&self) -> &str {
         self.address.as_str()
+    }
+
+    fn monitor(&self) -> NoMonitor {
+        NoMonitor
     }
 
     fn reach(&mut self, address: &str) -> Result<ListLink, Failed> {

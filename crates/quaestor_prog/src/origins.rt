@@ -58,7 +58,7 @@ fn is_of_scheme(scheme: &[u8], text: &[u8]) -> bool
 }
 
 /// Whether each byte may stand in a host and a port.
-fn are_host_bytes(text: &[u8]) -> bool
+pub(crate) fn are_host_bytes(text: &[u8]) -> bool
     ensures { result ≡ list_all is_host_byte text.now }
 {
     text.iter().all(|byte| is_host_byte(*byte))

@@ -3,10 +3,21 @@
 //! They have a count of faults that never falls, and fail only where it rose.
 ghost use Rattle.std.specs.Prelude.{◌≡◌, ℕ, List, Some, IfOk};
 ghost use Rattle.q_outside.specs.declared.limits.Limits.{Limits as LimitsOf};
-ghost use Rattle.quaestor_prog.specs.Places.{AreNew, HasGiven, IsUnasked, PlacesView};
+ghost use Rattle.quaestor_prog.specs.Places.{AreNew, HasGiven, IsUnasked, PlacesView, WatchAsk, watch_of};
 
 use client_session::{Link, SessionRefusal};
 use q_outside::{Doors, Failed, Limits};
+
+/// Who watches a server.
+#[derive(Clone, Copy, Debug, PartialEq, Eq)]
+pub struct Watching<'a> {
+    /// The address at which its figures are asked for.
+    pub metrics: Option<&'a str>,
+    /// The file that gets a line for each request; `-` is standard error.
+    pub log: Option<&'a str>,
+    /// Whether these lines are JSON.
+    pub json: bool,
+}
 
 /// Where connections are listened for, and servers are reached, by address.
 pub trait Places {
@@ -14,14 +25,16 @@ pub trait Places {
     type Doors: Doors;
     /// A link to the server of an address.
     type Link: Link;
+    /// What hears how the server goes, for who watches it.
+    type Monitor: quaestor_serve::Monitor + Clone + Send + Drop + 'static;
 
     /// What contracts see of the places: the number of their faults, and the doors and the link last
     /// handed back.
     ghost at: { Self → PlacesView Self.Doors Self.Link };
 
-    /// From the first state the places gave these doors at this address, within these limits of time, and
-    /// came to the second state, where they show so.
-    ghost gives: { Self → List ℕ → LimitsOf → Self.Doors → Self → Type 0 };
+    /// From the first state the places gave these doors at this address, within these limits of time and
+    /// for who watches so, and came to the second state, where they show so.
+    ghost gives: { Self → List ℕ → LimitsOf → WatchAsk → Self.Doors → Self → Type 0 };
 
     /// The places tell this as the address at which they gave doors last, where they show so.
     ghost tells: { Self → List ℕ → Type 0 };
@@ -30,15 +43,24 @@ pub trait Places {
     /// they show so.
     ghost links: { Self → List ℕ → Self.Link → Self → Type 0 };
 
-    /// Listens for connections at an address. They are served within these limits of time.
-    fn listen(&mut self, address: &str, limits: Limits) -> Result<Self::Doors, Failed>
-        ensures gives { IfOk result (λ d. gives self.old address.now limits d self.new) }
+    /// Listens for connections at an address. They are served within these limits of time, and watched so:
+    /// the log is opened, and the address of the metrics listened at, or they fail as a whole.
+    fn listen(
+        &mut self,
+        address: &str,
+        limits: Limits,
+        watching: Watching<'_>,
+    ) -> Result<Self::Doors, Failed>
+        ensures gives { IfOk result (λ d. gives self.old address.now limits (watch_of watching.entry) d self.new) }
         ensures unused { IfOk result (λ d. AreNew (Self.Doors.at d)) }
         ensures count { HasGiven (at self.old) (at self.new) result };
 
     /// The address at which they gave doors last, as it is told: with the port that the system chose.
     fn address(&self) -> &str
         ensures { tells self.now result.now };
+
+    /// What hears how the server of the doors goes that they gave last.
+    fn monitor(&self) -> Self::Monitor;
 
     /// Reaches the server at an address.
     fn reach(&mut self, address: &str) -> Result<Self::Link, Failed>

@@ -21,6 +21,7 @@ use q_outside::{Clock, Failed, FixedClock, Sink, Source, give_all};
 use quaestor_server::{Config, Owned, Room, serve_connection};
 use std::alloc::Global;
 use std::mem::ManuallyDrop;
+use std::rt;
 use std::sync::Wait;
 use std::thread::Threads;
 use world_core::{Watch, world_text};
@@ -49,7 +50,7 @@ pub fn run<S: Source, K: Sink, C, P: Places, R>(
 ) -> Status
 where
     C: Clock + Clone + Send + Drop + 'static,
-    R: Threads + Wait + Copy + Send + 'static,
+    R: Threads + Wait + rt::Clock + Copy + Send + 'static,
     ensures pipe { (g : Setting) (at : Option ℕ) → IsPipe (map string_bytes words.now) g at
         → IsRun g (record { source = S.at source.old; sink = K.at sink.old })
         (record { source = S.at source.new; sink = K.at sink.new }) (K.ended sink.new)

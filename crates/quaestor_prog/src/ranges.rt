@@ -46,6 +46,9 @@ pub(crate) const DEFAULT_RATE: u64 = 1_000;
 /// How many seconds a server that was told to end goes on answering, where none is given.
 pub(crate) const DEFAULT_GRACE: u64 = 10;
 
+/// How many seconds the lifetime of an absent record, and that in shared caches, may have: a year.
+pub(crate) const MOST_LIFETIME: u64 = 31_536_000;
+
 /// The greatest seed of a world, 2^64 - 1.
 pub(crate) const MOST_SEED: u64 = 18_446_744_073_709_551_615;
 

@@ -52,6 +52,12 @@ pub enum BadValue<'a> {
     NoOrigins {
         found: &'a str,
     },
+    /// It is not names of hosts with one space between two.
+    NoHosts {
+        found: &'a str,
+    },
+    /// The form of a log is given, and no log.
+    NoLog,
 }
 
 impl fmt::Display for BadValue<'_> {
@@ -89,6 +95,11 @@ impl fmt::Display for BadValue<'_> {
                 f,
                 "--allow-origin is *, or origins such as https://example.com with a space between two, without a path or a slash at the end, not '{found}'"
             ),
+            BadValue::NoHosts { found } => write!(
+                f,
+                "--host is names such as example.com or example.com:8080, of at most 255 bytes each, with a space between two, not '{found}'"
+            ),
+            BadValue::NoLog => write!(f, "--log-json is given without --log"),
         }
     }
 }

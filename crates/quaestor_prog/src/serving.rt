@@ -9,8 +9,9 @@ use crate::status::Status;
 use crate::words::ServeOptions;
 use itoa::Buffer;
 use q_outside::{Clock, Doors, Failed, OpenGate, Sink, give_all, give_both};
-use quaestor_serve::{Crew, serve};
+use quaestor_serve::{Crew, Monitor, serve};
 use std::alloc::Global;
+use std::rt;
 use std::sync::Wait;
 use std::thread::Threads;
 
@@ -27,13 +28,14 @@ where
     K: Sink,
     C: Clock + Clone + Send + Drop + 'static,
     P: Places,
-    R: Threads + Wait + Copy + Send + 'static,
+    R: Threads + Wait + rt::Clock + Copy + Send + 'static,
     requires places { 0 < options.places }
     requires workers { 0 < options.workers }
     ensures { HasServed P.Doors.From.at P.Doors.To.at P.Doors.To.ended C.tick (C.is_clone clock.now) P.Doors.at P.at P.gives P.tells (ask_of options.entry) (K.at sink.old) (K.at sink.new) (K.ended sink.new) places.old places.new result }
 {
-    match places.listen(options.address, options.limits) {
+    match places.listen(options.address, options.limits, options.watching) {
         Ok(mut doors) => {
+            let monitor = places.monitor();
             let status = serve_through(
                 rt,
                 alloc,
@@ -41,6 +43,7 @@ where
                 places.address(),
                 sink,
                 clock,
+                &monitor,
                 &mut doors,
             );
             sink.end();
@@ -55,44 +58,48 @@ where
 }
 
 /// Says at which address connections are listened for, and then serves those that come through the doors.
-fn serve_through<K, C, D, R>(
+fn serve_through<K, C, M, D, R>(
     rt: &R,
     alloc: Global,
     options: ServeOptions<'_>,
     address: &str,
     sink: &mut K,
     clock: &C,
+    monitor: &M,
     doors: &mut D,
 ) -> Status
 where
     K: Sink,
     C: Clock + Clone + Send + Drop + 'static,
+    M: Monitor + Clone + Send + Drop + 'static,
     D: Doors,
-    R: Threads + Wait + Copy + Send + 'static,
+    R: Threads + Wait + rt::Clock + Copy + Send + 'static,
     requires places { 0 < options.places }
     requires workers { 0 < options.workers }
     ensures { IsThrough D.From.at D.To.at D.To.ended C.tick (C.is_clone clock.now) D.at (ask_of options.entry) address.now (K.at sink.old) (K.at sink.new) doors.old doors.new result }
 {
     match give_line(sink, b"listening on ", address.as_bytes()) {
-        Ok(()) => serve_announced(rt, alloc, options, sink, clock, doors),
+        Ok(()) => serve_announced(rt, alloc, options, sink, clock, monitor, doors),
         Err(_) => Status::WriteFault,
     }
 }
 
 /// Serves the connections that come through the doors, and then says how many came.
-fn serve_announced<K, C, D, R>(
+fn serve_announced<K, C, M, D, R>(
     rt: &R,
     alloc: Global,
     options: ServeOptions<'_>,
     sink: &mut K,
     clock: &C,
+    monitor: &M,
     doors: &mut D,
 ) -> Status
 where
     K: Sink,
     C: Clock + Clone + Send + Drop + 'static,
+    M: Monitor + Clone + Send + Drop + 'static,
     D: Doors,
-    R: Threads + Wait + Copy + Send + 'static,
+    R: Threads + Wait + rt::Clock + Copy + Send + 'static,
     requires places { 0 < options.places }
     requires workers { 0 < options.workers }
     ensures { IsServed D.From.at D.To.at D.To.ended C.tick (C.is_clone clock.now) D.at (ask_of options.entry) (K.at sink.old) (K.at sink.new) doors.old doors.new result }
@@ -110,6 +117,7 @@ where
         doors,
         clock,
         &OpenGate,
+        monitor,
         crew,
         options.connections,
     );

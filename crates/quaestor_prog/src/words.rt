@@ -5,19 +5,23 @@ ghost use Rattle.client_core.specs.declared.level.Level.{Level as ALevel};
 ghost use Rattle.hub_model.specs.Setting.{Setting};
 ghost use Rattle.quaestor_prog.specs.Commands.{NamesNone, NamesPipe, NamesRead, NamesServe, NamesWorld};
 ghost use Rattle.q_outside.specs.declared.limits.Limits.{Limits as LimitsOf};
-ghost use Rattle.quaestor_prog.specs.Words.{AreLimits, AreOptions, AreServeOptions, AreWorldOptions, FoundRead, IsCount, Asks, IsArgument, IsArgumentRange, IsNumberIn, ServeAsk, ask_of, asked_with, IsAnswerOf, IsBadValue, IsClock, IsConfiguration, IsNumber, IsRange, IsServeOf, level_word};
+ghost use Rattle.quaestor_prog.specs.declared.ranges.TheConstants.{MOST_LIFETIME};
+ghost use Rattle.quaestor_prog.specs.Words.{AreLimits, AreOptions, AreServeOptions, AreWorldOptions, FoundRead, IsCount, Asks, IsArgument, IsArgumentRange, IsNumberIn, ServeAsk, ask_of, asked_with, IsAnswerOf, IsBadValue, IsClock, IsConfiguration, IsLifetime, IsNumber, IsPipeOf, IsRange, IsServeOf, IsSetting, level_word, setting_with};
 
 use crate::commands::{pipe_command, program_command, read_command, serve_command, world_command};
 use crate::help::HelpText;
+use crate::hosts::hosts_of;
 use crate::numbers::{number_within, read_number};
 use crate::origins::origins_of;
+use crate::places::Watching;
 use crate::ranges::{
     DEFAULT_GRACE, DEFAULT_HEAD_TIME, DEFAULT_IDLE, DEFAULT_MATCHERS, DEFAULT_PLACES, DEFAULT_RATE,
-    DEFAULT_REPLY_TIME, DEFAULT_WORKERS, MOST_CONNECTIONS, MOST_MATCHERS, MOST_PLACES, MOST_RATE,
-    MOST_SECONDS, MOST_SEED, MOST_STEPS, MOST_WORKERS,
+    DEFAULT_REPLY_TIME, DEFAULT_WORKERS, MOST_CONNECTIONS, MOST_LIFETIME, MOST_MATCHERS,
+    MOST_PLACES, MOST_RATE, MOST_SECONDS, MOST_SEED, MOST_STEPS, MOST_WORKERS,
 };
 use crate::refusal::{BadValue, Refusal};
 use crate::trim::trim_of;
+use crate::watching::watching_of;
 use clap::error::ErrorKind;
 use clap::{ArgMatches, Error};
 use client_core::Level;
@@ -57,6 +61,17 @@ pub struct ServeOptions<'a> {
     pub connections: u64,
     /// The limits of time.
     pub limits: Limits,
+    /// Who watches.
+    pub watching: Watching<'a>,
+}
+
+/// The names that go into a configuration, each text empty where none is given.
+#[derive(Clone, Copy, Debug, PartialEq, Eq)]
+pub(crate) struct Names<'a> {
+    /// The origins of web pages that may read replies, with a space between two.
+    pub(crate) origins: &'a str,
+    /// The names of hosts that are served, with a space between two.
+    pub(crate) hosts: &'a str,
 }
 
 /// The words of the command `read`.
@@ -116,11 +131,55 @@ fn read_pipe<'a>(alloc: Global, words: &'a [String]) -> Result<Invocation<'a>, M
 {
     match pipe_command(alloc)?.try_get_matches_from(words) {
         Ok(matches) => match pipe_options(&matches) {
-            Ok(options) => Ok(Invocation::Pipe(options)),
+            Ok((options, hosts)) => pipe_with(alloc, options, hosts),
             Err(value) => Ok(Invocation::Invalid(Refusal::Value(value))),
         },
         Err(error) => answer_of(error, HelpText::Pipe),
     }
+}
+
+/// To serve one connection by these options, with these hosts in their configuration.
+fn pipe_with<'a>(alloc: Global, options: PipeOptions, hosts: &str) -> Result<Invocation<'a>, Memory>
+    requires { options.config.hosts ≡ [] }
+    ensures { IfOk result (IsPipeOf (record options.config { hosts = hosts.now }) options.clock) }
+{
+    let clock = options.clock;
+    let config = with_hosts(alloc, options.config, hosts)?;
+    Ok(Invocation::Pipe(PipeOptions { config, clock }))
+}
+
+/// The configuration with these hosts, which names none.
+fn with_hosts(alloc: Global, config: Config, hosts: &str) -> Result<Config, Memory>
+    requires { config.hosts ≡ [] }
+    ensures { IfOk result (λ c. c ≡ record config { hosts = hosts.now }) }
+{
+    if hosts.is_empty() {
+        return Ok(config);
+    }
+    let text = SharedText::of(alloc, hosts.as_bytes().to_vec(alloc)?)?;
+    Ok(config.with_hosts(text))
+}
+
+/// The configuration with these origins of web pages, which names none.
+fn with_origins(alloc: Global, config: Config, origins: &str) -> Result<Config, Memory>
+    requires { config.origins ≡ [] }
+    ensures { IfOk result (λ c. c ≡ record config { origins = origins.now }) }
+{
+    if origins.is_empty() {
+        return Ok(config);
+    }
+    let text = SharedText::of(alloc, origins.as_bytes().to_vec(alloc)?)?;
+    Ok(config.with_origins(text))
+}
+
+/// The configuration with these names, which has none.
+fn with_names(alloc: Global, config: Config, names: Names<'_>) -> Result<Config, Memory>
+    requires origins { config.origins ≡ [] }
+    requires hosts { config.hosts ≡ [] }
+    ensures { IfOk result (λ c. c ≡ setting_with config names.entry) }
+{
+    let bound = with_hosts(alloc, config, names.hosts)?;
+    with_origins(alloc, bound, names.origins)
 }
 
 /// What the words of the command `serve` ask for.
@@ -130,28 +189,25 @@ fn read_serve<'a>(alloc: Global, words: &'a [String]) -> Result<Invocation<'a>, 
 {
     match serve_command(alloc)?.try_get_matches_from(words) {
         Ok(matches) => match serve_options(&matches) {
-            Ok((options, origins)) => serve_with(alloc, options, origins),
+            Ok((options, names)) => serve_with(alloc, options, names),
             Err(value) => Ok(Invocation::Invalid(Refusal::Value(value))),
         },
         Err(error) => answer_of(error, HelpText::Serve),
     }
 }
 
-/// To serve by these options, with these origins in their configuration.
+/// To serve by these options, with these names in their configuration.
 fn serve_with<'a>(
     alloc: Global,
     options: ServeOptions<'a>,
-    origins: &str,
+    names: Names<'_>,
 ) -> Result<Invocation<'a>, Memory>
-    requires { options.config.origins ≡ [] }
-    ensures { IfOk result (IsServeOf (asked_with options.entry origins.entry.now)) }
+    requires origins { options.config.origins ≡ [] }
+    requires hosts { options.config.hosts ≡ [] }
+    ensures { IfOk result (IsServeOf (asked_with options.entry names.entry)) }
 {
-    if origins.is_empty() {
-        return Ok(Invocation::Serve(options));
-    }
-    let text = SharedText::of(alloc, origins.as_bytes().to_vec(alloc)?)?;
     Ok(Invocation::Serve(ServeOptions {
-        config: options.config.with_origins(text),
+        config: with_names(alloc, options.config, names)?,
         ..options
     }))
 }
@@ -204,40 +260,49 @@ fn answer_of<'a>(error: Error, help: HelpText) -> Result<Invocation<'a>, Memory>
     }
 }
 
-/// The options of `pipe`, by what clap found.
-fn pipe_options<'a>(matches: &ArgMatches<'a>) -> Result<PipeOptions, BadValue<'a>>
-    ensures ok { IfOk result (λ p. AreOptions (rows_of (found_of matches.now)) p.config p.clock) }
+/// The options of `pipe` and its hosts, by what clap found.
+fn pipe_options<'a>(matches: &ArgMatches<'a>) -> Result<(PipeOptions, &'a str), BadValue<'a>>
+    ensures ok { IfOk result (λ p. AreOptions (rows_of (found_of matches.now)) (record p.0.config { hosts = p.1.now }) p.0.clock) }
+    ensures none { IfOk result (λ p. p.0.config.hosts ≡ []) }
     ensures err { IfErr result (λ _. (g : Setting) (at : Option ℕ) → AreOptions (rows_of (found_of matches.now)) g at → ⊥) }
     ensures value { IfErr result (IsBadValue (rows_of (found_of matches.now))) }
 {
-    let config = config_of(matches)?;
+    let setting = setting_of(matches)?;
     let clock = clock_of(matches)?;
-    Ok(PipeOptions { config, clock })
+    let options = PipeOptions {
+        config: setting.0,
+        clock,
+    };
+    Ok((options, setting.1))
 }
 
-/// The address and the options of `serve` and its origins, by what clap found.
-fn serve_options<'a>(matches: &ArgMatches<'a>) -> Result<(ServeOptions<'a>, &'a str), BadValue<'a>>
+/// The address and the options of `serve` and its names, by what clap found.
+fn serve_options<'a>(
+    matches: &ArgMatches<'a>,
+) -> Result<(ServeOptions<'a>, Names<'a>), BadValue<'a>>
     requires { is_some (first_of (codes "ADDR") (rows_of (found_of matches.now))) ≡ true }
-    ensures ok { IfOk result (λ s. AreServeOptions (rows_of (found_of matches.now)) (asked_with s.0 s.1.now)) }
-    ensures none { IfOk result (λ s. s.0.config.origins ≡ []) }
+    ensures ok { IfOk result (λ s. AreServeOptions (rows_of (found_of matches.now)) (asked_with s.0 s.1)) }
+    ensures origins { IfOk result (λ s. s.0.config.origins ≡ []) }
+    ensures hosts { IfOk result (λ s. s.0.config.hosts ≡ []) }
     ensures err { IfErr result (λ _. (ask : ServeAsk) → AreServeOptions (rows_of (found_of matches.now)) ask → ⊥) }
     ensures value { IfErr result (IsBadValue (rows_of (found_of matches.now))) }
 {
     options_at(matches, word_of(matches, "ADDR"))
 }
 
-/// The options of `serve` at this address, and its origins.
+/// The options of `serve` at this address, and its names.
 fn options_at<'a>(
     matches: &ArgMatches<'a>,
     address: &'a str,
-) -> Result<(ServeOptions<'a>, &'a str), BadValue<'a>>
+) -> Result<(ServeOptions<'a>, Names<'a>), BadValue<'a>>
     requires { first_of (codes "ADDR") (rows_of (found_of matches.now)) ≡ Some address.now }
-    ensures ok { IfOk result (λ s. AreServeOptions (rows_of (found_of matches.now)) (asked_with s.0 s.1.now)) }
-    ensures none { IfOk result (λ s. s.0.config.origins ≡ []) }
+    ensures ok { IfOk result (λ s. AreServeOptions (rows_of (found_of matches.now)) (asked_with s.0 s.1)) }
+    ensures origins { IfOk result (λ s. s.0.config.origins ≡ []) }
+    ensures hosts { IfOk result (λ s. s.0.config.hosts ≡ []) }
     ensures err { IfErr result (λ _. (ask : ServeAsk) → AreServeOptions (rows_of (found_of matches.now)) ask → ⊥) }
     ensures value { IfErr result (IsBadValue (rows_of (found_of matches.now))) }
 {
-    let config = config_of(matches)?;
+    let setting = setting_of(matches)?;
     let places = number_of(matches, "places", 1, MOST_PLACES, DEFAULT_PLACES)?;
     let workers = number_of(matches, "workers", 1, MOST_WORKERS, DEFAULT_WORKERS)?;
     let matchers = number_of(matches, "matchers", 1, MOST_MATCHERS, DEFAULT_MATCHERS)?;
@@ -245,17 +310,23 @@ fn options_at<'a>(
     let connections = connections_of(matches)?;
     let limits = limits_of(matches)?;
     let origins = origins_of(matches)?;
+    let watching = watching_of(matches)?;
     let options = ServeOptions {
         address,
-        config,
+        config: setting.0,
         places: places as u32,
         workers: workers as u32,
         matchers: matchers as u32,
         trim,
         connections,
         limits,
+        watching,
     };
-    Ok((options, origins))
+    let names = Names {
+        origins,
+        hosts: setting.1,
+    };
+    Ok((options, names))
 }
 
 /// What the words of `read` ask for, by what clap found.
@@ -382,10 +453,61 @@ fn connections_of<'a>(matches: &ArgMatches<'a>) -> Result<u64, BadValue<'a>>
     }
 }
 
-/// The configuration that the options ask for.
+/// The configuration that the options ask for, without its names, and the hosts that it is to name.
+fn setting_of<'a>(matches: &ArgMatches<'a>) -> Result<(Config, &'a str), BadValue<'a>>
+    ensures ok { IfOk result (λ s. IsSetting (rows_of (found_of matches.now)) (record s.0 { hosts = s.1.now })) }
+    ensures origins { IfOk result (λ s. s.0.origins ≡ []) }
+    ensures hosts { IfOk result (λ s. s.0.hosts ≡ []) }
+    ensures err { IfErr result (λ _. (g : Setting) → IsSetting (rows_of (found_of matches.now)) g → ⊥) }
+    ensures value { IfErr result (IsBadValue (rows_of (found_of matches.now))) }
+{
+    let config = config_of(matches)?;
+    let absent = lifetime_of(matches, "ttl-absent")?;
+    let shared = lifetime_of(matches, "ttl-shared")?;
+    let hosts = hosts_of(matches)?;
+    let lasting = with_lifetimes(config, absent, shared);
+    Ok((lasting, hosts))
+}
+
+/// The configuration with these lifetimes of absent records and in shared caches.
+fn with_lifetimes(config: Config, absent: u32, shared: u32) -> Config
+    requires absent { absent ≤ MOST_LIFETIME }
+    requires shared { shared ≤ MOST_LIFETIME }
+    ensures { result ≡ record config { ttl_absent = absent; ttl_shared = shared } }
+{
+    match config.with_ttls(absent, shared) {
+        Ok(lasting) => lasting,
+        Err(_) => unreachable!(),
+    }
+}
+
+/// The lifetime that an option shows, in seconds; 0 where none is given.
+fn lifetime_of<'a>(matches: &ArgMatches<'a>, option: &'static str) -> Result<u32, BadValue<'a>>
+    requires { IsRange option.now 1 MOST_LIFETIME }
+    ensures ok { IfOk result (IsLifetime (first_of option.now (rows_of (found_of matches.now)))) }
+    ensures most { IfOk result (λ n. n ≤ MOST_LIFETIME) }
+    ensures err { IfErr result (λ _. (n : ℕ) → IsLifetime (first_of option.now (rows_of (found_of matches.now))) n → ⊥) }
+    ensures value { IfErr result (IsBadValue (rows_of (found_of matches.now))) }
+{
+    match value_of(matches, option) {
+        Some(found) => match number_within(found, 1, MOST_LIFETIME) {
+            Some(number) => Ok(number as u32),
+            None => Err(BadValue::Number {
+                option,
+                found,
+                least: 1,
+                most: MOST_LIFETIME,
+            }),
+        },
+        None => Ok(0),
+    }
+}
+
+/// The numbers that every configuration has, as the options ask for them, and else its defaults.
 fn config_of<'a>(matches: &ArgMatches<'a>) -> Result<Config, BadValue<'a>>
     ensures ok { IfOk result (IsConfiguration (rows_of (found_of matches.now))) }
-    ensures none { IfOk result (λ g. g.origins ≡ []) }
+    ensures origins { IfOk result (λ g. g.origins ≡ []) }
+    ensures hosts { IfOk result (λ g. g.hosts ≡ []) }
     ensures err { IfErr result (λ _. (g : Setting) → IsConfiguration (rows_of (found_of matches.now)) g → ⊥) }
     ensures value { IfErr result (IsBadValue (rows_of (found_of matches.now))) }
 {

@@ -216,7 +216,7 @@ pub purges_send : IsSend Purges.the_row
 purges_send = search (key_send, crosses, sendable) depth 60 fits 20000
 
 pub lifetimes_send : IsSend Lifetimes.the_row
-lifetimes_send = search (estimator_send, changes_send, purges_send, crosses, sendable) depth 60 fits 20000
+lifetimes_send = search (estimator_send, changes_send, purges_send, expiries_send, crosses, sendable) depth 60 fits 20000
 
 pub hub_inside_send : IsSend HubInside.the_row
 hub_inside_send = declared_send HubInside.the_type (search (crosses, sendable), (book_send, (search (crosses, sendable), (copies_send, (queries_send, (lifetimes_send, tt))))))
@@ -283,8 +283,8 @@ pub done_send : (S K : RattleType) → IsSend S → IsSend K → IsSend (Done.th
 done_send S K source sink = declared_send (Done.the_type S K) (seat_send, (as_row_send (row_field S) source, (as_row_send (row_field K) sink, (TheServed.the_send, tt))))
 
 -- what a matcher's thread gets, and what a connection's thread gets; the name is that of a closure
-pub matcher_send : (name : Sym) (R C : RattleType) → IsSend R → IsSend C → IsSend (TupleAt name (R ∷ SharedRow TurnstileRow ∷ SeatRow ∷ C ∷ Trim.the_row ∷ SharedRow Stop.the_row ∷ []))
-matcher_send name R C handle clock = search (shared_turnstile_send, seat_send, TheTrim.the_send, shared_stop_send, crosses, sendable) depth 60 fits 20000
+pub matcher_send : (name : Sym) (R C M : RattleType) → IsSend R → IsSend C → IsSend M → IsSend (TupleAt name (R ∷ SharedRow TurnstileRow ∷ SeatRow ∷ C ∷ Trim.the_row ∷ SharedRow Stop.the_row ∷ M ∷ []))
+matcher_send name R C M handle clock monitor = search (shared_turnstile_send, seat_send, TheTrim.the_send, shared_stop_send, crosses, sendable) depth 60 fits 20000
 
 pub connection_send : (name : Sym) (R G S K C : RattleType) → IsSend R → IsSend G → IsSend S → IsSend K → IsSend C → IsSend (TupleAt name (R ∷ Global.the_row ∷ SharedRow TurnstileRow ∷ SharedRow Endings.the_row ∷ G ∷ UInt w32 ∷ SeatRow ∷ S ∷ K ∷ C ∷ SharedRow Pool.the_row ∷ []))
 connection_send name R G S K C handle gate source sink clock = search (shared_turnstile_send, shared_endings_send, shared_pool_send, seat_send, crosses, sendable) depth 60 fits 20000

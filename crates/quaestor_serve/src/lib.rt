@@ -8,6 +8,7 @@ mod hall;
 mod matcher;
 mod matchers;
 mod matching;
+mod monitor;
 mod pool;
 mod rounds;
 mod running;
@@ -18,8 +19,9 @@ mod threads;
 mod visits;
 
 pub use crew::Crew;
-pub use hub_desk::Trim;
+pub use hub_desk::{Figures, Trim};
 pub use matching::work_until_stopped;
+pub use monitor::{Monitor, NoMonitor};
 pub use serve_end::{ServeEnd, ServeWhy};
 pub use serving::serve;
 pub use stop::Stop;

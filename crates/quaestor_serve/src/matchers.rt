@@ -12,7 +12,8 @@ ghost use Rattle.quaestor_serve.specs.Matchers.{HasMatched, HasRested, WorksAt, 
 use crate::crew::Crew;
 use crate::hall::Hall;
 use crate::matcher::{Matcher, Place, Rested};
-use crate::matching::{LastDrop, match_and_drop, work_until_stopped};
+use crate::matching::{LastDrop, match_and_tell, work_until_stopped};
+use crate::monitor::Monitor;
 use crate::stop::Stop;
 use hub_desk::{HubValue, Seat, Seated, Trim, Turnstile};
 use q_base::Memory;
@@ -21,23 +22,24 @@ use std::alloc::Global;
 use std::collections::VecDeque;
 use std::snapshot::Snapshot;
 use std::sync::{Arc, Wait};
-use std::thread;
 use std::thread::Threads;
+use std::{rt, thread};
 
 /// Matches and drops in a thread until the flag is set.
-fn match_there<R: Wait + Copy, C: Clock>(
+fn match_there<R: Wait + rt::Clock + Copy, C: Clock, M: Monitor + Drop>(
     rt: R,
     turnstile: Arc<Turnstile<HubValue>, Global>,
     seat: Seat<HubValue>,
     mut clock: C,
     trim: Trim,
     stop: Arc<Stop, Global>,
+    monitor: M,
 ) -> Rested<C>
     requires { IsFreshAt (arc_value turnstile) seat }
     ensures { HasRested C.tick trim (arc_value turnstile) clock result }
 {
     let mut desk = Seated::new(&rt, &turnstile, seat);
-    work_until_stopped(&rt, &mut desk, &mut clock, trim, &stop);
+    work_until_stopped(&rt, &mut desk, &mut clock, trim, &stop, &monitor);
     Rested {
         seat: desk.into_seat(),
         clock,
@@ -46,7 +48,7 @@ fn match_there<R: Wait + Copy, C: Clock>(
 
 /// Begins to match in a thread. Where no thread can be made the matcher rests with the caller.
 #[tactic(auto, using(crate::proofs::RestLemmas::works_here))]
-fn begin_matcher<C, R>(
+fn begin_matcher<C, R, M>(
     rt: &R,
     turnstile: Arc<Turnstile<HubValue>, Global>,
     seat: Seat<HubValue>,
@@ -54,10 +56,12 @@ fn begin_matcher<C, R>(
     trim: Trim,
     stop: Arc<Stop, Global>,
     flag: Arc<Stop, Global>,
+    monitor: M,
 ) -> Matcher<C>
 where
     C: Clock + Send + Drop + 'static,
-    R: Threads + Wait + Copy + Send + 'static,
+    R: Threads + Wait + rt::Clock + Copy + Send + 'static,
+    M: Monitor + Send + Drop + 'static,
     requires { IsFreshAt (arc_value turnstile) seat }
     ensures { WorksAt C.tick trim (λ c. c ≡ clock) (arc_value turnstile) result }
 {
@@ -68,7 +72,7 @@ where
         trim: Snapshot::of(&trim),
     };
     let spawned = thread::spawn_with(rt, place, move || {
-        match_there(handle, turnstile, seat, clock, trim, stop)
+        match_there(handle, turnstile, seat, clock, trim, stop, monitor)
     });
     match spawned {
         Ok(handle) => Matcher::Thread { handle, stop: flag },
@@ -81,19 +85,21 @@ where
 }
 
 /// Starts the matchers of a crew. Where memory runs out, those that were started go on.
-pub(crate) fn start_matchers<S, K, C, R>(
+pub(crate) fn start_matchers<S, K, C, R, M>(
     rt: &R,
     alloc: Global,
     hall: &mut Hall<S, K, C>,
     matchers: &mut VecDeque<Matcher<C>>,
     clock: &C,
     crew: Crew,
+    monitor: &M,
 ) -> Result<(), Memory>
 where
     S: Source + Drop,
     K: Sink + Drop,
     C: Clock + Clone + Send + Drop + 'static,
-    R: Threads + Wait + Copy + Send + 'static,
+    R: Threads + Wait + rt::Clock + Copy + Send + 'static,
+    M: Monitor + Clone + Send + Drop + 'static,
     requires ready { IsReady hall.old }
     requires none { matchers.old.items ≡ [] }
     requires capacity { crew.matchers ≤ deque_capacity matchers.old }
@@ -104,29 +110,31 @@ where
 {
     for _n in 0..crew.matchers {
         let clock = clock.clone()?;
+        let monitor = monitor.clone()?;
         let turnstile = Arc::try_clone(&hall.turnstile)?;
         let stop = Arc::new(alloc, Stop::new())?;
         let flag = Arc::try_clone(&stop)?;
         let seat = hall.turnstile.split(&mut hall.seat);
-        let matcher = begin_matcher(rt, turnstile, seat, clock, crew.trim, stop, flag);
+        let matcher = begin_matcher(rt, turnstile, seat, clock, crew.trim, stop, flag, monitor);
         matchers.push_back_reserved(matcher);
     }
     Ok(())
 }
 
 /// Matches and drops once, and rests again.
-fn match_here<C: Clock, R: Wait>(
+fn match_here<C: Clock, R: Wait + rt::Clock, M: Monitor>(
     rt: &R,
     turnstile: &Turnstile<HubValue>,
     trim: Trim,
     rested: Rested<C>,
+    monitor: &M,
 ) -> Rested<C>
     requires { IsSeatOf hub_setting turnstile.now rested.seat × IsIdle rested.seat }
     ensures { (begun : C) → HasRested C.tick trim turnstile.now begun rested → HasRested C.tick trim turnstile.now begun result }
 {
     let Rested { seat, mut clock } = rested;
     let mut desk = Seated::new(rt, turnstile, seat);
-    match_and_drop(&mut desk, &mut clock, trim, LastDrop::none());
+    match_and_tell(&mut desk, &mut clock, trim, LastDrop::none(), monitor);
     Rested {
         seat: desk.into_seat(),
         clock,
@@ -136,29 +144,31 @@ fn match_here<C: Clock, R: Wait>(
 /// Matches and drops once, where the matcher has no thread. Of the clock that was given, of which each
 /// matcher has a clone, only the contract speaks.
 #[tactic(auto, using(crate::proofs::RestLemmas::works_on))]
-fn step<C: Clock + Clone + Drop, R: Wait>(
+fn step<C: Clock + Clone + Drop, R: Wait + rt::Clock, M: Monitor>(
     rt: &R,
     turnstile: &Turnstile<HubValue>,
     trim: Trim,
     matcher: Matcher<C>,
     _given: &C,
+    monitor: &M,
 ) -> Matcher<C>
     requires { WorksAt C.tick trim (C.is_clone _given.now) turnstile.now matcher }
     ensures { WorksAt C.tick trim (C.is_clone _given.now) turnstile.now result }
 {
     match matcher {
         Matcher::Thread { handle, stop } => Matcher::Thread { handle, stop },
-        Matcher::Here(rested) => Matcher::Here(match_here(rt, turnstile, trim, rested)),
+        Matcher::Here(rested) => Matcher::Here(match_here(rt, turnstile, trim, rested, monitor)),
     }
 }
 
 /// Lets each matcher that has no thread match and drop once.
-pub(crate) fn step_all<C: Clock + Clone + Drop, R: Wait>(
+pub(crate) fn step_all<C: Clock + Clone + Drop, R: Wait + rt::Clock, M: Monitor>(
     rt: &R,
     turnstile: &Turnstile<HubValue>,
     trim: Trim,
     matchers: &mut VecDeque<Matcher<C>>,
     given: &C,
+    monitor: &M,
 )
     requires { AllOf (λ m. WorksAt C.tick trim (C.is_clone given.now) turnstile.now m) matchers.old.items }
     ensures work { AllOf (λ m. WorksAt C.tick trim (C.is_clone given.now) turnstile.now m) matchers.new.items }
@@ -168,7 +178,7 @@ pub(crate) fn step_all<C: Clock + Clone + Drop, R: Wait>(
         let Some(matcher) = matchers.pop_front() else {
             return;
         };
-        let matcher = step(rt, turnstile, trim, matcher, given);
+        let matcher = step(rt, turnstile, trim, matcher, given, monitor);
         matchers.push_back_reserved(matcher);
     }
 }

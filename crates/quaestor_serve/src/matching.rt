@@ -11,6 +11,7 @@ ghost use Rattle.std.specs.Prelude.{◌≡◌};
 ghost use Rattle.hub_desk.specs.declared.trim.Trim.{Trim as ATrim};
 ghost use Rattle.quaestor_serve.specs.Matches.{Matches};
 
+use crate::monitor::Monitor;
 use crate::stop::Stop;
 use hub_desk::{Desk, Trim};
 use q_base::Commit;
@@ -20,6 +21,8 @@ use std::sync::Wait;
 /// What one who matches knows of its last drop.
 #[derive(Clone, Copy, Debug, PartialEq, Eq)]
 pub(crate) struct LastDrop {
+    /// The front of the match before it, or of a later one, as far as it is known.
+    front: Option<Commit>,
     /// The horizon behind it.
     horizon: Commit,
     /// The front at which it moved nothing, if it did not.
@@ -30,6 +33,7 @@ impl LastDrop {
     /// Where none was made yet.
     pub(crate) fn none() -> LastDrop {
         LastDrop {
+            front: None,
             horizon: 0,
             settled: None,
         }
@@ -48,14 +52,16 @@ impl LastDrop {
     fn then(self, front: Option<Commit>, horizon: Option<Commit>) -> LastDrop {
         match horizon {
             Some(horizon) if horizon == self.horizon => LastDrop {
+                front,
                 horizon,
                 settled: front,
             },
             Some(horizon) => LastDrop {
+                front,
                 horizon,
                 settled: None,
             },
-            None => self,
+            None => LastDrop { front, ..self },
         }
     }
 }
@@ -73,10 +79,40 @@ pub(crate) fn match_and_drop<D: Desk, C: Clock>(
 {
     let front = match_once(desk, clock);
     if last.is_settled_at(front) {
-        return last;
+        return LastDrop { front, ..last };
     }
     let horizon = drop_once(desk, clock, trim);
     last.then(front, horizon)
+}
+
+/// Tells a monitor the front of the last match, as far as it is known.
+fn tell_front<M: Monitor>(monitor: &M, last: LastDrop) {
+    if let Some(front) = last.front {
+        monitor.hear_front(front);
+    }
+}
+
+/// The same, and then the monitor hears the front, and the figures, where it asks for them. They are taken
+/// without an entry.
+pub(crate) fn match_and_tell<D: Desk, C: Clock, M: Monitor>(
+    desk: &mut D,
+    clock: &mut C,
+    trim: Trim,
+    last: LastDrop,
+    monitor: &M,
+) -> LastDrop
+    ensures matches { Matches C.tick (D.setting desk.old) trim (D.seen desk.old) (D.seen desk.new) (D.mine desk.old) (D.mine desk.new) clock.old clock.new }
+    ensures anchor { D.anchor desk.new ≡ D.anchor desk.old }
+    ensures setting { D.setting desk.new ≡ D.setting desk.old }
+{
+    let last = match_and_drop(desk, clock, trim, last);
+    tell_front(monitor, last);
+    if monitor.is_asking() {
+        let figures = desk.figures();
+        monitor.hear(&figures);
+        return last;
+    }
+    last
 }
 
 /// Matches all commits once, and tells the front. Where memory runs out, the next call tries again.
@@ -130,13 +166,15 @@ fn drop_ready<D: Desk, C: Clock>(desk: &mut D, clock: &mut C, trim: Trim) -> Com
 }
 
 /// Matches all commits in turn and drops old changes as far as the trim says, with a rest behind each step,
-/// until the flag is read as set.
-pub fn work_until_stopped<D: Desk, C: Clock, R: Wait>(
+/// until the flag is read as set. Behind a step the monitor hears the front, and the figures, where it asks
+/// for them.
+pub fn work_until_stopped<D: Desk, C: Clock, R: Wait, M: Monitor>(
     rt: &R,
     desk: &mut D,
     clock: &mut C,
     trim: Trim,
     stop: &Stop,
+    monitor: &M,
 )
     ensures matches { Matches C.tick (D.setting desk.old) trim (D.seen desk.old) (D.seen desk.new) (D.mine desk.old) (D.mine desk.new) clock.old clock.new }
     ensures anchor { D.anchor desk.new ≡ D.anchor desk.old }
@@ -147,7 +185,7 @@ pub fn work_until_stopped<D: Desk, C: Clock, R: Wait>(
         if stop.is_set() {
             return;
         }
-        last = match_and_drop(desk, clock, trim, last);
+        last = match_and_tell(desk, clock, trim, last, monitor);
         stop.rest(rt);
     }
     unreachable!()

@@ -117,7 +117,7 @@ impl Pool {
 
     /// Takes a room. While none is there, one is waited for.
     pub fn take<R: Wait>(&self, rt: &R) -> Room
-        ensures { IsFor self.now.config result.pages result.config.origins }
+        ensures { IsFor self.now.config result.pages result.config }
     {
         let number = self.drawn.fetch_add(1, Ordering::SeqCst);
         for _ in rt.forever() {

@@ -18,6 +18,7 @@ use crate::visits::{Leaving, note_position, release};
 use hub_desk::{HubValue, Turnstile};
 use q_outside::{Clock, Doors, Gate, Next};
 use std::alloc::Global;
+use std::rt;
 use std::snapshot::Snapshot;
 use std::sync::{Arc, Wait};
 use std::thread::{PromisedHandle, Threads};
@@ -192,7 +193,7 @@ where
     P: Doors,
     C: Clock + Clone + Send + Drop + 'static,
     G: Gate + Send + Drop + 'static,
-    R: Threads + Wait + Copy + Send + 'static,
+    R: Threads + Wait + rt::Clock + Copy + Send + 'static,
     requires vacant { 0 < vec_len hall.old.vacant }
     requires pool { (arc_value pool).config ≡ setting_in hall.old }
     requires ready { IsReady hall.old }
@@ -243,7 +244,7 @@ where
     P: Doors,
     C: Clock + Clone + Send + Drop + 'static,
     G: Gate + Clone + Send + Drop + 'static,
-    R: Threads + Wait + Copy + Send + 'static,
+    R: Threads + Wait + rt::Clock + Copy + Send + 'static,
     requires ready { IsReady hall.old }
     requires room { HaveRoom (P.at doors.old) hall.old 0 }
     ensures stays { Stays hall.old hall.new }

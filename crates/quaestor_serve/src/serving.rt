@@ -13,6 +13,7 @@ use crate::endings::Endings;
 use crate::hall::Hall;
 use crate::matcher::Matcher;
 use crate::matchers::{start_matchers, step_all, stop_matchers};
+use crate::monitor::Monitor;
 use crate::pool::Pool;
 use crate::rounds::{Round, drain, ring};
 use crate::serve_end::{ServeEnd, ServeWhy};
@@ -22,6 +23,7 @@ use q_base::Memory;
 use q_outside::{Clock, Doors, Gate, Sink, Source};
 use std::alloc::Global;
 use std::collections::VecDeque;
+use std::rt;
 use std::sync::{Arc, Wait};
 use std::thread::Threads;
 
@@ -88,13 +90,14 @@ fn no_memory() -> ServeEnd
 }
 
 /// Serves connections as they come, until as many came as are to come, or no further one does.
-fn ring_all<P, C, G, R>(
+fn ring_all<P, C, G, R, M>(
     rt: &R,
     alloc: Global,
     doors: &mut P,
     hall: &mut Hall<P::From, P::To, C>,
     clock: &C,
     gate: &G,
+    monitor: &M,
     matchers: &mut VecDeque<Matcher<C>>,
     trim: Trim,
     connections: u64,
@@ -103,7 +106,8 @@ where
     P: Doors,
     C: Clock + Clone + Send + Drop + 'static,
     G: Gate + Clone + Send + Drop + 'static,
-    R: Threads + Wait + Copy + Send + 'static,
+    R: Threads + Wait + rt::Clock + Copy + Send + 'static,
+    M: Monitor + Clone + Send + Drop + 'static,
     requires ready { IsReady hall.old }
     requires room { HaveRoom (P.at doors.old) hall.old 0 }
     requires work { WorkIn C.tick trim (C.is_clone clock.now) hall.old matchers.old.items }
@@ -118,7 +122,7 @@ where
     for given in 0..connections {
         let why = match ring(rt, alloc, doors, hall, clock, gate, given) {
             Round::Came => {
-                step_all(rt, &hall.turnstile, trim, matchers, clock);
+                step_all(rt, &hall.turnstile, trim, matchers, clock, monitor);
                 continue;
             }
             Round::NoMemory => ServeWhy::Memory,
@@ -137,13 +141,14 @@ where
 }
 
 /// Starts the matchers, and then serves connections as they come.
-fn serve_all<P, C, G, R>(
+fn serve_all<P, C, G, R, M>(
     rt: &R,
     alloc: Global,
     doors: &mut P,
     hall: &mut Hall<P::From, P::To, C>,
     clock: &C,
     gate: &G,
+    monitor: &M,
     matchers: &mut VecDeque<Matcher<C>>,
     crew: Crew,
     connections: u64,
@@ -152,7 +157,8 @@ where
     P: Doors,
     C: Clock + Clone + Send + Drop + 'static,
     G: Gate + Clone + Send + Drop + 'static,
-    R: Threads + Wait + Copy + Send + 'static,
+    R: Threads + Wait + rt::Clock + Copy + Send + 'static,
+    M: Monitor + Clone + Send + Drop + 'static,
     requires ready { IsReady hall.old }
     requires empty { (hall.old.running.items ≡ []) × (met_in hall.old ≡ []) }
     requires none { matchers.old.items ≡ [] }
@@ -165,7 +171,7 @@ where
     ensures work { WorkIn C.tick crew.trim (C.is_clone clock.now) hall.new matchers.new.items }
     ensures ends { Ends P.From.at P.To.at P.To.ended C.tick (C.is_clone clock.now) (P.at doors.old) (P.at doors.new) hall.new connections result }
 {
-    if start_matchers(rt, alloc, hall, matchers, clock, crew).is_err() {
+    if start_matchers(rt, alloc, hall, matchers, clock, crew, monitor).is_err() {
         return no_memory();
     }
     ring_all(
@@ -175,6 +181,7 @@ where
         hall,
         clock,
         gate,
+        monitor,
         matchers,
         crew.trim,
         connections,
@@ -187,14 +194,16 @@ where
 /// for a request. Each is handed back once, in the order in which they end. All memory for a
 /// connection is taken before the doors are asked for it. Where no thread can be made for one, it waits
 /// until one can. Where none is to come, no memory is taken. The matchers of the crew match all commits and
-/// drop old changes, as far as its trim says.
-pub fn serve<P, C, G, R>(
+/// drop old changes, as far as its trim says. Behind their steps the monitor hears the figures of the store,
+/// where it asks for them, and once that no further connection is taken.
+pub fn serve<P, C, G, R, M>(
     rt: &R,
     alloc: Global,
     config: Config,
     doors: &mut P,
     clock: &C,
     gate: &G,
+    monitor: &M,
     crew: Crew,
     connections: u64,
 ) -> ServeEnd
@@ -202,21 +211,25 @@ where
     P: Doors,
     C: Clock + Clone + Send + Drop + 'static,
     G: Gate + Clone + Send + Drop + 'static,
-    R: Threads + Wait + Copy + Send + 'static,
+    R: Threads + Wait + rt::Clock + Copy + Send + 'static,
+    M: Monitor + Clone + Send + Drop + 'static,
     requires places { 0 < crew.places }
     requires workers { 0 < crew.workers }
     ensures { Serves P.From.at P.To.at P.To.ended C.tick (C.is_clone clock.now) config crew.trim (P.at doors.old) (P.at doors.new) connections result }
 {
     if connections == 0 {
+        monitor.end();
         return ServeEnd {
             connections,
             why: ServeWhy::Limit,
         };
     }
     let Ok(mut matchers) = VecDeque::with_capacity(alloc, crew.matchers as usize) else {
+        monitor.end();
         return no_memory();
     };
     let Ok(mut hall) = hall_of(alloc, config, crew) else {
+        monitor.end();
         return no_memory();
     };
     let end = serve_all(
@@ -226,10 +239,12 @@ where
         &mut hall,
         clock,
         gate,
+        monitor,
         &mut matchers,
         crew,
         connections,
     );
+    monitor.end();
     drain(rt, doors, &mut hall);
     stop_matchers(rt, &mut hall, crew.trim, matchers, clock);
     end

@@ -15,14 +15,14 @@ use quaestor_server::serve_visits;
 use std::alloc::Global;
 use std::snapshot::Snapshot;
 use std::sync::{Arc, Wait};
-use std::thread;
 use std::thread::{PromisedHandle, Threads};
+use std::{rt, thread};
 
 /// The stack of a thread that serves a connection, in bytes.
 const STACK: usize = 512 * 1024;
 
 /// Serves a connection at a seat, and ends its sink.
-fn serve_at<R: Wait, S: Source, K: Sink, C: Clock + Drop>(
+fn serve_at<R: Wait + rt::Clock, S: Source, K: Sink, C: Clock + Drop>(
     rt: &R,
     alloc: Global,
     turnstile: &Turnstile<HubValue>,
@@ -56,7 +56,13 @@ fn serve_at<R: Wait, S: Source, K: Sink, C: Clock + Drop>(
 
 /// The same in a thread, with all that it needs, behind the gate. As its last act it tells that the
 /// connection has ended.
-pub(crate) fn serve_there<R: Wait + Copy, S: Source, K: Sink, C: Clock + Drop, G: Gate + Drop>(
+pub(crate) fn serve_there<
+    R: Wait + rt::Clock + Copy,
+    S: Source,
+    K: Sink,
+    C: Clock + Drop,
+    G: Gate + Drop,
+>(
     rt: R,
     alloc: Global,
     turnstile: Arc<Turnstile<HubValue>, Global>,

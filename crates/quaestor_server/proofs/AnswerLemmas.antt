@@ -1,8 +1,7 @@
 -- A desk is made ready, and then answers.
 use Rattle.std.proofs.Common.{◌≡◌, ℕ, Bool, true, false, List, ◌++◌, length, nat_lt, Result, Ok, Err, IfOk, IsOk, refl, sym, ap, ◌∙◌, subst, inl, inr}
 use Rattle.std.proofs.lemmas.Bool.{cases_Bool}
-use Rattle.http_front.specs.Asks.{ask_of}
-use Rattle.http_front.specs.Early.{is_early}
+use Rattle.http_front.specs.Hosts.{ask_to, is_early_to}
 use Rattle.http_front.specs.Routes.{all_routes}
 use Rattle.http_front.specs.declared.ask.Ask.{Ask}
 use Rattle.http_front.specs.declared.ask.Ask.TheVariants as asks
@@ -63,9 +62,11 @@ pub not_early : (early : Bool) (read : Result (Result Ask Refused) NoMemory) (la
 not_early true read lacking is is_read = let none : IsOk {T = Result Ask Refused} {E = NoMemory} (Err lacking) = subst (λ (r : Result (Result Ask Refused) NoMemory). IsOk r) is (is_read refl) in absurd (cc)
 not_early false read lacking is is_read = refl
 
--- what is known early is read, by all routes
-pub early_all : (routes : Served) (m : Message) (read : Result (Result Ask Refused) NoMemory) → routes ≡ all_routes → (is_early routes m ≡ true → IsOk read) → is_early all_routes m ≡ true → IsOk read
-early_all routes m read same is_read = subst (λ (r : Served). is_early r m ≡ true → IsOk read) same is_read
+-- what is known early is read, by all routes and the hosts that are known
+pub early_all : (routes : Served) (hosts known : List ℕ) (m : Message) (read : Result (Result Ask Refused) NoMemory) → routes ≡ all_routes → hosts ≡ known → (is_early_to hosts routes m ≡ true → IsOk read) → is_early_to known all_routes m ≡ true → IsOk read
+early_all routes hosts known m read same alike is_read =
+    subst (λ (r : Served). is_early_to known r m ≡ true → IsOk read) same
+    (subst (λ (h : List ℕ). is_early_to h routes m ≡ true → IsOk read) alike is_read)
 
 -- an answer leaves a legal history, and the page buffer as it was made
 pub can_still : (g g' : Setting) (unready : Bool) (old new : List Entry) (mine mine_new : List (ℕ × Entry)) (moment : ℕ) (early : Bool) (asked : Result Ask Refused) (told : Told) (page : List ℕ) (room : PageRoomView) → g' ≡ g → IsLegal g old → IsAnswer g unready old new mine mine_new moment early asked told page → IsRoomFor g room → IsLegal g' new × IsRoomFor g' room
@@ -77,9 +78,15 @@ can_still g g' unready old new mine mine_new moment early asked told page room s
 pub origins_still : (g g' : Setting) (origins : List ℕ) → g' ≡ g → origins ≡ g.origins → origins ≡ g'.origins
 origins_still g g' origins same is = is ∙ ap (λ (x : Setting). x.origins) (sym same)
 
--- what was read by all routes
-pub read_all : (routes : Served) (m : Message) (read : Result (Result Ask Refused) NoMemory) → routes ≡ all_routes → IfOk read (λ asked. asked ≡ ask_of routes m) → IfOk read (λ asked. asked ≡ ask_of all_routes m)
-read_all routes m read same asks = subst (λ (r : Served). IfOk read (λ asked. asked ≡ ask_of r m)) same asks
+-- so are the hosts
+pub hosts_still : (g g' : Setting) (hosts : List ℕ) → g' ≡ g → hosts ≡ g.hosts → hosts ≡ g'.hosts
+hosts_still g g' hosts same is = is ∙ ap (λ (x : Setting). x.hosts) (sym same)
+
+-- what was read by all routes and those hosts
+pub read_all : (routes : Served) (hosts known : List ℕ) (m : Message) (read : Result (Result Ask Refused) NoMemory) → routes ≡ all_routes → hosts ≡ known → IfOk read (λ asked. asked ≡ ask_to hosts routes m) → IfOk read (λ asked. asked ≡ ask_to known all_routes m)
+read_all routes hosts known m read same alike asks =
+    subst (λ (r : Served). IfOk read (λ asked. asked ≡ ask_to known r m)) same
+    (subst (λ (h : List ℕ). IfOk read (λ asked. asked ≡ ask_to h routes m)) alike asks)
 
 -- a match of all commits reads nothing
 fresh_matching : (g : Setting) (old : List Entry) (s : State) (moment : ℕ) (e : Entry) → e ≡ matching s moment → IsFresh g old e

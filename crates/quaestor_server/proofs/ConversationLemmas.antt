@@ -73,7 +73,7 @@ module _ {A D C : Type 0} (desk : A → D) (clock : A → C) (setting : D → Se
       }
 
 -- the reply that was given is that of what the desk answered
-pub replies : {D C T E : Type 0} (setting : D → Setting) (unready : Bool) (seen : D → List Entry) (mine : D → List (ℕ × Entry)) (tick : C → ℕ → C → Type 0) (a b : D) (c d : C) (item : Item) (close : Bool) (moment : ℕ) (shape : Shape) (told : Told) (page bytes : List ℕ) (before after : End) (given : Result T E) → setting b ≡ setting a → tick c moment d → shape ≡ shape_by (setting a).origins item → bytes ≡ page → IsAnswer (setting a) unready (seen a) (seen b) (mine a) (mine b) moment (is_known_early item) (asked_by item) told page → (text : List ℕ) × IsReplyText shape told bytes close text × Gave before after text given → (text : List ℕ) × AnswersAt setting unready seen mine tick a b c d item close text × Gave before after text given
+pub replies : {D C T E : Type 0} (setting : D → Setting) (unready : Bool) (seen : D → List Entry) (mine : D → List (ℕ × Entry)) (tick : C → ℕ → C → Type 0) (a b : D) (c d : C) (item : Item) (close : Bool) (moment : ℕ) (shape : Shape) (told : Told) (page bytes : List ℕ) (before after : End) (given : Result T E) → setting b ≡ setting a → tick c moment d → shape ≡ shape_by (setting a).origins item → bytes ≡ page → IsAnswer (setting a) unready (seen a) (seen b) (mine a) (mine b) moment (is_known_early (setting a).hosts item) (asked_by (setting a).hosts item) told page → (text : List ℕ) × IsReplyText shape told bytes close text × Gave before after text given → (text : List ℕ) × AnswersAt setting unready seen mine tick a b c d item close text × Gave before after text given
 replies setting unready seen mine tick a b c d item close moment shape told page bytes before after given same ticks shape_is bytes_are answer reply = (
   reply.0,
   record {
@@ -89,3 +89,7 @@ replies setting unready seen mine tick a b c d item close moment shape told page
   },
   reply.2,
 )
+
+-- what is noted behind a reply changes nothing of what was given
+pub given_noted : {T E : Type 0} (P : List ℕ → Type 0) (before after later : End) (given : Result T E) → later ≡ after → (text : List ℕ) × P text × Gave before after text given → (text : List ℕ) × P text × Gave before later text given
+given_noted P before after later given same reply = (reply.0, reply.1, subst (λ (e : End). Gave before e reply.0 given) (sym same) reply.2)

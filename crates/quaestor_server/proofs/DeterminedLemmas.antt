@@ -275,7 +275,7 @@ same_at : RepliesHaveOneText → (g : Setting) (unready : Bool) (a b c : Connect
 same_at texts g unready a b c item close text more m n e alone lone x y h =
     let P : ℕ → Type 0 = λ k. (z : RepliesAt g unready a.seen c.seen a.mine c.mine k item close more) → has_entry x.answer ≡ has_entry z.answer → IsOneReply b c text more in
     let here : P m = λ z same.
-    let one = same_answer g unready a.seen b.seen c.seen a.mine b.mine c.mine m (is_known_early item) (asked_by item) x.told z.told x.page z.page alone lone x.answer z.answer same in
+    let one = same_answer g unready a.seen b.seen c.seen a.mine b.mine c.mine m (is_known_early g.hosts item) (asked_by g.hosts item) x.told z.told x.page z.page alone lone x.answer z.answer same in
     record {
       seen_is = one.seen_is;
       mine_is = one.mine_is;

@@ -1,5 +1,5 @@
 -- Visits to a desk: who answers is another in each, and has the same desk and clock.
-use Rattle.std.proofs.Common.{◌≡◌, ℕ, ◌+◌, Bool, List, [], ◌∷◌, sym, ap, ◌∙◌, subst}
+use Rattle.std.proofs.Common.{◌≡◌, ℕ, ◌+◌, Bool, List, [], ◌∷◌, sym, ap, subst}
 use Rattle.dialogue.specs.Dialogue.{Sides, Exchange, Answered, is_last}
 use Rattle.dialogue.specs.Visit.{Visited}
 use Rattle.dialogue.specs.declared.visits.Pause.{Pause}
@@ -42,8 +42,8 @@ module _ {A D C : Type 0} (desk : A → D) (clock : A → C) (setting : D → Se
       }
 
 -- a room for the hubs of a configuration
-pub room_at : (g h : Setting) (pages : PageRoomView) (origins : List ℕ) → g ≡ h → IsFor g pages origins → IsFor h pages origins
-room_at g h pages origins same r = subst (λ (l : Setting). IsFor l pages origins) same r
+pub room_at : (g h : Setting) (pages : PageRoomView) (config : Setting) → g ≡ h → IsFor g pages config → IsFor h pages config
+room_at g h pages config same r = subst (λ (l : Setting). IsFor l pages config) same r
 
 -- a history that is legal in it
 pub legal_at : (g h : Setting) (history : List Entry) → g ≡ h → IsLegal g history → IsLegal h history

@@ -1,8 +1,8 @@
 -- Believed. What the items of a connection ask of the store, and the replies to them.
 use Rattle.std.specs.Prelude.{◌≡◌, ℕ, ◌≤◌, Bool, true, List, length, Result, Ok, Err}
 use Rattle.flat_snapshot.specs.PageText.{page_text}
-use Rattle.http_front.specs.Asks.{ask_of, shape_of, unframed_shape}
-use Rattle.http_front.specs.Early.{is_early}
+use Rattle.http_front.specs.Asks.{shape_of, unframed_shape}
+use Rattle.http_front.specs.Hosts.{ask_to, is_early_to}
 use Rattle.http_front.specs.Routes.{all_routes}
 use Rattle.http_front.specs.declared.ask.Ask.{Ask}
 use Rattle.http_front.specs.declared.ask.Ask.TheVariants.{Write, Read, Purges, MatchAll, Horizon, Fetch, Stats}
@@ -23,15 +23,15 @@ use Rattle.hub_model.specs.Setting.{Setting}
 use Rattle.hub_model.specs.State.{State}
 use Rattle.hub_model.specs.Step.{is_accepted, state_of}
 
--- what an item asks, or why it is refused
-abbrev pub asked_by : Item → Result Ask Refused
-asked_by (request m) = ask_of all_routes m
-asked_by (unframed refused called head) = Err (Framing refused)
+-- what an item asks of the hosts that a text names, or why it is refused
+abbrev pub asked_by : List ℕ → Item → Result Ask Refused
+asked_by hosts (request m) = ask_to hosts all_routes m
+asked_by hosts (unframed refused called head) = Err (Framing refused)
 
 -- what an item asks is known without memory; so it is where there is no request
-abbrev pub is_known_early : Item → Bool
-is_known_early (request m) = is_early all_routes m
-is_known_early (unframed refused called head) = true
+abbrev pub is_known_early : List ℕ → Item → Bool
+is_known_early hosts (request m) = is_early_to hosts all_routes m
+is_known_early hosts (unframed refused called head) = true
 
 -- what the reply to an item looks like, where a text names the origins of pages that may read it
 abbrev pub shape_by : List ℕ → Item → Shape

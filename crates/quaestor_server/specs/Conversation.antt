@@ -15,7 +15,7 @@ pub record RepliesAt (g : Setting) (unready : Bool) (old new : List Entry) (mine
   pub told : Told
   -- the bytes of the page, if the reply is one
   pub page : List ℕ
-  pub answer : IsAnswer g unready old new mine_old mine_new moment (is_known_early item) (asked_by item) told page
+  pub answer : IsAnswer g unready old new mine_old mine_new moment (is_known_early g.hosts item) (asked_by g.hosts item) told page
   pub text_is : IsReplyText (shape_by g.origins item) told page close text
 
 -- The state of a connection between two items.

@@ -40,7 +40,7 @@ pub struct Room {
 impl Room {
     /// The buffers of a connection to a hub of this configuration.
     pub fn new(alloc: Global, config: &Config) -> Result<Room, Memory>
-        ensures { IfOk result (λ room. IsFor config.now room.pages room.config.origins) }
+        ensures { IfOk result (λ room. IsFor config.now room.pages room.config) }
     {
         Ok(Room {
             requests: RequestRoom::new(alloc)?,
@@ -55,11 +55,12 @@ impl Room {
 
     /// Whether it serves a hub of this configuration.
     pub fn is_for(&self, config: &Config) -> bool
-        ensures { result ≡ true → IsFor config.now self.now.pages self.now.config.origins }
+        ensures { result ≡ true → IsFor config.now self.now.pages self.now.config }
     {
         self.config.log2_bits() == config.log2_bits()
             && self.config.hashes() == config.hashes()
             && self.config.origins() == config.origins()
+            && self.config.hosts() == config.hosts()
     }
 }
 
@@ -75,11 +76,11 @@ pub fn serve_connection<D: Desk, S: Source, K: Sink, C: Clock>(
     room: &mut Room,
 ) -> Served
     requires legal { IsLegal (D.setting desk.old) (D.seen desk.old) }
-    requires room { IsFor (D.setting desk.old) room.old.pages room.old.config.origins }
+    requires room { IsFor (D.setting desk.old) room.old.pages room.old.config }
     ensures legal { IsLegal (D.setting desk.old) (D.seen desk.new) }
     ensures conversation { Conversation (D.setting desk.old) D.may_be_unready (λ moments. Ticks C.tick clock.old moments clock.new) (D.seen desk.old) (D.seen desk.new) (D.mine desk.old) (D.mine desk.new)
         (record { source = S.at source.old; sink = K.at sink.old }) (record { source = S.at source.new; sink = K.at sink.new }) result }
-    ensures room { IsFor (D.setting desk.old) room.new.pages room.new.config.origins }
+    ensures room { IsFor (D.setting desk.old) room.new.pages room.new.config }
     ensures anchor { D.anchor desk.new ≡ D.anchor desk.old }
     ensures setting { D.setting desk.new ≡ D.setting desk.old }
 {
@@ -89,6 +90,7 @@ pub fn serve_connection<D: Desk, S: Source, K: Sink, C: Clock>(
         clock,
         routes: &room.routes,
         origins: room.config.origins(),
+        hosts: room.config.hosts(),
         documents: &mut *room.documents,
         reply: &mut room.reply,
         pages: &mut room.pages,

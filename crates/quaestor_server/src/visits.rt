@@ -25,12 +25,12 @@ pub trait Rooms {
 
     /// Buffers for one visit. It may wait for them.
     fn take(&mut self) -> Room
-        ensures room { IsFor (setting self.old) result.pages result.config.origins }
+        ensures room { IsFor (setting self.old) result.pages result.config }
         ensures setting { setting self.new ≡ setting self.old };
 
     /// Takes them back.
     fn put(&mut self, room: Room)
-        requires room { IsFor (setting self.old) room.pages room.config.origins }
+        requires room { IsFor (setting self.old) room.pages room.config }
         ensures setting { setting self.new ≡ setting self.old };
 }
 
@@ -78,13 +78,13 @@ fn serve_visit<D: Desk, S: Source, K: Sink, C: Clock>(
     from: Pause,
 ) -> VisitEnd
     requires legal { IsLegal (D.setting desk.old) (D.seen desk.old) }
-    requires room { IsFor (D.setting desk.old) room.old.pages room.old.config.origins }
+    requires room { IsFor (D.setting desk.old) room.old.pages room.old.config }
     requires more { MayGoOn from }
     ensures legal { IsLegal (D.setting desk.old) (D.seen desk.new) }
     ensures visit { Visited (answers_of D.setting D.may_be_unready D.seen D.mine C.tick) (record { desk = desk.old; clock = clock.old }) (record { desk = desk.new; clock = clock.new })
         (record { source = S.at source.old; sink = K.at sink.old }) (record { source = S.at source.new; sink = K.at sink.new }) from result }
     ensures rests { Rests from result }
-    ensures room { IsFor (D.setting desk.old) room.new.pages room.new.config.origins }
+    ensures room { IsFor (D.setting desk.old) room.new.pages room.new.config }
     ensures anchor { D.anchor desk.new ≡ D.anchor desk.old }
     ensures setting { D.setting desk.new ≡ D.setting desk.old }
 {
@@ -94,6 +94,7 @@ fn serve_visit<D: Desk, S: Source, K: Sink, C: Clock>(
         clock,
         routes: &room.routes,
         origins: room.config.origins(),
+        hosts: room.config.hosts(),
         documents: &mut *room.documents,
         reply: &mut room.reply,
         pages: &mut room.pages,

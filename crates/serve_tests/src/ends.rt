@@ -5,9 +5,10 @@ use crate::sinks::{GET, KeptSink, connections_of, requests};
 use hub_core::Config;
 use q_base::{Memory, Moment};
 use q_outside::{FixedClock, ListDoors, OpenGate, PlainSource, Script, Served};
-use quaestor_serve::{Crew, ServeEnd, ServeWhy, Trim, serve};
+use quaestor_serve::{Crew, NoMonitor, ServeEnd, ServeWhy, Trim, serve};
 use std::alloc::Global;
 use std::marker::Brand;
+use std::rt::Clock;
 use std::sync::Wait;
 use std::sync::ledger::{Blank, Ledger};
 use std::test::Fail;
@@ -32,7 +33,7 @@ struct Case {
 }
 
 /// Serves connections of one request each.
-fn serve_counted<L: Ledger, R: Threads + Wait + Copy + Send + 'static>(
+fn serve_counted<L: Ledger, R: Threads + Wait + Clock + Copy + Send + 'static>(
     rt: &R,
     alloc: Global,
     case: Case,
@@ -61,6 +62,7 @@ fn serve_counted<L: Ledger, R: Threads + Wait + Copy + Send + 'static>(
         &mut doors,
         &clock,
         &OpenGate,
+        &NoMonitor,
         case.crew,
         case.most,
     );
@@ -72,7 +74,7 @@ fn serve_counted<L: Ledger, R: Threads + Wait + Copy + Send + 'static>(
 }
 
 /// The same with a ledger of its own.
-fn serve_case<R: Threads + Wait + Copy + Send + 'static>(
+fn serve_case<R: Threads + Wait + Clock + Copy + Send + 'static>(
     rt: &R,
     alloc: Global,
     case: Case,

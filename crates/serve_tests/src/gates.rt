@@ -5,10 +5,11 @@ use crate::sinks::{KeptSink, connection_of, requests};
 use hub_core::Config;
 use q_base::{Memory, Moment};
 use q_outside::{FixedClock, HoldGate, ListDoors, PlainSource, Script, Served};
-use quaestor_serve::{Crew, Trim, serve};
+use quaestor_serve::{Crew, NoMonitor, Trim, serve};
 use std::alloc::Global;
 use std::collections::VecDeque;
 use std::marker::Brand;
+use std::rt::Clock;
 use std::sync::Wait;
 use std::sync::ledger::{Blank, Ledger};
 use std::test::Fail;
@@ -16,7 +17,7 @@ use std::thread::Threads;
 
 /// How connections were served, in the order in which they were handed back, where the first is held at
 /// the gate until another has opened it.
-fn hold_counted<L: Ledger, R: Threads + Wait + Copy + Send + 'static>(
+fn hold_counted<L: Ledger, R: Threads + Wait + Clock + Copy + Send + 'static>(
     rt: &R,
     alloc: Global,
     gate: &HoldGate,
@@ -43,6 +44,7 @@ fn hold_counted<L: Ledger, R: Threads + Wait + Copy + Send + 'static>(
         &mut doors,
         &clock,
         gate,
+        &NoMonitor,
         crew,
         most,
     );
@@ -54,7 +56,7 @@ fn hold_counted<L: Ledger, R: Threads + Wait + Copy + Send + 'static>(
 }
 
 /// The same with a ledger of its own, where the last of so many connections opens the gate.
-fn hold<R: Threads + Wait + Copy + Send + 'static>(
+fn hold<R: Threads + Wait + Clock + Copy + Send + 'static>(
     rt: &R,
     alloc: Global,
     gate: &HoldGate,

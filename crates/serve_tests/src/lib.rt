@@ -6,6 +6,8 @@ mod ends;
 #[cfg(test)]
 mod gates;
 #[cfg(test)]
+mod monitors;
+#[cfg(test)]
 mod order;
 #[cfg(test)]
 mod sinks;

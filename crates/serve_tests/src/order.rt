@@ -5,31 +5,35 @@ use crate::sinks::{KeptSink, connection_from};
 use hub_core::Config;
 use q_base::{Memory, Moment};
 use q_outside::{FixedClock, ListDoors, OpenGate, PlainSource, Script};
-use quaestor_serve::{Crew, Trim, serve};
+use quaestor_serve::{Crew, NoMonitor, Trim, serve};
 use std::alloc::Global;
 use std::collections::VecDeque;
 use std::marker::Brand;
+use std::rt::Clock;
 use std::sync::Wait;
 use std::sync::ledger::{Blank, Ledger};
 use std::test::Fail;
 use std::thread::Threads;
 
 /// A write of a document.
-const PUT: &[u8] = b"PUT /v1/d/shop/p1 HTTP/1.1\r\nHost: a\r\nContent-Length: 7\r\n\r\n{\"a\":1}";
+pub(crate) const PUT: &[u8] =
+    b"PUT /v1/d/shop/p1 HTTP/1.1\r\nHost: a\r\nContent-Length: 7\r\n\r\n{\"a\":1}";
 
 /// A read of it.
-const GET: &[u8] = b"GET /v1/d/shop/p1 HTTP/1.1\r\nHost: a\r\n\r\n";
+pub(crate) const GET: &[u8] = b"GET /v1/d/shop/p1 HTTP/1.1\r\nHost: a\r\n\r\n";
 
-/// A connection that was handed back: how many had come by then, and what it was told.
+/// A connection that was handed back: how many had come by then, what it was told, and what was noted of
+/// that.
 #[derive(Debug, Drop)]
 struct Told {
     after: usize,
     reply: Vec<u8>,
+    noted: Vec<u16>,
 }
 
 /// Serves a connection for each request, at one place, so that each one comes behind the end of the one
 /// before.
-fn serve_counted<L: Ledger, R: Threads + Wait + Copy + Send + 'static>(
+fn serve_counted<L: Ledger, R: Threads + Wait + Clock + Copy + Send + 'static>(
     rt: &R,
     alloc: Global,
     asked: &[&[u8]],
@@ -64,6 +68,7 @@ fn serve_counted<L: Ledger, R: Threads + Wait + Copy + Send + 'static>(
         &mut doors,
         &clock,
         &OpenGate,
+        &NoMonitor,
         crew,
         most,
     );
@@ -71,16 +76,19 @@ fn serve_counted<L: Ledger, R: Threads + Wait + Copy + Send + 'static>(
     for back in &doors.handed {
         let mut reply = Vec::new(alloc);
         reply.extend_from_slice(back.sink.bytes.as_slice())?;
+        let mut noted = Vec::new(alloc);
+        noted.extend_from_slice(back.sink.noted.as_slice())?;
         told.push(Told {
             after: back.after,
             reply,
+            noted,
         })?;
     }
     Ok(told)
 }
 
 /// The same with a ledger of its own.
-fn serve_each<R: Threads + Wait + Copy + Send + 'static>(
+fn serve_each<R: Threads + Wait + Clock + Copy + Send + 'static>(
     rt: &R,
     alloc: Global,
     asked: &[&[u8]],
@@ -92,14 +100,15 @@ fn serve_each<R: Threads + Wait + Copy + Send + 'static>(
 fn what_was_acknowledged_is_read_on_a_later_connection(rt: HostRuntime) -> Result<(), Fail> {
     let told = serve_each(&rt, rt.alloc(), &[GET, PUT, GET])?;
     assert_eq!(rt; told.len(), 3);
-    let heads: [(&[u8], usize); 3] = [
-        (b"HTTP/1.1 404 Not Found\r\n", 1),
-        (b"HTTP/1.1 201 Created\r\n", 2),
-        (b"HTTP/1.1 200 OK\r\n", 3),
+    let heads: [(&[u8], usize, [u16; 1]); 3] = [
+        (b"HTTP/1.1 404 Not Found\r\n", 1, [404]),
+        (b"HTTP/1.1 201 Created\r\n", 2, [201]),
+        (b"HTTP/1.1 200 OK\r\n", 3, [200]),
     ];
-    for (told, (head, after)) in told.iter().zip(heads) {
+    for (told, (head, after, noted)) in told.iter().zip(heads) {
         assert!(rt; told.reply.as_slice().starts_with(head));
         assert_eq!(rt; told.after, after);
+        assert_eq!(rt; told.noted.as_slice(), noted.as_slice());
     }
     if let Some(last) = told.last() {
         assert!(rt; last.reply.as_slice().ends_with(b"\r\n\r\n{\"a\":1}"));

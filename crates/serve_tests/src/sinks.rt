@@ -1,7 +1,7 @@
-//! Connections of one request, whose sinks keep what they are given.
+//! Connections of one request, whose sinks keep what they are given, and the statuses that are noted.
 
 use q_base::Memory;
-use q_outside::{Failed, HoldGate, PlainSource, Served, Sink, Why};
+use q_outside::{Failed, HoldGate, Note, PlainSource, Served, Sink, Why};
 use std::alloc::Global;
 use std::collections::VecDeque;
 
@@ -22,6 +22,8 @@ pub(crate) fn requests(count: u64) -> Served {
 pub(crate) struct KeptSink {
     pub bytes: Vec<u8>,
     pub faults: u64,
+    /// The statuses that were noted.
+    pub noted: Vec<u16>,
     pub opens: Option<HoldGate>,
 }
 
@@ -44,6 +46,10 @@ impl Sink for KeptSink {
         if let Some(gate) = &self.opens {
             gate.open();
         }
+    }
+
+    fn note(&mut self, note: &Note<'_>) {
+        let _ = self.noted.push(note.status);
     }
 }
 
@@ -69,6 +75,7 @@ pub(crate) fn connection_from(
     let sink = KeptSink {
         bytes: Vec::new(alloc),
         faults: 0,
+        noted: Vec::new(alloc),
         opens,
     };
     (PlainSource::of(bytes), sink)

@@ -9,10 +9,12 @@
 ghost use Rattle.std.specs.Io.{ReadsAtMost, WritesAtMost};
 
 use crate::late::tell_late;
+use crate::observer::Seen;
 use crate::pace::{Pace, Patience};
 use crate::ready::{For, millis_of, wait_for_one};
 use crate::watch::Watch;
-use q_outside::Limits;
+use access_log::Cell;
+use q_outside::{Limits, Note};
 use std::alloc::Global;
 use std::io;
 use std::io::{ErrorKind, Read, Write};
@@ -39,6 +41,15 @@ const DRAIN_BYTES: usize = 1_048_576;
 
 /// How an interim reply begins, behind which the final one is still to come.
 const INTERIM: &[u8] = b"HTTP/1.1 100 ";
+
+/// What is noted of a request that was cut off.
+const LATE_NOTE: Note<'static> = Note {
+    method: b"",
+    target: b"",
+    status: 408,
+    is_copy: false,
+    why: "timeout",
+};
 
 /// How far a connection is.
 #[derive(Clone, Copy, Debug, PartialEq, Eq)]
@@ -72,6 +83,8 @@ pub(crate) struct Connection<R: Clock + Drop> {
     request: Pace,
     /// How long its reply may be waited for.
     reply: Patience,
+    /// What there is of it for who counts and logs, where somebody does.
+    seen: Option<Seen>,
 }
 
 impl<R: Clock + Drop> Connection<R> {
@@ -81,6 +94,7 @@ impl<R: Clock + Drop> Connection<R> {
         watch: Arc<Watch, Global>,
         limits: Limits,
         stream: TcpStream,
+        seen: Option<Seen>,
     ) -> Connection<R> {
         Connection {
             rt,
@@ -93,6 +107,7 @@ impl<R: Clock + Drop> Connection<R> {
             has_replied: false,
             request: Pace::new(),
             reply: Patience::new(),
+            seen,
         }
     }
 
@@ -103,6 +118,30 @@ impl<R: Clock + Drop> Connection<R> {
         self.has_replied = false;
         self.request = Pace::new();
         self.reply = Patience::new();
+        if let Some(seen) = &mut self.seen {
+            seen.begin(&self.rt);
+        }
+    }
+
+    /// Counts and logs a reply of so many bytes.
+    pub(crate) fn note(&self, note: &Note<'_>, bytes: u64) {
+        if let Some(seen) = &self.seen {
+            seen.note(&self.rt, note, bytes);
+        }
+    }
+
+    /// The connection has ended, if only now.
+    pub(crate) fn leave(&mut self) {
+        if let Some(seen) = &mut self.seen {
+            seen.leave();
+        }
+    }
+
+    /// Counts one more for who counts.
+    fn count(&self, cell: Cell) {
+        if let Some(seen) = &self.seen {
+            seen.count(cell);
+        }
     }
 
     /// Reads the next bytes. 0 is the end, also where a limit of time has passed or the stream was
@@ -215,6 +254,13 @@ impl<R: Clock + Drop> Connection<R> {
     /// Waits until the next request or the end is there, or the connection has waited for long enough.
     /// Once the server was told to end, only a first request that is there already is taken.
     pub(crate) fn wait(&mut self) {
+        self.count(Cell::Waits);
+        self.wait_in_time();
+        self.count(Cell::Woken);
+    }
+
+    /// The same, with nothing counted.
+    fn wait_in_time(&mut self) {
         if self.stage != Stage::Open {
             return;
         }
@@ -260,6 +306,12 @@ impl<R: Clock + Drop> Connection<R> {
     /// the stream. Bytes that lie unread when a stream is closed make the system reset the connection,
     /// and a reset may lose the last reply on its way.
     pub(crate) fn end(&mut self) {
+        self.end_stream();
+        self.leave();
+    }
+
+    /// The same, with nothing counted but a request that was cut off.
+    fn end_stream(&mut self) {
         let Some(stream) = self.stream.take() else {
             return;
         };
@@ -267,7 +319,8 @@ impl<R: Clock + Drop> Connection<R> {
             return;
         }
         if self.stage == Stage::Late && !self.has_replied {
-            tell_late(&self.rt, &stream);
+            let bytes = tell_late(&self.rt, &stream);
+            self.note(&LATE_NOTE, bytes);
         }
         if stream.shutdown(Shutdown::Write).is_ok() {
             let until = millis_of(&self.rt).saturating_add(DRAIN_MILLIS);

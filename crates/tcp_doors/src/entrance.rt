@@ -2,7 +2,9 @@
 
 use crate::accept::{Again, again_after};
 use crate::connection::Connection;
+use crate::ending::Ending;
 use crate::listeners::listen_at;
+use crate::observer::{Observer, Seen};
 use crate::ready::{For, asked, wait_for};
 use crate::sink::TcpSink;
 use crate::source::TcpSource;
@@ -10,7 +12,7 @@ use crate::stream::Shared;
 use crate::watch::Watch;
 use libc::types::pollfd;
 use q_outside::Limits;
-use std::alloc::Global;
+use std::alloc::{AllocError, Global};
 use std::fs::{File, Files};
 use std::net::{Net, SocketAddr, TcpListener, TcpStream};
 use std::os::fd::AsRawFd;
@@ -56,21 +58,31 @@ pub(crate) struct Entrance<R: Drop> {
     last: u32,
     watch: Arc<Watch, Global>,
     limits: Limits,
+    /// Who counts and logs what the connections do, where somebody does.
+    observer: Option<Arc<Observer, Global>>,
+    /// How many connections were taken.
+    taken: u64,
 }
 
 impl<R> Entrance<R>
 where
     R: Net<Listener = TcpListener, Stream = TcpStream> + Files<File = File> + AllocGlobal + Drop,
 {
-    /// The listeners at each address of a name.
-    pub(crate) fn bind(rt: R, name: &str, limits: Limits) -> io::Result<Entrance<R>> {
+    /// The listeners at each address of a name. They end as the watch says.
+    pub(crate) fn bind(
+        rt: R,
+        name: &str,
+        limits: Limits,
+        watch: Watch,
+        observer: Option<Arc<Observer, Global>>,
+    ) -> io::Result<Entrance<R>> {
         let alloc = rt.alloc();
         let listeners = listen_at(&rt, alloc, name)?;
         let mut polled = Vec::new(alloc);
         for listener in &listeners {
             polled.push(asked(listener.as_raw_fd(), For::Bytes))?;
         }
-        let watch = Arc::new(alloc, Watch::new(&rt, limits.grace))?;
+        let watch = Arc::new(alloc, watch)?;
         Ok(Entrance {
             rt,
             alloc,
@@ -80,6 +92,8 @@ where
             last: LAST_CONNECTIONS,
             watch,
             limits,
+            observer,
+            taken: 0,
         })
     }
 }
@@ -92,6 +106,11 @@ impl<R: Drop> Entrance<R> {
             None => Err(io::Error::from(io::ErrorKind::NotConnected)),
         }
     }
+
+    /// Whether the server was told to end, for others than its connections.
+    pub(crate) fn ending(&self) -> Result<Ending, AllocError> {
+        Ok(Ending::new(Arc::try_clone(&self.watch)?))
+    }
 }
 
 impl<R: Clock + Copy + Drop> Entrance<R> {
@@ -102,7 +121,7 @@ impl<R: Clock + Copy + Drop> Entrance<R> {
             return self.take_last();
         }
         match self.accept() {
-            Ok(stream) => self.entry_of(stream),
+            Ok((stream, client)) => self.entry_of(stream, client),
             Err(error) => self.pause_after(&error),
         }
     }
@@ -112,8 +131,8 @@ impl<R: Clock + Copy + Drop> Entrance<R> {
     fn take_last(&mut self) -> Entry<R> {
         if self.last > 0 {
             self.last -= 1;
-            if let Ok(stream) = self.accept() {
-                return self.entry_of(stream);
+            if let Ok((stream, client)) = self.accept() {
+                return self.entry_of(stream, client);
             }
             self.last = 0;
         }
@@ -122,7 +141,7 @@ impl<R: Clock + Copy + Drop> Entrance<R> {
     }
 
     /// The next connection that is there, by the listeners in turn.
-    fn accept(&mut self) -> io::Result<TcpStream> {
+    fn accept(&mut self) -> io::Result<(TcpStream, SocketAddr)> {
         let mut failed = io::Error::from(io::ErrorKind::WouldBlock);
         for _n in 0..self.listeners.len() {
             self.turn = next_turn(self.turn, self.listeners.len());
@@ -130,7 +149,7 @@ impl<R: Clock + Copy + Drop> Entrance<R> {
                 continue;
             };
             match listener.accept() {
-                Ok((stream, _)) => return Ok(stream),
+                Ok((stream, client)) => return Ok((stream, client)),
                 Err(error) if error.kind() == io::ErrorKind::WouldBlock => {}
                 Err(error) => failed = error,
             }
@@ -155,21 +174,38 @@ impl<R: Clock + Copy + Drop> Entrance<R> {
     }
 
     /// The source and the sink of a stream, or nothing where it fails.
-    fn entry_of(&self, stream: TcpStream) -> Entry<R> {
-        match self.halves_of(stream) {
+    fn entry_of(&mut self, stream: TcpStream, client: SocketAddr) -> Entry<R> {
+        match self.halves_of(stream, client) {
             Ok((source, sink)) => Entry::Given(source, sink),
             Err(_) => Entry::Nothing,
         }
     }
 
     /// The source and the sink of a stream. Its small pieces are sent at once, and it does not block.
-    fn halves_of(&self, stream: TcpStream) -> io::Result<(TcpSource<R>, TcpSink<R>)> {
+    fn halves_of(
+        &mut self,
+        stream: TcpStream,
+        client: SocketAddr,
+    ) -> io::Result<(TcpSource<R>, TcpSink<R>)> {
         stream.set_nodelay(true)?;
         stream.set_nonblocking(true)?;
         let watch = Arc::try_clone(&self.watch)?;
-        let connection = Connection::new(self.rt, watch, self.limits, stream);
+        let seen = self.seen_of(client)?;
+        let is_seen = seen.is_some();
+        let connection = Connection::new(self.rt, watch, self.limits, stream, seen);
         let (first, second) = Shared::pair(self.alloc, connection)?;
-        Ok((TcpSource::new(first), TcpSink::new(second)))
+        Ok((TcpSource::new(first), TcpSink::new(second, is_seen)))
+    }
+
+    /// What the next connection has for the observer, where there is one.
+    fn seen_of(&mut self, client: SocketAddr) -> Result<Option<Seen>, AllocError> {
+        let Some(observer) = &self.observer else {
+            return Ok(None);
+        };
+        let observer = Arc::try_clone(observer)?;
+        self.taken = self.taken.wrapping_add(1);
+        let seen = Seen::new(self.alloc, observer, self.taken, client.ip())?;
+        Ok(Some(seen))
     }
 }
 

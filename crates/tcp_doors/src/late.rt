@@ -12,19 +12,20 @@ const BEFORE: &[u8] = b"HTTP/1.1 408 Request Timeout\r\nDate: ";
 const BEHIND: &[u8] =
     b"\r\nContent-Type: application/json\r\nContent-Length: 19\r\nCache-Control: no-store\r\nConnection: close\r\n\r\n{\"error\":\"timeout\"}";
 
-/// Writes the answer, where the system takes it at once. A client that does not get it is told the end
-/// all the same.
-pub(crate) fn tell_late<R: Clock>(clock: &R, stream: &TcpStream) {
+/// Writes the answer, where the system takes it at once, and tells how many bytes it took. A client that
+/// does not get it is told the end all the same.
+pub(crate) fn tell_late<R: Clock>(clock: &R, stream: &TcpStream) -> u64 {
     let Ok(passed) = clock.since_1970() else {
-        return;
+        return 0;
     };
     let Ok(date) = HttpDate::from_unix_secs(passed.as_secs()) else {
-        return;
+        return 0;
     };
     let date = date.to_bytes();
-    let _ = stream.write_vectored(&[
+    let written = stream.write_vectored(&[
         IoSlice::new(BEFORE),
         IoSlice::new(&date),
         IoSlice::new(BEHIND),
     ]);
+    written.map_or(0, |count| count as u64)
 }

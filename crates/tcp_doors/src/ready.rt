@@ -55,3 +55,11 @@ pub(crate) fn millis_of<R: Clock>(clock: &R) -> u64 {
         Err(_) => u64::MAX,
     }
 }
+
+/// The microseconds of the same clock.
+pub(crate) fn micros_of<R: Clock>(clock: &R) -> u64 {
+    match clock.monotonic() {
+        Ok(passed) => u64::try_from(passed.as_micros()).unwrap_or(u64::MAX),
+        Err(_) => u64::MAX,
+    }
+}

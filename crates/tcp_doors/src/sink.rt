@@ -2,7 +2,7 @@
 ghost use Rattle.std.specs.Prelude.{◌≡◌, Some, None};
 
 use crate::stream::Shared;
-use q_outside::{Failed, Sink};
+use q_outside::{Failed, Note, Sink};
 use std::rt::Clock;
 
 /// The sink over a connection. It shows no bytes.
@@ -18,14 +18,30 @@ use std::rt::Clock;
 pub struct TcpSink<R: Clock + Drop> {
     shared: Shared<R>,
     faults: u64,
+    /// Whether somebody counts or logs what the connection does.
+    is_seen: bool,
+    /// The bytes that were given since the last reply was noted, where somebody does.
+    bytes: u64,
 }
 
 impl<R: Clock + Drop> TcpSink<R> {
     /// The sink over this connection, with no fault yet.
-    pub(crate) fn new(shared: Shared<R>) -> TcpSink<R>
+    pub(crate) fn new(shared: Shared<R>, is_seen: bool) -> TcpSink<R>
         ensures { result.faults ≡ 0 }
     {
-        TcpSink { shared, faults: 0 }
+        TcpSink {
+            shared,
+            faults: 0,
+            is_seen,
+            bytes: 0,
+        }
+    }
+
+    /// The connection has ended.
+    pub(crate) fn leave(&self) {
+        if self.is_seen {
+            self.shared.leave();
+        }
     }
 }
 
@@ -36,12 +52,22 @@ impl<R: Clock + Drop> Sink for TcpSink<R> {
 
     fn give(&mut self, bytes: &[u8]) -> Result<usize, Failed> {
         match self.shared.write(bytes) {
-            Ok(count) if count > 0 => Ok(count),
+            Ok(count) if count > 0 => {
+                self.bytes = self.bytes.wrapping_add(count as u64);
+                Ok(count)
+            }
             _ if self.faults < u64::MAX => {
                 self.faults += 1;
                 Err(Failed)
             }
             _ => Ok(bytes.len()),
+        }
+    }
+
+    fn note(&mut self, note: &Note<'_>) {
+        if self.is_seen {
+            self.shared.note(note, self.bytes);
+            self.bytes = 0;
         }
     }
 

@@ -9,6 +9,7 @@
 ghost use Rattle.std.specs.Io.{ReadsAtMost, WritesAtMost};
 
 use crate::connection::Connection;
+use q_outside::Note;
 use std::alloc::{AllocError, Global};
 use std::io;
 use std::io::ErrorKind;
@@ -79,6 +80,20 @@ impl<R: Clock + Drop> Shared<R> {
         match self.connection.try_lock() {
             Some(connection) => connection.is_stopping(),
             None => false,
+        }
+    }
+
+    /// Counts and logs a reply of so many bytes.
+    pub(crate) fn note(&self, note: &Note<'_>, bytes: u64) {
+        if let Some(connection) = self.connection.try_lock() {
+            connection.note(note, bytes);
+        }
+    }
+
+    /// The connection has ended, if only now.
+    pub(crate) fn leave(&self) {
+        if let Some(mut connection) = self.connection.try_lock() {
+            connection.leave();
         }
     }
 

@@ -54,6 +54,16 @@ impl Watch {
         }
     }
 
+    /// A watch that nobody stops.
+    pub(crate) fn idle() -> Watch {
+        Watch {
+            status: None,
+            looked: AtomicU64::new(0),
+            end: AtomicU64::new(u64::MAX),
+            grace: 0,
+        }
+    }
+
     /// Whether the server was told to end.
     pub(crate) fn is_stopped(&self) -> bool {
         self.end.load(Ordering::SeqCst) < u64::MAX

@@ -3,7 +3,7 @@
 use hub_core::Config;
 use q_base::Moment;
 use q_outside::{FixedClock, Limits, OpenGate};
-use quaestor_serve::{Crew, ServeEnd, Trim, serve};
+use quaestor_serve::{Crew, NoMonitor, ServeEnd, Trim, serve};
 use std::fs::{File, Files};
 use std::io::{Read, Write};
 use std::net::{Net, TcpListener, TcpStream};
@@ -43,6 +43,7 @@ where
         &mut doors,
         &clock,
         &OpenGate,
+        &NoMonitor,
         crew,
         1,
     )

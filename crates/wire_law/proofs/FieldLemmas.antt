@@ -50,9 +50,11 @@ module _ {name : List ℕ} where
   tag_lacks None other = none_lack
   tag_lacks (Some n) other = one_lacks (codes "ETag") (codes "\"" ++ (decimal n ++ codes "\"")) other
 
-  pub lifetime_lacks : (ttl : ℕ) → str_eq_ignore_ascii_case (codes "Cache-Control") name ≡ false → Lacks name (lifetime_field ttl)
-  lifetime_lacks zero other = one_lacks (codes "Cache-Control") (codes "no-store") other
-  lifetime_lacks (suc n) other = one_lacks (codes "Cache-Control") (codes "max-age=" ++ decimal (suc n)) other
+  pub lifetime_lacks : (ttl shared : ℕ) → str_eq_ignore_ascii_case (codes "Cache-Control") name ≡ false → Lacks name (lifetime_field ttl shared)
+  lifetime_lacks zero shared other = one_lacks (codes "Cache-Control") (codes "no-store") other
+  lifetime_lacks (suc n) zero other = one_lacks (codes "Cache-Control") (codes "max-age=" ++ decimal (suc n)) other
+  lifetime_lacks (suc n) (suc m) other =
+      one_lacks (codes "Cache-Control") (((codes "public, max-age=" ++ decimal (suc n)) ++ codes ", ") ++ (codes "s-maxage=" ++ decimal (suc m))) other
 
   pub allow_lacks : (o : Option Allow) → str_eq_ignore_ascii_case (codes "Allow") name ≡ false → Lacks name (allow_field o)
   allow_lacks None other = none_lack
@@ -187,12 +189,15 @@ module _ {status : ℕ} {before : List Pair} where
       one_taken (codes "Content-Type") (codes "application/octet-stream")
       (elim (cases_Bool (status == 304)) [ inl e ↦ rw e refl | inr e ↦ rw e refl ])
 
-  pub lifetime_taken : (ttl : ℕ) → AreTaken status before (lifetime_field ttl)
-  lifetime_taken zero =
+  pub lifetime_taken : (ttl shared : ℕ) → AreTaken status before (lifetime_field ttl shared)
+  lifetime_taken zero shared =
       one_taken (codes "Cache-Control") (codes "no-store")
       (elim (cases_Bool (status == 304)) [ inl e ↦ rw e refl | inr e ↦ rw e refl ])
-  lifetime_taken (suc n) =
+  lifetime_taken (suc n) zero =
       one_taken (codes "Cache-Control") (codes "max-age=" ++ decimal (suc n))
+      (elim (cases_Bool (status == 304)) [ inl e ↦ rw e refl | inr e ↦ rw e refl ])
+  lifetime_taken (suc n) (suc m) =
+      one_taken (codes "Cache-Control") (((codes "public, max-age=" ++ decimal (suc n)) ++ codes ", ") ++ (codes "s-maxage=" ++ decimal (suc m)))
       (elim (cases_Bool (status == 304)) [ inl e ↦ rw e refl | inr e ↦ rw e refl ])
 
   pub allow_taken : (o : Option Allow) → AreTaken status before (allow_field o)

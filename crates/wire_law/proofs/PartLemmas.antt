@@ -13,7 +13,7 @@ use Rattle.client_wire.specs.Numbers.{number_in, length_in, date_in, tag_in, bod
 use Rattle.client_wire.specs.ReplyFields.{directives, first_value, lifetime_by, parts_of, size_of, verdict_of}
 use Rattle.wire_law.specs.Printed.{FieldsAreRead, printed_date, printed_parts, printed_size}
 use Rattle.wire_law.proofs.FieldLemmas.{Lacks, both_lack, none_lack, number_lacks, date_lacks, media_lacks, tag_lacks, lifetime_lacks, allow_lacks, pages_lacks, close_lacks, behind, first_number, first_date, first_tag, values_between, AreTaken, taken_on, media_taken, lifetime_taken, allow_taken, pages_taken, close_taken, date_taken, length_taken, tag_taken, commit_taken, version_taken, until_taken}
-use Rattle.wire_law.proofs.ValueLemmas.{date_read, length_read, number_read, no_store_read, max_age_read}
+use Rattle.wire_law.proofs.ValueLemmas.{date_read, length_read, number_read, no_store_read, max_age_read, shared_read}
 
 -- The numbers of a head are of their width, and its origin may be told, as those of each head that the program has.
 pub record IsInWidth (h : Head) : Type 0 where
@@ -23,6 +23,7 @@ pub record IsInWidth (h : Head) : Type 0 where
   pub tag : (n : ℕ) → h.tag ≡ Some n → n < 2 ^ 64
   pub length : (n : ℕ) → h.length ≡ Some n → n < 2 ^ 64
   pub ttl : h.ttl < 2 ^ 32
+  pub shared : h.shared < 2 ^ 32
   pub leave : IsTellable h.leave
 
 module _ (h : Head) (date : List ℕ) where
@@ -46,7 +47,7 @@ module _ (h : Head) (date : List ℕ) where
   from_allow = allow_field h.allow ++ from_commit
 
   abbrev from_lifetime : List Pair
-  from_lifetime = lifetime_field h.ttl ++ from_allow
+  from_lifetime = lifetime_field h.ttl h.shared ++ from_allow
 
   abbrev from_tag : List Pair
   from_tag = tag_field h.tag ++ from_lifetime
@@ -78,7 +79,7 @@ module _ (h : Head) (date : List ℕ) where
       ∙ behind name (media_field h.media) from_length (media_lacks h.media refl)
       ∙ behind name (number_field (codes "Content-Length") h.length) from_tag (number_lacks (codes "Content-Length") h.length refl)
       ∙ behind name (tag_field h.tag) from_lifetime (tag_lacks h.tag refl)
-      ∙ behind name (lifetime_field h.ttl) from_allow (lifetime_lacks h.ttl refl)
+      ∙ behind name (lifetime_field h.ttl h.shared) from_allow (lifetime_lacks h.ttl h.shared refl)
       ∙ behind name (allow_field h.allow) from_commit (allow_lacks h.allow refl)
       ∙ first_number name (codes "Quaestor-Commit") h.commit from_version refl
       (both_lack (number_lacks (codes "Quaestor-Version") h.version refl)
@@ -92,7 +93,7 @@ module _ (h : Head) (date : List ℕ) where
       ∙ behind name (media_field h.media) from_length (media_lacks h.media refl)
       ∙ behind name (number_field (codes "Content-Length") h.length) from_tag (number_lacks (codes "Content-Length") h.length refl)
       ∙ behind name (tag_field h.tag) from_lifetime (tag_lacks h.tag refl)
-      ∙ behind name (lifetime_field h.ttl) from_allow (lifetime_lacks h.ttl refl)
+      ∙ behind name (lifetime_field h.ttl h.shared) from_allow (lifetime_lacks h.ttl h.shared refl)
       ∙ behind name (allow_field h.allow) from_commit (allow_lacks h.allow refl)
       ∙ behind name (number_field (codes "Quaestor-Commit") h.commit) from_version (number_lacks (codes "Quaestor-Commit") h.commit refl)
       ∙ first_number name (codes "Quaestor-Version") h.version from_until refl
@@ -106,7 +107,7 @@ module _ (h : Head) (date : List ℕ) where
       ∙ behind name (media_field h.media) from_length (media_lacks h.media refl)
       ∙ behind name (number_field (codes "Content-Length") h.length) from_tag (number_lacks (codes "Content-Length") h.length refl)
       ∙ behind name (tag_field h.tag) from_lifetime (tag_lacks h.tag refl)
-      ∙ behind name (lifetime_field h.ttl) from_allow (lifetime_lacks h.ttl refl)
+      ∙ behind name (lifetime_field h.ttl h.shared) from_allow (lifetime_lacks h.ttl h.shared refl)
       ∙ behind name (allow_field h.allow) from_commit (allow_lacks h.allow refl)
       ∙ behind name (number_field (codes "Quaestor-Commit") h.commit) from_version (number_lacks (codes "Quaestor-Commit") h.commit refl)
       ∙ behind name (number_field (codes "Quaestor-Version") h.version) from_until (number_lacks (codes "Quaestor-Version") h.version refl)
@@ -120,7 +121,7 @@ module _ (h : Head) (date : List ℕ) where
       (both_lack (media_lacks h.media refl)
       (both_lack (number_lacks (codes "Content-Length") h.length refl)
       (both_lack (tag_lacks h.tag refl)
-      (both_lack (lifetime_lacks h.ttl refl)
+      (both_lack (lifetime_lacks h.ttl h.shared refl)
       (both_lack (allow_lacks h.allow refl)
       (both_lack (number_lacks (codes "Quaestor-Commit") h.commit refl)
       (both_lack (number_lacks (codes "Quaestor-Version") h.version refl)
@@ -136,7 +137,7 @@ module _ (h : Head) (date : List ℕ) where
       ∙ behind name (media_field h.media) from_length (media_lacks h.media refl)
       ∙ behind name (number_field (codes "Content-Length") h.length) from_tag (number_lacks (codes "Content-Length") h.length refl))
       ∙ first_tag h.tag from_lifetime small
-      (both_lack (lifetime_lacks h.ttl refl)
+      (both_lack (lifetime_lacks h.ttl h.shared refl)
       (both_lack (allow_lacks h.allow refl)
       (both_lack (number_lacks (codes "Quaestor-Commit") h.commit refl)
       (both_lack (number_lacks (codes "Quaestor-Version") h.version refl)
@@ -150,7 +151,7 @@ module _ (h : Head) (date : List ℕ) where
       ∙ behind name (media_field h.media) from_length (media_lacks h.media refl)
       ∙ first_number name (codes "Content-Length") h.length from_tag refl
       (both_lack (tag_lacks h.tag refl)
-      (both_lack (lifetime_lacks h.ttl refl)
+      (both_lack (lifetime_lacks h.ttl h.shared refl)
       (both_lack (allow_lacks h.allow refl)
       (both_lack (number_lacks (codes "Quaestor-Commit") h.commit refl)
       (both_lack (number_lacks (codes "Quaestor-Version") h.version refl)
@@ -160,7 +161,7 @@ module _ (h : Head) (date : List ℕ) where
   abbrev before_lifetime : List Pair
   before_lifetime = date_field h.dated date ++ (media_field h.media ++ (number_field (codes "Content-Length") h.length ++ tag_field h.tag))
 
-  lifetime_between : head_fields h date ≡ before_lifetime ++ (lifetime_field h.ttl ++ from_allow)
+  lifetime_between : head_fields h date ≡ before_lifetime ++ (lifetime_field h.ttl h.shared ++ from_allow)
   unfolding head_fields
   lifetime_between =
       let d = date_field h.dated date in
@@ -170,10 +171,10 @@ module _ (h : Head) (date : List ℕ) where
       sym (append_assoc d (m ++ (l ++ t)) from_lifetime
       ∙ ap (λ (ps : List Pair). d ++ ps) (append_assoc m (l ++ t) from_lifetime ∙ ap (λ (ps : List Pair). m ++ ps) (append_assoc l t from_lifetime)))
 
-  values_printed : values (codes "cache-control") (head_fields h date) ≡ values (codes "cache-control") (lifetime_field h.ttl)
+  values_printed : values (codes "cache-control") (head_fields h date) ≡ values (codes "cache-control") (lifetime_field h.ttl h.shared)
   values_printed =
       ap (values (codes "cache-control")) lifetime_between
-      ∙ values_between (codes "cache-control") before_lifetime (lifetime_field h.ttl) from_allow
+      ∙ values_between (codes "cache-control") before_lifetime (lifetime_field h.ttl h.shared) from_allow
       (both_lack (date_lacks h.dated date refl)
       (both_lack (media_lacks h.media refl)
       (both_lack (number_lacks (codes "Content-Length") h.length refl) (tag_lacks h.tag refl))))
@@ -192,7 +193,7 @@ module _ (h : Head) (date : List ℕ) where
       (taken_on (media_taken h.media)
       (taken_on (length_taken h.length fits (both_lack (date_lacks h.dated date refl) (media_lacks h.media refl)))
       (taken_on (tag_taken h.tag (both_lack (both_lack (date_lacks h.dated date refl) (media_lacks h.media refl)) (number_lacks (codes "Content-Length") h.length refl)))
-      (taken_on (lifetime_taken h.ttl)
+      (taken_on (lifetime_taken h.ttl h.shared)
       (taken_on (allow_taken h.allow)
       (taken_on (commit_taken h.commit width.commit (front refl refl refl refl refl refl))
       (taken_on (version_taken h.version width.version (both_lack (front refl refl refl refl refl refl) (number_lacks (codes "Quaestor-Commit") h.commit refl)))
@@ -202,25 +203,28 @@ module _ (h : Head) (date : List ℕ) where
       front : {name : List ℕ} → str_eq_ignore_ascii_case (codes "Date") name ≡ false → str_eq_ignore_ascii_case (codes "Content-Type") name ≡ false
           → str_eq_ignore_ascii_case (codes "Content-Length") name ≡ false → str_eq_ignore_ascii_case (codes "ETag") name ≡ false
           → str_eq_ignore_ascii_case (codes "Cache-Control") name ≡ false → str_eq_ignore_ascii_case (codes "Allow") name ≡ false
-          → Lacks name (date_field h.dated date ++ media_field h.media ++ number_field (codes "Content-Length") h.length ++ tag_field h.tag ++ lifetime_field h.ttl ++ allow_field h.allow)
+          → Lacks name (date_field h.dated date ++ media_field h.media ++ number_field (codes "Content-Length") h.length ++ tag_field h.tag ++ lifetime_field h.ttl h.shared ++ allow_field h.allow)
       front d m l t c a =
           both_lack (both_lack (both_lack (both_lack (both_lack (date_lacks h.dated date d) (media_lacks h.media m)) (number_lacks (codes "Content-Length") h.length l))
-          (tag_lacks h.tag t)) (lifetime_lacks h.ttl c)) (allow_lacks h.allow a)
+          (tag_lacks h.tag t)) (lifetime_lacks h.ttl h.shared c)) (allow_lacks h.allow a)
 
 -- for how long it is fresh
-lifetime_printed : (ttl : ℕ) → ttl < 2 ^ 32
-    → lifetime_by (map trim_ows (flat_map (pieces_between 44) (values (codes "cache-control") (lifetime_field ttl)))) ≡ (if nat_lt 0 ttl then Some ttl else None)
+lifetime_printed : (ttl shared : ℕ) → ttl < 2 ^ 32
+    → lifetime_by (map trim_ows (flat_map (pieces_between 44) (values (codes "cache-control") (lifetime_field ttl shared)))) ≡ (if nat_lt 0 ttl then Some ttl else None)
 unfolding values
-lifetime_printed zero small = no_store_read
-lifetime_printed (suc n) small =
+lifetime_printed zero shared small = no_store_read
+lifetime_printed (suc n) zero small =
     let some : nat_lt 0 (suc n) ≡ true = lt-ltb 0 (suc n) (omega arith) in
     rw some (max_age_read (suc n) small)
+lifetime_printed (suc n) (suc m) small =
+    let some : nat_lt 0 (suc n) ≡ true = lt-ltb 0 (suc n) (omega arith) in
+    rw some (shared_read (suc n) (suc m) small)
 
 max_age_printed : (h : Head) (date : List ℕ) → h.ttl < 2 ^ 32
     → lifetime_by (directives (head_fields h date)) ≡ (if nat_lt 0 h.ttl then Some h.ttl else None)
 unfolding directives
 max_age_printed h date small =
-    ap (λ (vs : List (List ℕ)). lifetime_by (map trim_ows (flat_map (pieces_between 44) vs))) (values_printed h date) ∙ lifetime_printed h.ttl small
+    ap (λ (vs : List (List ℕ)). lifetime_by (map trim_ows (flat_map (pieces_between 44) vs))) (values_printed h date) ∙ lifetime_printed h.ttl h.shared small
 
 parts_read : (h : Head) (seconds : ℕ) (date : List ℕ) → IsInWidth h → date_in date ≡ Some seconds
     → parts_of h.status (head_fields h date) ≡ printed_parts h seconds

@@ -68,11 +68,22 @@ tag_short (Some n) small =
     one_short 100 (codes "ETag") (codes "\"" ++ (decimal n ++ codes "\""))
     (omega (arith, decimal_short n (small n refl), length-append (codes "\"") (decimal n ++ codes "\""), length-append (decimal n) (codes "\"")))
 
-lifetime_short : (ttl : ℕ) → ttl < 2 ^ 32 → IsShort 1 100 (lifetime_field ttl)
-lifetime_short zero small = one_short 100 (codes "Cache-Control") (codes "no-store") (omega arith)
-lifetime_short (suc n) small =
+lifetime_short : (ttl shared : ℕ) → ttl < 2 ^ 32 → shared < 2 ^ 32 → IsShort 1 100 (lifetime_field ttl shared)
+lifetime_short zero shared small low = one_short 100 (codes "Cache-Control") (codes "no-store") (omega arith)
+lifetime_short (suc n) zero small low =
     one_short 100 (codes "Cache-Control") (codes "max-age=" ++ decimal (suc n))
     (omega (arith, decimal_short (suc n) (omega (arith, small)), length-append (codes "max-age=") (decimal (suc n))))
+lifetime_short (suc n) (suc m) small low =
+    one_short 100 (codes "Cache-Control") (((codes "public, max-age=" ++ decimal (suc n)) ++ codes ", ") ++ (codes "s-maxage=" ++ decimal (suc m)))
+    (omega (
+      arith,
+      decimal_short (suc n) (omega (arith, small)),
+      decimal_short (suc m) (omega (arith, low)),
+      length-append ((codes "public, max-age=" ++ decimal (suc n)) ++ codes ", ") (codes "s-maxage=" ++ decimal (suc m)),
+      length-append (codes "public, max-age=" ++ decimal (suc n)) (codes ", "),
+      length-append (codes "public, max-age=") (decimal (suc n)),
+      length-append (codes "s-maxage=") (decimal (suc m)),
+    ))
 
 methods_short : (allow : Allow) → length (methods_text allow) ≤ 22
 methods_short Record = omega arith
@@ -118,7 +129,7 @@ fields_short : (h : Head) (date : List ℕ) → IsInWidth h → length date ≡ 
 unfolding head_fields
 fields_short h date width size =
     both_short (date_short h.dated date size) (both_short (media_short h.media) (both_short (number_short (codes "Content-Length") h.length (omega arith) width.length)
-    (both_short (tag_short h.tag width.tag) (both_short (lifetime_short h.ttl width.ttl) (both_short (allow_short h.allow)
+    (both_short (tag_short h.tag width.tag) (both_short (lifetime_short h.ttl h.shared width.ttl width.shared) (both_short (allow_short h.allow)
     (both_short (number_short (codes "Quaestor-Commit") h.commit (omega arith) width.commit)
     (both_short (number_short (codes "Quaestor-Version") h.version (omega arith) width.version)
     (both_short (number_short (codes "Quaestor-Until") h.until (omega arith) width.until) (both_short (pages_short h.leave h.calls width.leave) (close_short h.close))))))))))

@@ -11,7 +11,7 @@ use Rattle.http_message.specs.declared.refusal.FramingRefusal.TheVariants.{BadHe
 use Rattle.http_front.specs.ReplyText.{body_of, clock_of, given_body, head_of, is_asked, outcome_body, read_head, written_head}
 use Rattle.http_front.specs.declared.refused.DocumentReason.TheVariants.{NotJson, NotObject, TooDeep, NotWhole}
 use Rattle.http_front.specs.declared.refused.Refused.{Refused}
-use Rattle.http_front.specs.declared.refused.Refused.TheVariants.{Framing, BadHost, BadTarget, NoRoute, BadMethod, NoLength, BadEncoding, BadTag, BadFilter, BadDocument}
+use Rattle.http_front.specs.declared.refused.Refused.TheVariants.{Framing, BadHost, Misdirected, BadTarget, NoRoute, BadMethod, NoLength, BadEncoding, BadTag, BadFilter, BadDocument}
 use Rattle.http_front.specs.declared.shape.Shape.{Shape}
 use Rattle.http_front.specs.declared.told.Told.{Told}
 use Rattle.http_front.specs.declared.told.Told.TheVariants.{Write, Read, Match, Dropped, Page, Count, Purges, Refusal, Memory}
@@ -40,6 +40,7 @@ refusal_sized shape (Framing BadLength) clock size close quiet = rw quiet refl
 refusal_sized shape (Framing BadCoding) clock size close quiet = rw quiet refl
 refusal_sized shape (Framing BodyTooLarge) clock size close quiet = rw quiet refl
 refusal_sized shape BadHost clock size close quiet = rw quiet refl
+refusal_sized shape Misdirected clock size close quiet = rw quiet refl
 refusal_sized shape BadTarget clock size close quiet = rw quiet refl
 refusal_sized shape NoRoute clock size close quiet = rw quiet refl
 refusal_sized shape (BadMethod allow) clock size close quiet = rw quiet refl

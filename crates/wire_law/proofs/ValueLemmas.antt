@@ -3,7 +3,7 @@ use Rattle.std.proofs.Common.{◌≡◌, ℕ, zero, suc, ◌+◌, ◌-◌, ◌/�
 use Rattle.std.proofs.lemmas.Bool.{cases_Bool, and_parts, and_from, lt-ltb, le-leb, not-true}
 use Rattle.std.proofs.lemmas.Bool.Decides.{nat_tests}
 use Rattle.std.proofs.lemmas.Fmt.{decimal_nonempty, decimal_is_IsNumeral, length-decimal-le}
-use Rattle.std.proofs.lemmas.List.{length-append, get_or-append_right, reverse-reverse, take_at}
+use Rattle.std.proofs.lemmas.List.{append_assoc, length-append, get_or-append_right, reverse-reverse, take_at}
 use Rattle.std.proofs.lemmas.List.Elements.{All-head}
 use Rattle.std.proofs.lemmas.List.Sums.{AllPass-from_list_all}
 use Rattle.std.specs.Char.{is_ascii_digit}
@@ -176,6 +176,15 @@ one_piece (b ∷ text) digit =
     let other : (b == 44) ≡ false = grind (arith, nat_tests) in
     rw (other, one_piece text parts.1) refl
 
+-- and are one piece ahead of one
+piece_ahead : (text rest : List ℕ) → list_all is_ascii_digit text ≡ true → pieces_between 44 (text ++ (44 ∷ rest)) ≡ text ∷ pieces_between 44 rest
+piece_ahead [] rest digit = refl
+piece_ahead (b ∷ text) rest digit =
+    let parts = and_parts (is_ascii_digit b) (list_all is_ascii_digit text) digit in
+    let first = parts.0 in
+    let other : (b == 44) ≡ false = grind (arith, nat_tests) in
+    rw (other, piece_ahead text rest parts.1) refl
+
 -- a byte of a directive that is printed
 abbrev is_kept : ℕ → Bool
 is_kept b = not (is_ows b)
@@ -219,3 +228,30 @@ max_age_read n small =
     ap (λ (pieces : List (List ℕ)). lifetime_by (map trim_ows (pieces ++ []))) piece
     ∙ ap (λ (directive : List ℕ). lifetime_by (directive ∷ [])) trimmed
     ∙ seconds_read (decimal n) n (decimal_within 4294967295 n (omega (arith, small)) (omega (arith, small)))
+
+shared_seconds : (text other : List ℕ) (n : ℕ) → number_within 4294967295 text ≡ Some n
+    → lifetime_by (codes "public" ∷ (codes "max-age=" ++ text) ∷ (codes "s-maxage=" ++ other) ∷ []) ≡ Some n
+shared_seconds text other n is = rw is refl
+
+-- a lifetime beside one for shared caches
+pub shared_read : (n m : ℕ) → n < 2 ^ 32
+    → lifetime_by (map trim_ows (pieces_between 44 (((codes "public, max-age=" ++ decimal n) ++ codes ", ") ++ (codes "s-maxage=" ++ decimal m)) ++ [])) ≡ Some n
+unfolding trim_ows
+shared_read n m small =
+    let first = decimal_digits n in
+    let other = decimal_digits m in
+    let parted : ((codes "public, max-age=" ++ decimal n) ++ codes ", ") ++ (codes "s-maxage=" ++ decimal m)
+    ≡ codes "public, max-age=" ++ (decimal n ++ (44 ∷ (codes " s-maxage=" ++ decimal m))) =
+    ap (λ (t : List ℕ). codes "public, max-age=" ++ t) (append_assoc (decimal n) (codes ", ") (codes "s-maxage=" ++ decimal m)) in
+    let pieces : pieces_between 44 (codes "public, max-age=" ++ (decimal n ++ (44 ∷ (codes " s-maxage=" ++ decimal m))))
+    ≡ codes "public" ∷ (codes " max-age=" ++ decimal n) ∷ (codes " s-maxage=" ++ decimal m) ∷ [] =
+    rw (piece_ahead (decimal n) (codes " s-maxage=" ++ decimal m) first, one_piece (decimal m) other) refl in
+    let age : trim_ows (codes " max-age=" ++ decimal n) ≡ codes "max-age=" ++ decimal n =
+    trim_none (codes "max-age=" ++ decimal n) (digit_kept (decimal n) first) in
+    let shared : trim_ows (codes " s-maxage=" ++ decimal m) ≡ codes "s-maxage=" ++ decimal m =
+    trim_none (codes "s-maxage=" ++ decimal m) (digit_kept (decimal m) other) in
+    ap (λ (text : List ℕ). lifetime_by (map trim_ows (pieces_between 44 text ++ []))) parted
+    ∙ ap (λ (found : List (List ℕ)). lifetime_by (map trim_ows (found ++ []))) pieces
+    ∙ ap (λ (directive : List ℕ). lifetime_by (codes "public" ∷ directive ∷ trim_ows (codes " s-maxage=" ++ decimal m) ∷ [])) age
+    ∙ ap (λ (directive : List ℕ). lifetime_by (codes "public" ∷ (codes "max-age=" ++ decimal n) ∷ directive ∷ [])) shared
+    ∙ shared_seconds (decimal n) (decimal m) n (decimal_within 4294967295 n (omega (arith, small)) (omega (arith, small)))

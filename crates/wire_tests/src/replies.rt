@@ -34,6 +34,9 @@ store|Quaestor-Commit: 1||{'commit':1} = refused bad_reply 0
 HTTP/1.1 404 Not Found|Date: Thu, 01 Jan 1970 00:01:40 GMT|Content-Type: application/json|Content-Length\
 : 18|Cache-Control: max-age=3600|Quaestor-Commit: 0|Quaestor-Until: 3700||{'error':'absent'} = ok status\
 =404 commit=0 version=- until=3700 date=100 max_age=3600 tag=- lacks=00 taken=204
+HTTP/1.1 404 Not Found|Date: Thu, 01 Jan 1970 00:01:40 GMT|Content-Type: application/json|Content-Length\
+: 18|Cache-Control: public, max-age=3600, s-maxage=86400|Quaestor-Commit: 0|Quaestor-Until: 3700||{'err\
+or':'absent'} = ok status=404 commit=0 version=- until=3700 date=100 max_age=3600 tag=- lacks=00 taken=228
 HTTP/1.1 200 OK|Date: Sun, 09 Sep 2001 01:46:40 GMT|Content-Type: application/json|Content-Length: x|Con\
 tent-Length: 42|Cache-Control: no-store|| = refused bad_reply 102
 |HTTP/1.1 400 Bad Request|Date: Thu, 01 Jan 1970 00:00:00 GMT|Quaestor-Until: x|Content-Type: applicatio\
@@ -548,6 +551,6 @@ fn replies_are_read_as_in_the_vectors(rt: HostRuntime) -> Result<(), Fail> {
         assert_eq!(rt; answer.as_str(), wanted, "in a buffer, at {text}");
         assert!(rt; is_body, "the body in a buffer, at {text}");
     }
-    assert_eq!(rt; lines().lines().count(), 150);
+    assert_eq!(rt; lines().lines().count(), 151);
     Ok(())
 }

@@ -1,5 +1,5 @@
 -- What the replies of a store have: the result of the key at a commit, as a history has issued it.
-use Rattle.std.proofs.Common.{◌≡◌, ℕ, ◌+◌, ◌≤◌, true, false, List, [], ◌∷◌, ◌++◌, length, Contains, Option, Some, None, refl, sym, ap, ◌∙◌, subst, true≢false, length-append, arith}
+use Rattle.std.proofs.Common.{◌≡◌, ℕ, ◌+◌, ◌≤◌, true, false, List, [], ◌∷◌, ◌++◌, length, max, Contains, Option, Some, None, refl, sym, ap, ◌∙◌, subst, true≢false, length-append, arith}
 use Rattle.std.specs.Prelude.{◌==◌, IfSome}
 use Rattle.std.proofs.lemmas.Bool.{eqb-true}
 use Rattle.std.proofs.lemmas.List.Elements.{Contains-append_left, Contains-append_right}
@@ -11,11 +11,10 @@ use Rattle.hub_model.specs.Journal.{Finding, absent, present, queried, result_at
 use Rattle.hub_model.specs.Known.{known_at}
 use Rattle.hub_model.specs.KnownSince.{IsGreatestSame}
 use Rattle.hub_model.specs.Later.{IsLater}
-use Rattle.hub_model.specs.Lifetime.{ttl_of}
 use Rattle.hub_model.specs.Reply.{answered, outcome_of}
 use Rattle.hub_model.specs.Setting.{Setting}
 use Rattle.hub_model.specs.State.{IssuedCopy, State}
-use Rattle.hub_model.specs.Step.{has_read}
+use Rattle.hub_model.specs.Step.{copy_of_read, has_read}
 use Rattle.client_model.specs.declared.reply.Reply.{Reply}
 use Rattle.client_model.specs.Issued.{Has, text_of, status_of, version_of}
 use Rattle.cache_model.specs.Cache.{same_tag, updated}
@@ -94,7 +93,7 @@ commit_of a (present version tree) None = refl
 commit_of a (queried result) (Some tag) = refl
 commit_of a (queried result) None = refl
 
-until_with : (a : Answer) (f : Finding) (known : Option ℕ) → (reply_by a (outcome_of f known)).until ≡ a.clock + a.ttl
+until_with : (a : Answer) (f : Finding) (known : Option ℕ) → (reply_by a (outcome_of f known)).until ≡ a.clock + max a.ttl a.shared
 until_with a absent known = refl
 until_with a (present version tree) (Some tag) = refl
 until_with a (present version tree) None = refl
@@ -122,7 +121,7 @@ module _ (g : Setting) (s : State) (key : KeyShape) (tags : List ℕ) where
   after = has_read g key at s
 
   abbrev copy : IssuedCopy
-  copy = record { key = key; at = at; clock = s.clock; ttl = ttl_of g s key at }
+  copy = copy_of_read g s key at
 
   among : Contains after.copies copy
   among = Contains-append_right s.copies (copy ∷ []) copy (0, omega arith, refl)

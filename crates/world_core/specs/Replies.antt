@@ -1,5 +1,5 @@
 -- Internal. The store's answers as the replies that caches and clients see.
-use Rattle.std.specs.Prelude.{ℕ, zero, suc, ◌+◌, Bool, true, List, [], Option, Some, None, codes}
+use Rattle.std.specs.Prelude.{ℕ, zero, suc, ◌+◌, max, Bool, true, List, [], Option, Some, None, codes}
 use Rattle.client_model.specs.declared.reply.Reply.{Reply}
 use Rattle.hub_model.specs.declared.entry.Answer.{Answer}
 use Rattle.hub_model.specs.declared.entry.Found.{Found}
@@ -20,7 +20,7 @@ reply_with a status version tag body = record {
   status = status;
   commit = a.commit;
   version = version;
-  until = a.clock + a.ttl;
+  until = a.clock + max a.ttl a.shared;
   date = a.clock;
   max_age = max_age_of a.ttl;
   tag = tag;

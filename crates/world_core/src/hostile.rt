@@ -15,10 +15,10 @@ ghost use Rattle.world_core.specs.Link.{IsAnswer, IsAnswerOf, IsHeldReply, IsPag
 ghost use Rattle.world_core.specs.Store.{HasGrown, advanced, after_match, commits_in, state_in};
 
 use crate::link::{WorldLink, new_cache};
-use crate::reply::{copy_of, linked};
+use crate::reply::linked;
 use crate::store::Store;
 use cache_model::Manner;
-use client_model::Reply;
+use client_model::{Reply, copy_of};
 use client_session::{ClientAsk, LastReplies, Link, LinkRefusal};
 use flat_snapshot::Page;
 use hub_desk::Config;

@@ -14,10 +14,10 @@ ghost use Rattle.hub_model.specs.Record.{record_of};
 ghost use Rattle.world_core.specs.Link.{capacity, evicted, link_over, linked, turned, HoldsIssued, IsAnswer, IsAnswerOf, IsHeldReply, IsPageAnswer, IsPulled, IsPulledSome, IsPut, IsRead, IsReadThrough, IsSomeRead, IsUncounted, IsWrite, settled, told_by};
 ghost use Rattle.world_core.specs.Store.{HasGrown, advanced, after_match, commits_in, state_in};
 
-use crate::reply::{bare_reply, copy_of, linked, page_linked};
+use crate::reply::{bare_reply, linked, page_linked};
 use crate::store::Store;
 use cache_model::{Answer, Cache, Manner};
-use client_model::Reply;
+use client_model::{Reply, copy_of};
 use client_session::{ClientAsk, LastReplies, Link, LinkRefusal};
 use flat_snapshot::Page;
 use hub_desk::{Change, Condition};

@@ -14,7 +14,7 @@ use std::alloc::Global;
 pub fn read_reply(alloc: Global, answer: Answer) -> Result<Reply, Memory>
     ensures { IfOk result (λ reply. reply ≡ read_reply answer) }
 {
-    let until = answer.clock.seconds() + answer.ttl as u64;
+    let until = answer.clock.seconds() + u64::from(answer.ttl.max(answer.shared));
     let bare = Reply {
         status: 200,
         commit: answer.commit,
@@ -89,23 +89,6 @@ pub fn bare_reply(alloc: Global, status: u16, commit: Commit) -> Result<Reply, M
         max_age: None,
         tag: None,
         body: SharedText::of(alloc, Vec::new(alloc))?,
-    })
-}
-
-/// The same reply. Both share the body.
-pub fn copy_of(reply: &Reply) -> Result<Reply, Memory>
-    ensures { IfOk result (λ copy. copy ≡ reply.now) }
-{
-    let body = reply.body.clone()?;
-    Ok(Reply {
-        status: reply.status,
-        commit: reply.commit,
-        version: reply.version,
-        until: reply.until,
-        date: reply.date,
-        max_age: reply.max_age,
-        tag: reply.tag,
-        body,
     })
 }
 

@@ -7,8 +7,10 @@ ghost use Rattle.hub_desk.specs.Seated.{turnstile_of, seat_of, anchor_of};
 use super::Seated;
 use super::gives::{give_unchanged, give_with};
 use crate::desk::Desk;
+use crate::figures::Figures;
 use crate::hub_value::{HubValue, Noted};
 use crate::trim::{Trim, target_of};
+use crate::turn_time::TurnTime;
 use hub_core::PageRoom;
 use hub_model::laws::{commits_are_of_entries, longer_histories_are_later};
 use hub_model::{
@@ -17,10 +19,11 @@ use hub_model::{
 use q_base::{Memory, Moment};
 use query_normal::Key;
 use std::collections::LinkedList;
+use std::rt::Clock;
 use std::sync::Wait;
 use turnstile::Turnstile;
 
-impl<R: Wait> Desk for Seated<'_, R> {
+impl<R: Wait + Clock> Desk for Seated<'_, R> {
     /// The turnstile, and of the seat its number, the entries that it met, how many seats were split
     /// off it, what was seen at its joins, and the levels of the seats that it is made of and of those
     /// that were split off these.
@@ -67,6 +70,7 @@ impl<R: Wait> Desk for Seated<'_, R> {
         commits_are_of_entries();
         let mut turn = self.turnstile.take(self.rt, &mut self.seat);
         let mut value = turn.value();
+        let time = TurnTime::begin(self.rt, value.is_timed());
         match value.write(moment, &change, &condition) {
             Ok(written) => {
                 let entry = Entry::Write {
@@ -74,11 +78,11 @@ impl<R: Wait> Desk for Seated<'_, R> {
                     change,
                     condition,
                 };
-                give_with(turn, value, entry);
+                give_with(turn, value, entry, time.end(self.rt));
                 Ok(written)
             }
             Err(Memory) => {
-                give_unchanged(turn, value);
+                give_unchanged(turn, value, time.end(self.rt));
                 Err(Memory)
             }
         }
@@ -89,6 +93,7 @@ impl<R: Wait> Desk for Seated<'_, R> {
         longer_histories_are_later();
         let mut turn = self.turnstile.take(self.rt, &mut self.seat);
         let mut value = turn.value();
+        let time = TurnTime::begin(self.rt, value.is_timed());
         match value.read(moment, &key, &tags) {
             Ok(answer) => {
                 let at = answer.commit;
@@ -98,11 +103,11 @@ impl<R: Wait> Desk for Seated<'_, R> {
                     tags,
                     at,
                 };
-                give_with(turn, value, entry);
+                give_with(turn, value, entry, time.end(self.rt));
                 Ok(answer)
             }
             Err(Memory) => {
-                give_unchanged(turn, value);
+                give_unchanged(turn, value, time.end(self.rt));
                 Err(Memory)
             }
         }
@@ -111,21 +116,22 @@ impl<R: Wait> Desk for Seated<'_, R> {
     fn match_all(&mut self, moment: Moment) -> Result<Matched, Memory> {
         let mut turn = self.turnstile.take(self.rt, &mut self.seat);
         let mut value = turn.value();
+        let time = TurnTime::begin(self.rt, value.is_timed());
         let to = value.hub().commits();
         if value.hub().front() < to {
             match value.match_to(moment, to) {
                 Ok(matched) => {
-                    give_with(turn, value, Entry::Match { moment, to });
+                    give_with(turn, value, Entry::Match { moment, to }, time.end(self.rt));
                     Ok(matched)
                 }
                 Err(Memory) => {
-                    give_unchanged(turn, value);
+                    give_unchanged(turn, value, time.end(self.rt));
                     Err(Memory)
                 }
             }
         } else {
             let stats = value.tick(moment);
-            give_with(turn, value, Entry::Tick { moment });
+            give_with(turn, value, Entry::Tick { moment }, time.end(self.rt));
             Ok(Matched {
                 front: stats.front,
                 clock: stats.clock,
@@ -136,15 +142,21 @@ impl<R: Wait> Desk for Seated<'_, R> {
     fn drop_old(&mut self, moment: Moment, trim: Trim) -> Dropped {
         let mut turn = self.turnstile.take(self.rt, &mut self.seat);
         let mut value = turn.value();
+        let time = TurnTime::begin(self.rt, value.is_timed());
         let horizon = value.hub().horizon();
         let to = target_of(value.hub(), trim);
         if horizon < to {
             let dropped = value.drop_to(moment, to);
-            give_with(turn, value, Entry::Horizon { moment, to });
+            give_with(
+                turn,
+                value,
+                Entry::Horizon { moment, to },
+                time.end(self.rt),
+            );
             dropped
         } else {
             let stats = value.tick(moment);
-            give_with(turn, value, Entry::Tick { moment });
+            give_with(turn, value, Entry::Tick { moment }, time.end(self.rt));
             Dropped {
                 horizon,
                 clock: stats.clock,
@@ -155,20 +167,27 @@ impl<R: Wait> Desk for Seated<'_, R> {
     fn fetch(&mut self, moment: Moment, room: &mut PageRoom) {
         let mut turn = self.turnstile.take(self.rt, &mut self.seat);
         let mut value = turn.value();
+        let time = TurnTime::begin(self.rt, value.is_timed());
         value.fetch(moment, room);
-        give_with(turn, value, Entry::Fetch { moment });
+        give_with(turn, value, Entry::Fetch { moment }, time.end(self.rt));
     }
 
     fn purges(&mut self, moment: Moment, from: u64) -> Result<PurgeReply, Memory> {
         let mut turn = self.turnstile.take(self.rt, &mut self.seat);
         let mut value = turn.value();
+        let time = TurnTime::begin(self.rt, value.is_timed());
         match value.purges(moment, from) {
             Ok(reply) => {
-                give_with(turn, value, Entry::Purges { moment, from });
+                give_with(
+                    turn,
+                    value,
+                    Entry::Purges { moment, from },
+                    time.end(self.rt),
+                );
                 Ok(reply)
             }
             Err(Memory) => {
-                give_unchanged(turn, value);
+                give_unchanged(turn, value, time.end(self.rt));
                 Err(Memory)
             }
         }
@@ -177,8 +196,18 @@ impl<R: Wait> Desk for Seated<'_, R> {
     fn tick(&mut self, moment: Moment) -> Stats {
         let mut turn = self.turnstile.take(self.rt, &mut self.seat);
         let mut value = turn.value();
+        let time = TurnTime::begin(self.rt, value.is_timed());
         let stats = value.tick(moment);
-        give_with(turn, value, Entry::Tick { moment });
+        give_with(turn, value, Entry::Tick { moment }, time.end(self.rt));
         stats
+    }
+
+    fn figures(&mut self) -> Figures {
+        let mut turn = self.turnstile.take(self.rt, &mut self.seat);
+        let mut value = turn.value();
+        let time = TurnTime::begin(self.rt, value.is_timed());
+        let figures = value.figures();
+        give_unchanged(turn, value, time.end(self.rt));
+        figures
     }
 }

@@ -8,6 +8,7 @@ ghost use Rattle.turnstile.specs.Views.{in_phase, with_entries};
 ghost use Rattle.hub_desk.specs.HubValue.{hub_setting, entries_for, StandsFor};
 
 use crate::hub_value::{HubValue, Noted};
+use crate::turn_time::TurnTime;
 use hub_model::Entry;
 use std::marker::Brand;
 use turnstile::{Made, Turn};
@@ -18,7 +19,7 @@ impl Made<Noted> for Brand {
 }
 
 /// Gives the turn back with the value, where no entry was made.
-pub(super) fn give_unchanged(turn: Turn<'_, HubValue>, value: HubValue)
+pub(super) fn give_unchanged(turn: Turn<'_, HubValue>, mut value: HubValue, time: TurnTime)
     requires turn { IsTurnOf hub_setting turn.turnstile.now turn }
     requires out { IsOut turn.seat.now }
     requires stands { StandsFor value (turn_seen turn) }
@@ -26,11 +27,12 @@ pub(super) fn give_unchanged(turn: Turn<'_, HubValue>, value: HubValue)
     ensures same { IsSame turn.entry.seat.now turn.exit.0.now }
     ensures view { turn.exit.0.now.me ≡ (in_phase Free (with_entries [] turn.entry.seat.now.me.0), rest turn.entry.seat.now.me.1) }
 {
+    value.note_turn(time);
     turn.give::<Brand>(value);
 }
 
 /// Gives the turn back with the value, where the entries of a call for this one were made.
-pub(super) fn give_with(turn: Turn<'_, HubValue>, value: HubValue, entry: Entry)
+pub(super) fn give_with(turn: Turn<'_, HubValue>, mut value: HubValue, entry: Entry, time: TurnTime)
     requires turn { IsTurnOf hub_setting turn.turnstile.now turn }
     requires out { IsOut turn.seat.now }
     requires stands { StandsFor value (turn_seen turn ++ entries_for (setting_of hub_setting turn.turnstile.now) (turn_seen turn) entry) }
@@ -38,6 +40,7 @@ pub(super) fn give_with(turn: Turn<'_, HubValue>, value: HubValue, entry: Entry)
     ensures same { IsSame turn.entry.seat.now turn.exit.0.now }
     ensures view { turn.exit.0.now.me ≡ (in_phase Free (with_entries (entries_for (setting_of hub_setting turn.entry.turnstile.now) (turn_seen turn.entry) entry) turn.entry.seat.now.me.0), rest turn.entry.seat.now.me.1) }
 {
+    value.note_turn(time);
     give_made::<Brand>(turn, value, entry);
 }
 

@@ -16,7 +16,7 @@ returns-then-commits-front-lt-MOST_UNMATCHED-clause-matches c = λ s at.
     subst (λ (es : List Entry). IsAt (hub_of c.args.book.now c.args.front.now c.args.copies.now (record c.args.life.now { estimator = c.reserve_record.new.self })) (after_all c.args.copies.now.setting s es))
     (sym (help-none s c.args.moment c.args.front.now c.count-commits.result at.time.front (c.count-commits.ensures.count ∙ at.book.commits) (omega (arith, c.if-commits-front-lt-MOST_UNMATCHED.true))
     (omega (arith, c.requires.within, c.count-commits.ensures.count))))
-    (at-estimator c.args.book.now c.args.front.now c.args.copies.now c.args.life.now s at (record c.args.life.now { estimator = c.reserve_record.new.self }) c.reserve_record.ensures.extends (λ key. ap (λ (e : Estimated). kept_of e.keys key) c.reserve_record.ensures.rest) refl)
+    (at-estimator c.args.book.now c.args.front.now c.args.copies.now c.args.life.now s at (record c.args.life.now { estimator = c.reserve_record.new.self }) c.reserve_record.ensures.extends (λ key. ap (λ (e : Estimated). kept_of e.keys key) c.reserve_record.ensures.rest) refl refl)
 
 pub returns-then-commits-front-lt-MOST_UNMATCHED-clause-lifetimes : goal.returns-then-commits-front-lt-MOST_UNMATCHED-clause-lifetimes
 returns-then-commits-front-lt-MOST_UNMATCHED-clause-lifetimes c =

@@ -75,7 +75,7 @@ returns-in-Ok-clause-matches c = λ s at.
     let passed = c.pass.new.copies in
     let made : IsAt (hub_of book front reserved c.prepare.new.life) s =
     at-estimator book front reserved c.args.life.now s (at-invalidatable book front c.args.copies.now c.args.life.now s at reserved reserved.invalidatable c.in-Ok.ensures.rest) c.prepare.new.life c.in-Ok.ensures.records
-    (λ key. ap (λ (e : Estimated). kept_of e.keys key) c.in-Ok.ensures.estimator) c.in-Ok.ensures.texts in
+    (λ key. ap (λ (e : Estimated). kept_of e.keys key) c.in-Ok.ensures.estimator) c.in-Ok.ensures.texts c.in-Ok.ensures.absents in
     let moved : IsAt (hub_of book front passed c.pass.new.life) (at_moment s c.args.moment) =
     hub-passed book front reserved c.prepare.new.life s made passed c.pass.new.life c.args.moment (idle c) c.pass.ensures.passes c.pass.ensures.dropped in
     let limits : c.pass.new.life.estimator.limits ≡ limits_of g =
@@ -90,7 +90,8 @@ returns-in-Ok-clause-matches c = λ s at.
     hub-matched book front passed c.pass.new.life (at_moment s c.args.moment) moved c.args.to c.invalidate_all.new.copies c.note_purges.new.life g invalidations keys c.requires.forward
     (invalidations-later book.journal front c.args.to passed.clock reserved.copies passed.copies invalidations c.pass.ensures.passes.copies (are c))
     (λ key. c.invalidate_all.ensures.outdated key ∙ ap (λ (ms : List Invalidation). max (until_in passed.outdated key) (invalidated_until passed.copies ms key)) c.deref.ensures.value)
-    (ap (λ (h : CopiesView). h.clock) c.invalidate_all.ensures.rest) (ap (λ (h : CopiesView). h.copies) c.invalidate_all.ensures.rest)
+    (ap (λ (h : CopiesView). h.clock) c.invalidate_all.ensures.rest) (ap (λ (h : CopiesView). h.copies) c.invalidate_all.ensures.rest) (ap (λ (h : CopiesView). h.setting) c.invalidate_all.ensures.rest)
+    (ap (λ (l : Lifetimes). l.absents) c.note_purges.ensures.rest)
     c.in-Ok.ensures.once c.in-Ok.ensures.sorted each limits
     (ap (λ (l : Lifetimes). l.estimator.records) c.note_purges.ensures.rest) c.note_purges.ensures.texts
     (λ key. c.note_purges.ensures.kept key ∙ ap (λ (n : ℕ). if list_any (same_key key) keys then option_map (after_purge c.pass.new.life.estimator.limits n) (kept_of c.pass.new.life.estimator.keys key) else kept_of c.pass.new.life.estimator.keys key)
@@ -128,3 +129,8 @@ returns-in-Ok-clause-entered c = λ collection id.
 pub returns-in-Err-clause-lifetimes_still : goal.returns-in-Err-clause-lifetimes_still
 returns-in-Err-clause-lifetimes_still c =
     lifetimes-prepared c.args.book.now.journal c.args.front c.args.copies.now c.forget_invalidations-in-Err.new.self c.args.life.now c.prepare.new.life [] (c.forget_invalidations-in-Err.ensures ∙ ap (λ (h : CopiesView). record h { invalidatable = [] }) c.in-Err.ensures.rest) c.in-Err.ensures.estimator c.in-Err.ensures.changes c.in-Err.ensures.active c.requires.lifetimes
+
+-- the copies of absent records stay
+
+pub returns-in-Ok-clause-absents : goal.returns-in-Ok-clause-absents
+returns-in-Ok-clause-absents c = ap (λ (l : Lifetimes). l.absents) c.note_purges.ensures.rest ∙ ap (λ (l : Lifetimes). l.absents) c.pass.ensures.dropped.rest ∙ c.in-Ok.ensures.absents

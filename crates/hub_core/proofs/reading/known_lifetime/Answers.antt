@@ -3,6 +3,7 @@ use Rattle.std.proofs.Common.{◌+◌, ◌<◌, ◌≤◌, ◌∷◌, if◌then�
 use Rattle.std.proofs.lemmas.Bool.{cases_Bool}
 use Rattle.issued_expiries.specs.Copies.{SameCopies, latest_of}
 use Rattle.ttl_estimator.specs.Estimator.{lifetime}
+use Rattle.hub_model.specs.Lifetime.{kept_for}
 use Rattle.hub_core.proofs.IssueLemmas.{known-active, same-known}
 use Rattle.hub_core.proofs.ReadLemmas.{ids-none}
 use Rattle.hub_core.proofs.reading.known_lifetime.Goals as goal
@@ -31,11 +32,11 @@ pub returns-clause-same : goal.returns-clause-same
 returns-clause-same c =
     let copies = c.args.copies.now.copies in
     let key = c.args.key.now in
-    let last : c.args.copies.now.clock + c.ttl-ttl.result ≤ unwrap_or (latest_of copies key c.count-commit.result c.saturating_add.result) 0 = omega (arith, c.latest_until-until.ensures, c.clock-clock.ensures, c.seconds.ensures.same, c.if-until-seconds.false) in
+    let last : c.args.copies.now.clock + kept_for c.args.copies.now.setting c.ttl-ttl.result ≤ unwrap_or (latest_of copies key c.count-commit.result c.saturating_add.result) 0 = omega (arith, c.latest_until-until.ensures, c.clock-clock.ensures, c.seconds.ensures.same, c.kept_for.ensures, c.if-until-seconds.false) in
     elim (cases_Bool (nat_lt 0 c.ttl-ttl.result)) [
       | inl some ↦ (
-          subst (λ (b : Bool). SameCopies copies (if b then (key, length c.args.book.now.journal, c.args.copies.now.clock + c.ttl-ttl.result) ∷ copies else copies)) (sym some)
-          (subst (λ (n : ℕ). SameCopies copies ((key, n, c.args.copies.now.clock + c.ttl-ttl.result) ∷ copies)) c.count-commit.ensures.count
-          (same-known copies key c.count-commit.result c.saturating_add.result (near c) (known c) (c.args.copies.now.clock + c.ttl-ttl.result) last)))
-      | inr none ↦ subst (λ (b : Bool). SameCopies copies (if b then (key, length c.args.book.now.journal, c.args.copies.now.clock + c.ttl-ttl.result) ∷ copies else copies)) (sym none) (λ other test. refl)
+          subst (λ (b : Bool). SameCopies copies (if b then (key, length c.args.book.now.journal, c.args.copies.now.clock + kept_for c.args.copies.now.setting c.ttl-ttl.result) ∷ copies else copies)) (sym some)
+          (subst (λ (n : ℕ). SameCopies copies ((key, n, c.args.copies.now.clock + kept_for c.args.copies.now.setting c.ttl-ttl.result) ∷ copies)) c.count-commit.ensures.count
+          (same-known copies key c.count-commit.result c.saturating_add.result (near c) (known c) (c.args.copies.now.clock + kept_for c.args.copies.now.setting c.ttl-ttl.result) last)))
+      | inr none ↦ subst (λ (b : Bool). SameCopies copies (if b then (key, length c.args.book.now.journal, c.args.copies.now.clock + kept_for c.args.copies.now.setting c.ttl-ttl.result) ∷ copies else copies)) (sym none) (λ other test. refl)
     ]

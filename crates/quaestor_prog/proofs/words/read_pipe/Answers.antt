@@ -2,15 +2,12 @@
 use Rattle.std.proofs.Common.{refl, sym, subst, inl}
 use Rattle.quaestor_prog.specs.Commands.{pipe_app}
 use Rattle.quaestor_prog.specs.Words.{AreOptions, IsBadValue}
-use Rattle.quaestor_prog.proofs.CommandLemmas.{rows_are, taken_are, kinds_are, pipe_refused, asks_pipe}
+use Rattle.quaestor_prog.proofs.CommandLemmas.{rows_are, taken_are, kinds_are, pipe_asked, pipe_refused, asks_pipe}
 use Rattle.quaestor_prog.proofs.words.read_pipe.Goals as goal
 
 pub returns-in-Ok-pipe_options : goal.returns-in-Ok-pipe_options
-returns-in-Ok-pipe_options c = record {
-  named = c.requires;
-  taken = taken_are _ pipe_app _ c.in_ok-pipe_command.ensures refl c.in-Ok.ensures.kinds;
-  options = subst (λ rows. AreOptions rows c.in-Ok-pipe_options.options.config c.in-Ok-pipe_options.options.clock) (rows_are _ pipe_app _ _ c.in_ok-pipe_command.ensures refl c.in-Ok.ensures.matches) c.in-Ok-pipe_options.ensures.ok;
-}
+returns-in-Ok-pipe_options c = pipe_asked _ _ _ _ c.requires (taken_are _ pipe_app _ c.in_ok-pipe_command.ensures refl c.in-Ok.ensures.kinds)
+    (subst (λ rows. AreOptions rows (record c.in-Ok-pipe_options.options.config { hosts = c.in-Ok-pipe_options.hosts.now }) c.in-Ok-pipe_options.options.clock) (rows_are _ pipe_app _ _ c.in_ok-pipe_command.ensures refl c.in-Ok.ensures.matches) c.in-Ok-pipe_options.ensures.ok) c.pipe_with.ensures
 
 pub returns-in-Ok : goal.returns-in-Ok
 returns-in-Ok c =

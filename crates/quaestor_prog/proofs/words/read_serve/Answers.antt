@@ -11,7 +11,7 @@ serve_options-requires c = serve_address _ _ c.in_ok-serve_command.ensures c.in-
 
 pub returns-in-Ok-serve_options : goal.returns-in-Ok-serve_options
 returns-in-Ok-serve_options c = serve_asked _ _ _ c.requires (taken_are _ serve_app _ c.in_ok-serve_command.ensures refl c.in-Ok.ensures.kinds)
-    (subst (λ rows. AreServeOptions rows (asked_with c.in-Ok-serve_options.options c.in-Ok-serve_options.origins.now)) (rows_are _ serve_app _ _ c.in_ok-serve_command.ensures refl c.in-Ok.ensures.matches) c.in-Ok-serve_options.ensures.ok) c.serve_with.ensures
+    (subst (λ rows. AreServeOptions rows (asked_with c.in-Ok-serve_options.options c.in-Ok-serve_options.names)) (rows_are _ serve_app _ _ c.in_ok-serve_command.ensures refl c.in-Ok.ensures.matches) c.in-Ok-serve_options.ensures.ok) c.serve_with.ensures
 
 pub returns-in-Ok : goal.returns-in-Ok
 returns-in-Ok c =

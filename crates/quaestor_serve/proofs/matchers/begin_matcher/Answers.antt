@@ -6,7 +6,7 @@ use Rattle.quaestor_serve.proofs.matchers.begin_matcher.Goals as goal
 
 pub spawn_with-spawned-requires-send-F : goal.spawn_with-spawned-requires-send-F
 spawn_with-spawned-requires-send-F g c κs within =
-    let sent = matcher_send [] (copied 1 g.row.R) (param 0 g.row.C) c.type_bounds.send-R c.type_bounds.send-C in
+    let sent = matcher_send [] (copied 1 g.row.R) (param 0 g.row.C) (param 2 g.row.M) c.type_bounds.send-R c.type_bounds.send-C c.type_bounds.send-M in
     record { owned = sent.owned; leaving = leaves 2 _ sent }
 
 pub spawn_with-spawned-requires-send-T : goal.spawn_with-spawned-requires-send-T

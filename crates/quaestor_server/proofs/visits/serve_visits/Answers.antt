@@ -22,12 +22,16 @@ serve_visit-end-requires-clause-legal g c = legal_at _ _ _ (sym c.loop-visit.inv
 pub serve_visit-end-requires-clause-room : goal.serve_visit-end-requires-clause-room
 serve_visit-end-requires-clause-room g c =
     let i = c.loop-visit.invariant in
-    room_at _ _ _ _ (i.rooms ∙ c.requires.rooms ∙ sym i.setting) c.take-room.ensures.room
+    room_at _ _ _ c.take-room.result.config (i.rooms ∙ c.requires.rooms ∙ sym i.setting) c.take-room.ensures.room
 
 pub put-requires : goal.put-requires
 put-requires g c =
     let i = c.loop-visit.invariant in
-    record { room = room_at _ _ _ _ (i.setting ∙ sym c.requires.rooms ∙ sym i.rooms ∙ sym c.take-room.ensures.setting) c.serve_visit-end.ensures.room }
+    record {
+      room =
+          room_at _ _ _ c.serve_visit-end.new.room.config (i.setting ∙ sym c.requires.rooms ∙ sym i.rooms ∙ sym c.take-room.ensures.setting)
+          c.serve_visit-end.ensures.room;
+    }
 
 pub loop-visit-preserved : goal.loop-visit-preserved
 loop-visit-preserved g c =

@@ -11,6 +11,7 @@ returns c =
       tag = λ n told. search rules;
       length = λ n told. search rules;
       ttl = search rules;
+      shared = search rules;
       leave = c.allow-allow.ensures.tellable;
     } in
     fields_read c.args.head width

@@ -13,6 +13,7 @@ returns c =
       tag = λ n told. search rules;
       length = λ n told. search rules;
       ttl = search rules;
+      shared = search rules;
       leave = c.allow-allow.ensures.tellable;
     } in
     part_truncated c.args.head c.replies_read_back.ensures (omega (arith, code, c.as_u16-status.ensures.valid.1)) width

@@ -6,3 +6,6 @@ use Rattle.hub_core.proofs.config.ConfigRefusalDisplay.fmt.Goals as goal
 
 pub returns-in-BadTtl-clause-writes : goal.returns-in-BadTtl-clause-writes
 returns-in-BadTtl-clause-writes g c = λ plain ok. has_written_of_eq _ _ _ _ _ (sym (ap sentence c.in-BadTtl.is)) (c.write-in-BadTtl.ensures.writes plain ok)
+
+pub returns-in-BadTtls-clause-writes : goal.returns-in-BadTtls-clause-writes
+returns-in-BadTtls-clause-writes g c = λ plain ok. has_written_of_eq _ _ _ _ _ (sym (ap sentence c.in-BadTtls.is)) (c.write-in-BadTtls.ensures.writes plain ok)

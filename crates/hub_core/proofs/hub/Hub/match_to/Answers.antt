@@ -26,13 +26,13 @@ invariant_of-self c =
     let m = c.in_err-match_commits.ensures in
     sound-matched c.self.inside.book c.self.inside.front c.self.inside.front c.self.inside.copies c.match_commits.new.copies c.self.inside.queries.entries c.match_commits.new.queries.entries c.self.inside.life c.match_commits.new.life
     c.self.invariant c.self.invariant.kept c.self.invariant.within m.still m.lifetimes_still m.setting m.lean
-    (λ collection id. ap (λ (e : Estimated). has_entry e.records collection id) m.alike.estimator)
+    (λ collection id. ap (λ (e : Estimated). has_entry e.records collection id) m.alike.estimator) m.absents
 
 pub invariant_of-self-2 : goal.invariant_of-self-2
 invariant_of-self-2 c =
     let m = c.in_ok-match_commits.ensures in
     sound-matched c.self.inside.book c.self.inside.front c.args.to c.self.inside.copies c.match_commits.new.copies c.self.inside.queries.entries c.match_commits.new.queries.entries c.self.inside.life c.match_commits.new.life
-    c.self.invariant (let front : c.self.inside.front ≡ c.args.self.now.front = ap (λ (h : HubView). h.front) c.self.view_is in omega (arith, c.self.invariant.kept, front, c.requires.above)) (subst (λ (n : ℕ). c.args.to ≤ n) (sym (ap (λ (h : HubView). h.commits) c.self.view_is)) c.requires.within) m.kept m.lifetimes m.setting m.lean m.entered
+    c.self.invariant (let front : c.self.inside.front ≡ c.args.self.now.front = ap (λ (h : HubView). h.front) c.self.view_is in omega (arith, c.self.invariant.kept, front, c.requires.above)) (subst (λ (n : ℕ). c.args.to ≤ n) (sym (ap (λ (h : HubView). h.commits) c.self.view_is)) c.requires.within) m.kept m.lifetimes m.setting m.lean m.entered m.absents
 
 -- where memory ran out the sets have gone on, and all else is as before
 pub returns-in_err-match_commits-clause-memory : goal.returns-in_err-match_commits-clause-memory

@@ -3,6 +3,7 @@ use Rattle.std.proofs.Common.{◌≡◌, ◌&&◌, Bool, true, false, List, [], 
 use Rattle.std.specs.List.{list_any}
 use Rattle.query_normal.specs.declared.key.KeyShape.{KeyShape}
 use Rattle.issued_expiries.specs.Copies.{is_active}
+use Rattle.issued_expiries.specs.Expiries.{Issued}
 use Rattle.ttl_estimator.specs.Estimates.{is_known}
 use Rattle.ttl_estimator.specs.Estimator.{Estimated}
 use Rattle.commit_book.specs.Contents.{Contents}
@@ -35,6 +36,8 @@ invariant_of-result c =
         idle = search rules;
         ready = search rules;
         invalidatable = search rules;
+        absents_idle = ap (λ (a : Issued). a.idle) c.new-life.ensures.absents;
+        absents_ready = ap (λ (a : Issued). a.reserved) c.new-life.ensures.absents;
         writes = λ collection id. ap (λ (e : Estimated). has_entry e.records collection id) c.new-life.ensures.estimator ∙ sym (ap (λ (b : Contents). list_any (is_of collection id) b.journal) c.in_ok-new.ensures.empty);
         estimates = λ key. ap (λ (e : Estimated). is_known e.keys key) c.new-life.ensures.estimator ∙ sym (ap (λ (h : CopiesView). is_query key && is_active h.copies key) c.in_ok-new-2.ensures ∙ never (is_query key));
         sets = queried;
@@ -49,7 +52,7 @@ pub returns-clause-begins : goal.returns-clause-begins
 returns-clause-begins c =
     at-with c.in_ok-new.field-0 0 c.in_ok-new-2.field-0 c.new-3.result.entries c.new-life.result _
     (hub-begins c.in_ok-new.field-0 c.in_ok-new-2.field-0 c.new-life.result (ap (λ (b : Contents). b.journal) c.in_ok-new.ensures.empty) (ap (λ (b : Contents). b.horizon) c.in_ok-new.ensures.empty) (ap (λ (h : CopiesView). h.clock) c.in_ok-new-2.ensures) (ap (λ (h : CopiesView). h.copies) c.in_ok-new-2.ensures) (ap (λ (h : CopiesView). h.outdated) c.in_ok-new-2.ensures)
-    (ap (λ (e : Estimated). e.records) c.new-life.ensures.estimator) (ap (λ (e : Estimated). e.keys) c.new-life.ensures.estimator) c.new-life.ensures.purges)
+    (ap (λ (e : Estimated). e.records) c.new-life.ensures.estimator) (ap (λ (e : Estimated). e.keys) c.new-life.ensures.estimator) c.new-life.ensures.purges c.new-life.ensures.absents)
 
 pub returns-clause-lean : goal.returns-clause-lean
 returns-clause-lean c = (invariant_of-result c).lean

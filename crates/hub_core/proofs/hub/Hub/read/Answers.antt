@@ -1,6 +1,7 @@
 -- the answer is that of the key's kind
-use Rattle.std.proofs.Common.{sym, subst}
+use Rattle.std.proofs.Common.{sym, ap, ◌∙◌, subst}
 use Rattle.std.proofs.lemmas.Result.{IfOk-weaker, on_err_weaker}
+use Rattle.hub_core.specs.ActiveQueries.{is_query}
 use Rattle.hub_core.specs.HubState.{HubView, IsAt}
 use Rattle.hub_core.proofs.HubLemmas.{same-before, still-at}
 use Rattle.hub_core.proofs.hub.Hub.read.Goals as goal
@@ -32,3 +33,6 @@ returns-in-Record-clause-still c = on_err_weaker c.read_record.result (λ same. 
 
 pub returns-in-Query-clause-still : goal.returns-in-Query-clause-still
 returns-in-Query-clause-still c = on_err_weaker c.read_query.result (λ before. λ s at. still-at c.args.self.now c.read_query.new.self s before at) c.read_query.ensures.memory
+
+pub read_query-requires : goal.read_query-requires
+read_query-requires c = ap is_query (sym c.shape.ensures ∙ c.in-Query.is)

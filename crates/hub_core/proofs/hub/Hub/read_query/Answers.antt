@@ -9,10 +9,11 @@ use Rattle.hub_model.specs.State.{State, at_moment}
 use Rattle.hub_model.specs.Step.{has_read}
 use Rattle.hub_model.specs.declared.entry.Entry.TheVariants.{Read}
 use Rattle.ttl_estimator.specs.Estimator.{Estimated}
-use Rattle.hub_model.specs.Lifetime.{limits_of, ttl_of}
+use Rattle.hub_model.specs.Lifetime.{limits_of, shared_of, ttl_of}
 use Rattle.hub_core.specs.ActiveQueries.{KeepsQueries}
 use Rattle.hub_core.specs.HubState.{HubView, IsAt, IsSoundHub, hub_of}
 use Rattle.hub_core.specs.CopiesView.{CopiesView}
+use Rattle.hub_core.proofs.AbsentLemmas.{query-unbounded}
 use Rattle.hub_core.proofs.HubLemmas.{alike-before, as-before, at-estimates, at-ready, at-with, on_err_all, parts-at, sound-followed, sound-read}
 use Rattle.hub_core.proofs.KeepLemmas.{keeps-seen}
 use Rattle.hub_core.proofs.LifeLemmas.{lifetimes-reserved}
@@ -38,7 +39,7 @@ invariant_of-self-in_err-reserve_copy c =
     (c.follow_or_start.ensures.kept c.self.inside.front c.self.inside.copies.copies c.self.inside.copies.idle c.self.invariant.queries)))
 
 -- the queries are followed still
-kept-queries : (c : goal.After-clock) → KeepsQueries c.self.inside.book.journal c.self.inside.front c.reserve_copy.new.copies.copies c.reserve_copy.new.copies.idle c.follow_or_start.new.queries.entries
+kept-queries : (c : goal.After-shared_of) → KeepsQueries c.self.inside.book.journal c.self.inside.front c.reserve_copy.new.copies.copies c.reserve_copy.new.copies.idle c.follow_or_start.new.queries.entries
 kept-queries c =
     kept-alike c.self.inside.book.journal c.self.inside.front c.self.inside.copies c.reserve_copy.new.copies c.follow_or_start.new.queries.entries (ap (λ (h : CopiesView). h.copies) c.in_ok-reserve_copy.ensures.rest) (ap (λ (h : CopiesView). h.idle) c.in_ok-reserve_copy.ensures.rest)
     (c.follow_or_start.ensures.kept c.self.inside.front c.self.inside.copies.copies c.self.inside.copies.idle c.self.invariant.queries)
@@ -59,32 +60,34 @@ outcome_at-requires-clause-following c = (c.follow_or_start.ensures.kept c.self.
 -- ---- the copy
 
 -- the hub with its memory ready
-ready : (c : goal.After-clock) (s : State) → IsAt c.args.self.now s → IsAt (hub_of c.self.inside.book c.self.inside.front c.reserve_copy.new.copies (record c.self.inside.life { estimator = c.reserve_copy.new.estimator })) s
+ready : (c : goal.After-shared_of) (s : State) → IsAt c.args.self.now s → IsAt (hub_of c.self.inside.book c.self.inside.front c.reserve_copy.new.copies (record c.self.inside.life { estimator = c.reserve_copy.new.estimator })) s
 ready c s at =
     at-estimates c.self.inside.book c.self.inside.front c.reserve_copy.new.copies c.self.inside.life s
     (at-ready c.self.inside.book c.self.inside.front c.self.inside.copies c.self.inside.life s (parts-at c.self.inside.book c.self.inside.front c.self.inside.copies c.self.inside.queries.entries c.self.inside.life c.args.self.now s c.self.view_is at) c.reserve_copy.new.copies c.in_ok-reserve_copy.ensures.rest)
     c.reserve_copy.new.estimator c.in_ok-reserve_copy.ensures.estimates c.in_ok-reserve_copy.ensures.kept
 
-setting : (c : goal.After-clock) → c.reserve_copy.new.copies.setting ≡ c.args.self.now.setting
+setting : (c : goal.After-shared_of) → c.reserve_copy.new.copies.setting ≡ c.args.self.now.setting
 setting c = ap (λ (h : CopiesView). h.setting) c.in_ok-reserve_copy.ensures.rest ∙ ap (λ (h : HubView). h.setting) c.self.view_is
 
-stands : (c : goal.After-clock) (s : State) → IsAt c.args.self.now s → IsAt (hub_of c.self.inside.book c.self.inside.front c.issue_copy-ttl.new.copies c.issue_copy-ttl.new.life) (has_read c.args.self.now.setting c.args.key.now c.count.result (at_moment s c.args.moment))
+stands : (c : goal.After-shared_of) (s : State) → IsAt c.args.self.now s → IsAt (hub_of c.self.inside.book c.self.inside.front c.issue_copy-ttl.new.copies c.issue_copy-ttl.new.life) (has_read c.args.self.now.setting c.args.key.now c.count.result (at_moment s c.args.moment))
 stands c s at =
     subst (λ (g : Setting). IsAt (hub_of c.self.inside.book c.self.inside.front c.issue_copy-ttl.new.copies c.issue_copy-ttl.new.life) (has_read g c.args.key.now c.count.result (at_moment s c.args.moment))) (setting c)
     (subst (λ (n : ℕ). IsAt (hub_of c.self.inside.book c.self.inside.front c.issue_copy-ttl.new.copies c.issue_copy-ttl.new.life) (has_read c.reserve_copy.new.copies.setting c.args.key.now n (at_moment s c.args.moment))) (sym c.count.ensures.count)
     (c.issue_copy-ttl.ensures.issued c.self.inside.front s c.self.invariant.within (ap (λ (h : CopiesView). h.idle) c.in_ok-reserve_copy.ensures.rest ∙ c.self.invariant.lean.idle) (ready c s at)))
 
-told : (c : goal.After-clock) (s : State) → IsAt c.args.self.now s → read (record { commit = c.count.result; clock = c.clock.result; ttl = c.issue_copy-ttl.result; result = c.in_ok-result.result }) ≡ reply_in c.args.self.now.setting s (Read c.args.moment c.args.key.now c.args.tags.now c.count.result)
+told : (c : goal.After-shared_of) (s : State) → IsAt c.args.self.now s → read (record { commit = c.count.result; clock = c.clock.result; ttl = c.issue_copy-ttl.result; shared = c.shared_of.result; result = c.in_ok-result.result }) ≡ reply_in c.args.self.now.setting s (Read c.args.moment c.args.key.now c.args.tags.now c.count.result)
 told c s at =
     let last = c.count.ensures.count in
     let clock : c.clock.result ≡ max s.clock c.args.moment = c.clock.ensures ∙ (stands c s at).time.clock in
     let ttl : c.issue_copy-ttl.result ≡ ttl_of c.args.self.now.setting (at_moment s c.args.moment) c.args.key.now c.count.result =
     c.issue_copy-ttl.ensures.ttl c.self.inside.front s (ready c s at) ∙ ap (λ (g : Setting). ttl_of g (at_moment s c.args.moment) c.args.key.now (length c.self.inside.book.journal)) (setting c) ∙ ap (ttl_of c.args.self.now.setting (at_moment s c.args.moment) c.args.key.now) (sym last) in
+    let shared : c.shared_of.result ≡ shared_of c.args.self.now.setting (ttl_of c.args.self.now.setting (at_moment s c.args.moment) c.args.key.now c.count.result) =
+    c.shared_of.ensures ∙ ap₂ shared_of (c.issue_copy-ttl.ensures.setting ∙ setting c) ttl in
     let found =
     c.in_ok-result.ensures
     ∙ ap (λ (n : ℕ). outcome_of (result_at c.args.key.now c.self.inside.book.journal n) (known_at c.args.key.now c.self.inside.book.journal c.self.inside.book.horizon n c.args.tags.now)) (sym last)
     ∙ ap₂ (λ (xs : List Change) (h : ℕ). outcome_of (result_at c.args.key.now xs c.count.result) (known_at c.args.key.now xs h c.count.result c.args.tags.now)) (ready c s at).book.rows (ready c s at).book.horizon in
-    (λ i. read (record { commit = c.count.result; clock = clock i; ttl = ttl i; result = found i }))
+    (λ i. read (record { commit = c.count.result; clock = clock i; ttl = ttl i; shared = shared i; result = found i }))
 
 pub returns-clause-answers : goal.returns-clause-answers
 returns-clause-answers c = record {
@@ -93,7 +96,20 @@ returns-clause-answers c = record {
   stands = λ s at. at-with c.self.inside.book c.self.inside.front c.issue_copy-ttl.new.copies c.issue_copy-ttl.new.queries.entries c.issue_copy-ttl.new.life _ (stands c s at);
 }
 
--- ---- what the copy needs of the estimator
+-- ---- what the copy needs
+
+-- no lifetime of a query is bounded
+pub issue_copy-ttl-requires-clause-bounded : goal.issue_copy-ttl-requires-clause-bounded
+issue_copy-ttl-requires-clause-bounded c = query-unbounded c.reserve_copy.new.copies.setting c.args.key.now c.self.inside.book.journal (length c.self.inside.book.journal) c.requires
+
+pub issue_copy-ttl-requires-clause-absent : goal.issue_copy-ttl-requires-clause-absent
+issue_copy-ttl-requires-clause-absent c = λ bounded. absurd (let e = bounded in cc)
+
+pub issue_copy-ttl-requires-clause-present : goal.issue_copy-ttl-requires-clause-present
+issue_copy-ttl-requires-clause-present c = λ unbounded. c.self.invariant.lean.absents_ready
+
+pub issue_copy-ttl-requires-clause-absents_idle : goal.issue_copy-ttl-requires-clause-absents_idle
+issue_copy-ttl-requires-clause-absents_idle c = c.self.invariant.lean.absents_idle
 
 pub issue_copy-ttl-requires-clause-following : goal.issue_copy-ttl-requires-clause-following
 issue_copy-ttl-requires-clause-following c = (c.follow_or_start.ensures.kept c.self.inside.front c.self.inside.copies.copies c.self.inside.copies.idle c.self.invariant.queries).following
@@ -117,7 +133,7 @@ invariant_of-self-2 c =
     c.in_ok-reserve_copy.ensures.estimates c.in_ok-reserve_copy.ensures.kept c.in_ok-reserve_copy.ensures.known c.in_ok-reserve_copy.ensures.others))
     (c.issue_copy-ttl.ensures.setting ∙ ap (λ (h : CopiesView). h.setting) rest) c.issue_copy-ttl.ensures.idle c.issue_copy-ttl.ensures.ready
     (c.issue_copy-ttl.ensures.invalidatable ∙ ap (λ (h : CopiesView). h.invalidatable) rest)
-    (c.issue_copy-ttl.ensures.writes ∙ ap (λ (e : Estimated). e.records) c.in_ok-reserve_copy.ensures.estimates)
+    (c.issue_copy-ttl.ensures.writes ∙ ap (λ (e : Estimated). e.records) c.in_ok-reserve_copy.ensures.estimates) c.issue_copy-ttl.ensures.absents_idle c.issue_copy-ttl.ensures.absents_ready
 
 -- ---- nothing is kept but what the history needs
 
@@ -140,7 +156,7 @@ pub returns-in_err-reserve_copy-clause-memory : goal.returns-in_err-reserve_copy
 returns-in_err-reserve_copy-clause-memory c =
     on_err_all c.from_residual-in_err-reserve_copy.result _
     (alike-before c.self.inside.book c.self.inside.front c.self.inside.copies c.self.inside.queries.entries c.self.inside.life c.self.inside.book c.self.inside.front c.reserve_copy.new.copies c.follow_or_start.new.queries.entries (record c.self.inside.life { estimator = c.reserve_copy.new.estimator }) c.args.self.now c.self.view_is refl refl c.in_err-reserve_copy.ensures.err
-    (record { estimator = c.in_err-reserve_copy.ensures.estimator; texts = refl }) c.follow_or_start.ensures.gone_on)
+    (record { estimator = c.in_err-reserve_copy.ensures.estimator; texts = refl; absents = refl }) c.follow_or_start.ensures.gone_on)
 
 pub returns-in_err-started-clause-lean : goal.returns-in_err-started-clause-lean
 returns-in_err-started-clause-lean c = (invariant_of-self c).lean

@@ -106,7 +106,7 @@ sound c =
     c.self.inside.queries.entries c.make_way.new.queries.entries c.pass-in-Ok-make_way.new.queries.entries c.self.inside.life c.make_way.new.life c.pass-in-Ok-make_way.new.life c.note_write.new.self
     c.args.change.now c.args.moment c.self.invariant reserved (omega (arith, c.self.invariant.kept, forward)) helped.within helped.lean helped.setting helped.kept helped.lifetimes
     passed.passes passed.idle passed.kept passed.dropped c.note_write.ensures.rest (c.add_reserved.ensures.after c.args.change.now (ap (λ (b : Contents). b.reserved) reserved)) c.add_reserved.ensures.names c.queries_follow_longer_journals.ensures.all
-    helped.entered (entry-noted c.args.change.now c.pass-in-Ok-make_way.new.life.estimator.records c.note_write.new.self.records _ c.note_write.ensures.written)
+    helped.entered (entry-noted c.args.change.now c.pass-in-Ok-make_way.new.life.estimator.records c.note_write.new.self.records _ c.note_write.ensures.written) helped.absents
 
 pub invariant_of-self-in-Ok-make_way : goal.invariant_of-self-in-Ok-make_way
 invariant_of-self-in-Ok-make_way c = sound c
@@ -239,7 +239,7 @@ invariant_of-self-in-Err c =
     (subst (λ (b : Contents). c.make_way.new.front ≤ length b.journal) c.in-Ok.ensures.after m.within)
     (subst (λ (b : Contents). KeepsQueries b.journal c.make_way.new.front c.make_way.new.copies.copies c.make_way.new.copies.idle c.make_way.new.queries.entries) c.in-Ok.ensures.after m.kept)
     (subst (λ (b : Contents). KeepsLifetimes b.journal c.make_way.new.front c.make_way.new.copies c.make_way.new.life) c.in-Ok.ensures.after m.lifetimes)
-    m.setting m.lean (λ collection id. ap (λ (e : Estimated). has_entry e.records collection id) m.alike.estimator))
+    m.setting m.lean (λ collection id. ap (λ (e : Estimated). has_entry e.records collection id) m.alike.estimator) m.absents)
 
 pub returns-in-Err-clause-lean : goal.returns-in-Err-clause-lean
 returns-in-Err-clause-lean c = (invariant_of-self-in-Err c).lean

@@ -1,18 +1,18 @@
 -- the desk answered at the clock's moment, and the sink was given the text of its reply
-use Rattle.std.proofs.Common.{ℕ, List, refl, true, ap, ◌∙◌}
+use Rattle.std.proofs.Common.{ℕ, List, [], refl, true, ap, ◌∙◌}
 use Rattle.http_message.specs.Item.{unframed}
 use Rattle.quaestor_server.specs.Ask.{asked_by, shape_by}
-use Rattle.quaestor_server.proofs.AnswerLemmas.{can_still, origins_still}
+use Rattle.quaestor_server.proofs.AnswerLemmas.{can_still, hosts_still, origins_still}
 use Rattle.quaestor_server.proofs.ConversationLemmas.{replies}
 use Rattle.quaestor_server.proofs.responder.ResponderAnswers.refuse.Goals as goal
 
 pub returns-clause-can : goal.returns-clause-can
 returns-clause-can g c =
-    let answered = c.answer-told.ensures.answer true (asked_by (unframed c.args.refused true c.args.head)) (λ known. refl) refl in
+    let answered = c.answer-told.ensures.answer true (asked_by [] (unframed c.args.refused true c.args.head)) (λ known. refl) refl in
     let still = can_still _ _ _ _ _ _ _ _ _ _ _ _ _ c.answer-told.ensures.setting c.requires.0 answered c.answer-told.ensures.room in
-    (still.0, still.1, c.requires.2, origins_still _ _ _ c.answer-told.ensures.setting c.requires.3)
+    (still.0, still.1, c.requires.2, origins_still _ _ _ c.answer-told.ensures.setting c.requires.3, hosts_still _ _ _ c.answer-told.ensures.setting c.requires.4)
 
 pub returns-clause-reply : goal.returns-clause-reply
 returns-clause-reply g c = λ called.
-    let answered = c.answer-told.ensures.answer true (asked_by (unframed c.args.refused called c.args.head)) (λ known. refl) refl in
-    replies g.D.Desk.setting g.D.Desk.may_be_unready g.D.Desk.seen g.D.Desk.mine g.C.Clock.tick _ _ _ _ (unframed c.args.refused called c.args.head) true _ _ _ _ _ _ _ _ c.answer-told.ensures.setting c.now-moment.ensures (c.unframed-shape.ensures ∙ ap (λ (o : List ℕ). shape_by o (unframed c.args.refused called c.args.head)) c.requires.3) c.bytes.ensures answered c.give_reply.ensures.reply
+    let answered = c.answer-told.ensures.answer true (asked_by [] (unframed c.args.refused called c.args.head)) (λ known. refl) refl in
+    replies g.D.Desk.setting g.D.Desk.may_be_unready g.D.Desk.seen g.D.Desk.mine g.C.Clock.tick _ _ _ _ (unframed c.args.refused called c.args.head) true _ _ _ _ _ _ _ _ c.answer-told.ensures.setting c.now-moment.ensures (c.unframed-shape.ensures ∙ ap (λ (o : List ℕ). shape_by o (unframed c.args.refused called c.args.head)) c.requires.3) c.bytes.ensures answered c.give_noted.ensures.reply

@@ -1,0 +1,44 @@
+//! Who watches a server, by its command line.
+ghost use Rattle.std.specs.Prelude.{◌≡◌, ◌↔◌, true, None, option_map, IfErr, IfOk, IsTrue};
+ghost use Rattle.clap.specs.Words.{first_of, found_of, rows_of};
+ghost use Rattle.quaestor_prog.specs.Places.{WatchAsk, watch_of};
+ghost use Rattle.quaestor_prog.specs.Words.{AreWatching, IsBadValue, is_given};
+
+use crate::places::Watching;
+use crate::refusal::BadValue;
+use crate::words::value_of;
+use clap::ArgMatches;
+
+/// Where the figures of a server are asked for, where its requests are logged, and in which form. The form
+/// of a log is not given without one.
+pub(crate) fn watching_of<'a>(matches: &ArgMatches<'a>) -> Result<Watching<'a>, BadValue<'a>>
+    ensures ok { IfOk result (λ w. AreWatching (rows_of (found_of matches.now)) (watch_of w)) }
+    ensures err { IfErr result (λ _. (w : WatchAsk) → AreWatching (rows_of (found_of matches.now)) w → ⊥) }
+    ensures value { IfErr result (IsBadValue (rows_of (found_of matches.now))) }
+{
+    let metrics = value_of(matches, "metrics");
+    let log = value_of(matches, "log");
+    let json = is_given(matches, "log-json");
+    if is_alone(json, log) {
+        Err(BadValue::NoLog)
+    } else {
+        Ok(Watching { metrics, log, json })
+    }
+}
+
+/// Whether the form of a log is given, and no log.
+fn is_alone(json: bool, log: Option<&str>) -> bool
+    ensures { IsTrue result ↔ ((json ≡ true) × (option_map (λ s. s.now) log.entry ≡ None)) }
+{
+    json && log.is_none()
+}
+
+/// Whether an option without a value is given.
+fn is_given(matches: &ArgMatches<'_>, option: &str) -> bool
+    ensures { result ≡ is_given (first_of option.now (rows_of (found_of matches.now))) }
+{
+    match value_of(matches, option) {
+        Some(found) => found == "true",
+        None => false,
+    }
+}
