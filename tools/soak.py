@@ -5,7 +5,7 @@ Each ten seconds a line says how many writes were answered, how fast, and which 
 where each write was accepted, and where the memory at the end is that after 100,000 writes within a tenth; else with what
 was not so and the status 1. The options are those of `serve`, `--keep 10000` where none is given: without it the store
 grows until three quarters of its capacity are full, and is to be as large only from there on. The program is what
-`make program` built, or else dist/quaestor."""
+`make program` built, or else dist/quaestor. It is started with as many heaps as ./quaestor gives it."""
 import multiprocessing
 import os
 import re
@@ -67,7 +67,8 @@ def resident(process):
 
 
 def main():
-    how = {"stdin": subprocess.DEVNULL, "stdout": subprocess.PIPE, "text": True}
+    heaps = {"MALLOC_ARENA_MAX": "4", **os.environ}
+    how = {"stdin": subprocess.DEVNULL, "stdout": subprocess.PIPE, "text": True, "env": heaps}
     server = subprocess.Popen([PROGRAM, "serve", "127.0.0.1:0", "--workers", "64", *OPTIONS], **how)
     try:
         port = int(server.stdout.readline().rsplit(":", 1)[1])
