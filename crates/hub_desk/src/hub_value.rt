@@ -10,6 +10,7 @@ ghost use Rattle.hub_desk.specs.HubValue.{hub_setting, StandsFor, StandsStill, A
 
 use crate::figures::{Figures, figures_of};
 use crate::laws::calls_make_entries;
+use crate::trim::{Trim, is_far_behind};
 use crate::turn_time::TurnTime;
 use hub_core::{Config, Hub, PageRoom, hubs_represent_histories};
 use hub_model::laws::{front_is_within, helps_are_told_by_the_front};
@@ -45,11 +46,14 @@ impl Model for Noted {
 const WINDOW: u64 = 60_000_000;
 
 /// A hub, and how many entries the history has that it represents. The hub is on the heap, so that a
-/// turn moves a few words. How many turns were taken, and how long they were, no clause reads.
+/// turn moves a few words. How many turns were taken, how long they were, and when writers rest, no clause
+/// reads.
 #[derive(Drop)]
 pub struct HubValue {
     hub: Box<Hub, Global>,
     count: u64,
+    /// The trim by which old changes are dropped, where writers rest while that is far behind.
+    pace: Option<Trim>,
     /// How many turns were taken.
     turns: u64,
     /// Whether they are timed: from the first time on that the figures are asked for.
@@ -111,12 +115,31 @@ impl HubValue {
         Ok(HubValue {
             hub,
             count: 0,
+            pace: None,
             turns: 0,
             is_timed: false,
             window: 0,
             longest: 0,
             longest_before: 0,
         })
+    }
+
+    /// The same value, whose writers rest while the dropping by this trim is far behind.
+    pub fn paced(self, trim: Trim) -> HubValue
+        ensures { result ≡ self }
+    {
+        HubValue {
+            pace: Some(trim),
+            ..self
+        }
+    }
+
+    /// Whether writers should rest before their next turn.
+    pub(crate) fn is_behind(&self) -> bool {
+        match self.pace {
+            Some(trim) => is_far_behind(self.hub(), trim),
+            None => false,
+        }
     }
 
     /// The hub.

@@ -4,11 +4,16 @@ ghost use Rattle.hub_desk.specs.HubValue.{hub_setting};
 
 use crate::hub_value::HubValue;
 use std::sync::Wait;
+use std::sync::atomic::AtomicU64;
+use std::time::Duration;
 use turnstile::{Seat, Turnstile};
 
 mod calls;
 mod ends;
 mod gives;
+
+/// How long a writer rests where the dropping of old changes is far behind, in milliseconds.
+const REST: u64 = 1;
 
 /// A seat that has no turn, with its turnstile. Each call that makes an entry takes the turn and gives
 /// it back.
@@ -17,5 +22,12 @@ pub struct Seated<'g, R: Wait> {
     rt: &'g R,
     turnstile: &'g Turnstile<HubValue>,
     seat: Seat<HubValue>,
+    /// Whether the last write found that the dropping of old changes is far behind. No clause reads it.
+    is_behind: bool,
     ghost seated: { IsSeatOf hub_setting turnstile.now seat × IsIdle seat },
+}
+
+/// Rests for a while, so that others get a processor.
+fn rest<R: Wait>(rt: &R) {
+    AtomicU64::new(0).park_timeout(rt, 0, Duration::from_millis(REST));
 }

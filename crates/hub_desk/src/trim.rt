@@ -14,6 +14,9 @@ const MOST_DROPPED: u64 = 4_096;
 /// What the greatest change takes, in bytes.
 const GREATEST_COST: u64 = 65_728;
 
+/// How many commits more may be kept than a trim leaves, until writers rest.
+const MOST_BEHIND: u64 = 16_384;
+
 /// Up to where a call drops old changes: none above the front.
 #[derive(Clone, Copy, Debug, PartialEq, Eq)]
 pub enum Trim {
@@ -43,6 +46,22 @@ pub(crate) fn target_of(hub: &Hub, trim: Trim) -> Commit
             }
         }
     }
+}
+
+/// Whether so many more commits are kept than a trim leaves that writers should rest until some are dropped:
+/// those who drop have had no processor for a while. No clause reads it.
+pub(crate) fn is_far_behind(hub: &Hub, trim: Trim) -> bool {
+    let kept = hub.commits().saturating_sub(hub.horizon());
+    match trim {
+        Trim::All => kept > MOST_BEHIND,
+        Trim::Below { commits } => kept > commits.saturating_add(MOST_BEHIND),
+        Trim::Full => kept > MOST_BEHIND && is_nearly_full(hub.capacity(), hub.bytes()),
+    }
+}
+
+/// Whether more than seven eighths of a capacity are kept, both in bytes.
+fn is_nearly_full(capacity: u64, kept: u64) -> bool {
+    7 * u128::from(capacity) < 8 * u128::from(kept)
 }
 
 /// From a horizon to a commit, or part of the way there.

@@ -65,7 +65,8 @@ where
     let positions = positions_of(alloc, places)?;
     let running = VecDeque::with_capacity(alloc, places as usize)?;
     let endings = Arc::new(alloc, Endings::new(alloc, places)?)?;
-    let (turnstile, seat) = Turnstile::open(alloc, HubValue::new(alloc, config)?)?;
+    let value = HubValue::new(alloc, config)?.paced(crew.trim);
+    let (turnstile, seat) = Turnstile::open(alloc, value)?;
     let turnstile = Arc::new(alloc, turnstile)?;
     Ok(Hall {
         turnstile,

@@ -4,8 +4,8 @@ ghost use Rattle.turnstile.specs.Seats.{seen, mine, setting_of};
 ghost use Rattle.hub_desk.specs.HubValue.{hub_setting};
 ghost use Rattle.hub_desk.specs.Seated.{turnstile_of, seat_of, anchor_of};
 
-use super::Seated;
 use super::gives::{give_unchanged, give_with};
+use super::{Seated, rest};
 use crate::desk::Desk;
 use crate::figures::Figures;
 use crate::hub_value::{HubValue, Noted};
@@ -68,6 +68,9 @@ impl<R: Wait + Clock> Desk for Seated<'_, R> {
     ) -> Result<Written, Memory> {
         // The law by which there is a number for the next commit.
         commits_are_of_entries();
+        if self.is_behind {
+            rest(self.rt);
+        }
         let mut turn = self.turnstile.take(self.rt, &mut self.seat);
         let mut value = turn.value();
         let time = TurnTime::begin(self.rt, value.is_timed());
@@ -78,7 +81,9 @@ impl<R: Wait + Clock> Desk for Seated<'_, R> {
                     change,
                     condition,
                 };
+                let is_behind = value.is_behind();
                 give_with(turn, value, entry, time.end(self.rt));
+                self.is_behind = is_behind;
                 Ok(written)
             }
             Err(Memory) => {

@@ -21,6 +21,7 @@ impl<'g, R: Wait> Seated<'g, R> {
             rt,
             turnstile,
             seat,
+            is_behind: false,
         }
     }
 
@@ -34,6 +35,7 @@ impl<'g, R: Wait> Seated<'g, R> {
             rt: _,
             turnstile: _,
             seat,
+            is_behind: _,
         } = self;
         seat
     }
