@@ -6,6 +6,8 @@ mod asks;
 #[cfg(test)]
 mod dialogues;
 #[cfg(test)]
+mod edges;
+#[cfg(test)]
 mod purges;
 #[cfg(test)]
 mod queries;

@@ -10,8 +10,7 @@ use hub_core::{Config, Hub, PageRoom};
 use hub_model::{Change, Commits, Condition, Found, Outcome, Tags, Written};
 use q_base::{Memory, Moment, Name};
 use q_doc::Doc;
-use query_core::{Filter, Form, Kind, Order, Query};
-use query_normal::{Key, normal};
+use query_normal::Key;
 use std::alloc::Global;
 use std::test::Fail;
 
@@ -32,7 +31,7 @@ enum HubCall {
 const OUTDATED: &[u32] = &[6848, 19872, 42872, 78896, 101896, 114920];
 
 /// A new hub, in a box, so that letting it go is one call wherever a function may end.
-fn new_hub(alloc: Global, config: Config) -> Result<Box<Hub>, Fail>
+pub(crate) fn new_hub(alloc: Global, config: Config) -> Result<Box<Hub>, Fail>
     ensures { IfOk result (λ hub. hub.value.setting ≡ config) }
 {
     Ok(Box::new(alloc, Hub::new(alloc, config)?)?)
@@ -180,7 +179,7 @@ fn change_to(alloc: Global, text: &[u8]) -> Result<Change, Fail> {
 }
 
 /// Whether the outcome is a result of this text.
-fn is_text(alloc: Global, outcome: &Outcome, text: &[u8]) -> Result<bool, Memory> {
+pub(crate) fn is_text(alloc: Global, outcome: &Outcome, text: &[u8]) -> Result<bool, Memory> {
     match outcome {
         Outcome::Whole { text: found, .. } => Ok(found.to_shared(alloc)?.as_slice() == text),
         Outcome::Same { .. } | Outcome::Absent => Ok(false),
@@ -207,7 +206,7 @@ fn page_of(
 
 /// The reply to a write, without its clock.
 #[derive(Clone, Copy, Debug, PartialEq, Eq)]
-enum WriteReply {
+pub(crate) enum WriteReply {
     Done(u64, Found),
     Precondition(Found),
     Full(u64),
@@ -215,7 +214,7 @@ enum WriteReply {
 
 /// What a write asks: nothing, a document, none, or the one of a commit.
 #[derive(Clone, Copy)]
-enum Asks {
+pub(crate) enum Asks {
     Nothing,
     Present,
     Absent,
@@ -241,7 +240,7 @@ fn condition(alloc: Global, asks: Asks) -> Result<Condition, Fail> {
 }
 
 /// Writes a document to the record of a digit, or deletes it.
-fn write(
+pub(crate) fn write(
     alloc: Global,
     hub: &mut Hub,
     digit: u8,
@@ -279,7 +278,7 @@ fn is_answered(alloc: Global, hub: &mut Hub, case: Case) -> Result<bool, Fail> {
 }
 
 /// Writes to the record of each digit.
-fn write_all(alloc: Global, hub: &mut Hub, digits: &[u8]) -> Result<(), Fail> {
+pub(crate) fn write_all(alloc: Global, hub: &mut Hub, digits: &[u8]) -> Result<(), Fail> {
     for digit in digits {
         let document = Doc::read(alloc, br#"{"a":1}"#)?;
         write(alloc, hub, *digit, Some(document), Asks::Nothing)?;
@@ -360,7 +359,7 @@ fn write_and_read(hub: &mut Hub, change: &Change, key: &Key) -> Result<(), Fail>
 }
 
 /// Matches all commits, where the front is behind.
-fn match_all(hub: &mut Hub) -> Result<(), Fail>
+pub(crate) fn match_all(hub: &mut Hub) -> Result<(), Fail>
     ensures { hub.new.setting ≡ hub.old.setting }
 {
     let to = hub.commits();
@@ -462,157 +461,5 @@ fn a_reader_is_told_the_greatest_commit_that_it_knows(rt: HostRuntime) -> Result
     let mut hub = new_hub(alloc, Config::default())?;
     write_all(alloc, &mut hub, b"1221222")?;
     assert!(rt; are_told(alloc, &mut hub, TOLD)?);
-    Ok(())
-}
-
-/// The key of the query for the first two documents of the collection shop.
-fn query_key(alloc: Global, kind: Kind) -> Result<Key, Fail> {
-    let query = Query {
-        collection: Name::read(alloc, b"shop")?,
-        filter: Filter {
-            form: Form::Constant(true),
-        },
-        order: Order::of(Vec::new(alloc)),
-        skip: 0,
-        take: 2,
-    };
-    Ok(Key::query(alloc, kind, normal(alloc, query)?)?)
-}
-
-/// Whether a query's result has this text, which may be kept, and is known by its commit after a
-/// further one that does not change it.
-fn is_queried(alloc: Global, hub: &mut Hub, kind: Kind, text: &[u8]) -> Result<bool, Fail> {
-    let key = query_key(alloc, kind)?;
-    let mut tags = Commits::new(alloc);
-    let first = hub.read(Moment::of(100), &key, &Tags::Listed(tags.clone()?))?;
-    write(alloc, hub, b'3', None, Asks::Nothing)?;
-    tags.push(first.commit)?;
-    let next = hub.read(Moment::of(100), &key, &Tags::Listed(tags))?;
-    let is_known = match next.result {
-        Outcome::Same { tag, version: None } => tag == first.commit,
-        _ => false,
-    };
-    Ok(first.ttl > 0 && is_text(alloc, &first.result, text)? && is_known)
-}
-
-#[test]
-fn queries_are_answered_by_the_kept_texts(rt: HostRuntime) -> Result<(), Fail> {
-    let alloc = rt.alloc();
-    let mut hub = new_hub(alloc, Config::default())?;
-    write_all(alloc, &mut hub, b"1")?;
-    let objects = br#"[{"doc":{"a":1},"id":"p1","version":1}]"#;
-    assert!(rt; is_queried(alloc, &mut hub, Kind::Objects, objects)?);
-    assert!(rt; is_queried(alloc, &mut hub, Kind::Ids, br#"["p1"]"#)?);
-    Ok(())
-}
-
-/// Puts a document of this text to the record of a digit.
-fn put(alloc: Global, hub: &mut Hub, digit: u8, text: &[u8]) -> Result<(), Fail> {
-    let document = Doc::read(alloc, text)?;
-    write(alloc, hub, digit, Some(document), Asks::Nothing)?;
-    Ok(())
-}
-
-/// Reads a key at 100; whether the result has this text.
-fn reads(alloc: Global, hub: &mut Hub, key: &Key, text: &[u8]) -> Result<bool, Fail> {
-    let answer = hub.read(Moment::of(100), key, &Tags::Listed(Commits::new(alloc)))?;
-    Ok(is_text(alloc, &answer.result, text)?)
-}
-
-/// Whether a key whose result is read is in the record after the match of a further put.
-fn is_outdated(
-    alloc: Global,
-    hub: &mut Hub,
-    key: &Key,
-    digit: u8,
-    text: &[u8],
-) -> Result<bool, Fail> {
-    hub.read(Moment::of(100), key, &Tags::Any)?;
-    put(alloc, hub, digit, text)?;
-    match_all(hub)?;
-    Ok(hub.holds(key))
-}
-
-/// Whether a key is in the record after the match of the deletion of p1.
-fn is_outdated_by_deletion(alloc: Global, hub: &mut Hub, key: &Key) -> Result<bool, Fail> {
-    write(alloc, hub, b'1', None, Asks::Nothing)?;
-    match_all(hub)?;
-    Ok(hub.holds(key))
-}
-
-/// Whether a change of a document changes the objects of a result alone, and a deletion the ids.
-fn are_shown(alloc: Global, hub: &mut Hub, objects: &Key, ids: &Key) -> Result<bool, Fail> {
-    let first = reads(alloc, hub, ids, br#"["p1","p2"]"#)?;
-    let changed = is_outdated(alloc, hub, objects, b'1', br#"{"a":2}"#)? && !hub.holds(ids);
-    let deleted = is_outdated_by_deletion(alloc, hub, ids)?;
-    Ok(first && changed && deleted && reads(alloc, hub, ids, br#"["p2"]"#)?)
-}
-
-#[test]
-fn a_change_outdates_the_results_that_show_it(rt: HostRuntime) -> Result<(), Fail> {
-    let alloc = rt.alloc();
-    let mut hub = new_hub(alloc, Config::default())?;
-    write_all(alloc, &mut hub, b"12")?;
-    let objects = query_key(alloc, Kind::Objects)?;
-    let ids = query_key(alloc, Kind::Ids)?;
-    assert!(rt; are_shown(alloc, &mut hub, &objects, &ids)?);
-    Ok(())
-}
-
-/// Whether a document takes the room that the deletion of p1 leaves.
-fn slides(alloc: Global, hub: &mut Hub, ids: &Key) -> Result<bool, Fail> {
-    let first = reads(alloc, hub, ids, br#"["p1","p2"]"#)?;
-    let outdated = is_outdated_by_deletion(alloc, hub, ids)?;
-    Ok(first && outdated && reads(alloc, hub, ids, br#"["p2","p3"]"#)?)
-}
-
-#[test]
-fn a_document_slides_into_a_window(rt: HostRuntime) -> Result<(), Fail> {
-    let alloc = rt.alloc();
-    let mut hub = new_hub(alloc, Config::default())?;
-    write_all(alloc, &mut hub, b"123")?;
-    let ids = query_key(alloc, Kind::Ids)?;
-    assert!(rt; slides(alloc, &mut hub, &ids)?);
-    Ok(())
-}
-
-/// Whether both copies of a result are outdated, although the last result is that of the first.
-fn is_undone(alloc: Global, hub: &mut Hub, ids: &Key) -> Result<bool, Fail> {
-    let none = reads(alloc, hub, ids, b"[]")?;
-    write_all(alloc, hub, b"1")?;
-    let one = reads(alloc, hub, ids, br#"["p1"]"#)?;
-    Ok(none && one && is_outdated_by_deletion(alloc, hub, ids)?)
-}
-
-#[test]
-fn a_change_that_is_undone_outdates_a_result(rt: HostRuntime) -> Result<(), Fail> {
-    let alloc = rt.alloc();
-    let mut hub = new_hub(alloc, Config::default())?;
-    let ids = query_key(alloc, Kind::Ids)?;
-    assert!(rt; is_undone(alloc, &mut hub, &ids)?);
-    hub.tick(Moment::of(3_700));
-    assert!(rt; !hub.holds(&ids));
-    Ok(())
-}
-
-/// Puts the same document so many times.
-fn put_often(alloc: Global, hub: &mut Hub, times: u32) -> Result<(), Fail> {
-    for _ in 0..times {
-        put(alloc, hub, b'1', br#"{"a":1}"#)?;
-    }
-    Ok(())
-}
-
-/// The last write matches the commits before it.
-#[test]
-fn a_write_is_helped_where_1024_commits_are_not_matched(rt: HostRuntime) -> Result<(), Fail> {
-    let alloc = rt.alloc();
-    let mut hub = new_hub(alloc, Config::default())?;
-    let ids = query_key(alloc, Kind::Ids)?;
-    assert!(rt; reads(alloc, &mut hub, &ids, b"[]")?);
-    put_often(alloc, &mut hub, 1_024)?;
-    assert!(rt; hub.front() == 0 && !hub.holds(&ids));
-    put_often(alloc, &mut hub, 1)?;
-    assert!(rt; hub.front() == 1_024 && hub.commits() == 1_025 && hub.holds(&ids));
     Ok(())
 }

@@ -12,4 +12,6 @@ mod lives;
 #[cfg(test)]
 mod queries;
 #[cfg(test)]
+mod results;
+#[cfg(test)]
 mod windows;

@@ -26,6 +26,21 @@ const OK: &[u8] = b"HTTP/1.1 200 OK";
 
 const CREATED: &[u8] = b"HTTP/1.1 201 Created";
 
+/// The first put of a document.
+fn first(put: &[u8]) -> Row<'_> {
+    (
+        put,
+        CREATED,
+        b"Cache-Control: no-store\r\nQuaestor-Commit: 1\r\n",
+        b"{\"commit\":1}",
+    )
+}
+
+/// All three commits are matched, and then what is old of them is dropped.
+const MATCHED: Row<'static> = (MATCH, OK, NO_STORE, b"{\"front\":3}");
+
+const DROPPED: Row<'static> = (DROP, OK, NO_STORE, b"{\"horizon\":3}");
+
 /// The small document is put as commit 2, and again as commit 3.
 const SECOND: Row<'static> = (
     PUT_SMALL,
@@ -89,20 +104,15 @@ fn a_store_that_was_full_takes_a_write_behind_a_drop(rt: HostRuntime) -> Result<
         b"{\"bytes\":65837,\"error\":\"store_full\"}",
     );
     let rows: [Row<'_>; 11] = [
-        (
-            &greatest,
-            CREATED,
-            b"Cache-Control: no-store\r\nQuaestor-Commit: 1\r\n",
-            b"{\"commit\":1}",
-        ),
+        first(&greatest),
         SECOND,
         THIRD,
         full,
         // nothing was matched, so nothing is dropped
         (DROP, OK, NO_STORE, b"{\"horizon\":0}"),
         full,
-        (MATCH, OK, NO_STORE, b"{\"front\":3}"),
-        (DROP, OK, NO_STORE, b"{\"horizon\":3}"),
+        MATCHED,
+        DROPPED,
         (
             PUT_SMALL,
             OK,
@@ -110,7 +120,7 @@ fn a_store_that_was_full_takes_a_write_behind_a_drop(rt: HostRuntime) -> Result<
             b"{\"commit\":4}",
         ),
         full,
-        (DROP, OK, NO_STORE, b"{\"horizon\":3}"),
+        DROPPED,
     ];
     assert_rows(&rt, &["pipe", "--clock", "100", "--bytes", "65792"], &rows)
 }
@@ -121,12 +131,7 @@ fn a_store_that_was_full_takes_a_write_behind_a_drop(rt: HostRuntime) -> Result<
 fn a_store_full_of_what_lives_has_room_behind_a_deletion(rt: HostRuntime) -> Result<(), Fail> {
     let greatest = put_greatest(rt.alloc())?;
     let rows: [Row<'_>; 10] = [
-        (
-            &greatest,
-            CREATED,
-            b"Cache-Control: no-store\r\nQuaestor-Commit: 1\r\n",
-            b"{\"commit\":1}",
-        ),
+        first(&greatest),
         SECOND,
         (MATCH, OK, NO_STORE, b"{\"front\":2}"),
         (DROP, OK, NO_STORE, b"{\"horizon\":2}"),
@@ -149,8 +154,8 @@ fn a_store_full_of_what_lives_has_room_behind_a_deletion(rt: HostRuntime) -> Res
             NO_STORE,
             b"{\"bytes\":65830,\"error\":\"store_full\"}",
         ),
-        (MATCH, OK, NO_STORE, b"{\"front\":3}"),
-        (DROP, OK, NO_STORE, b"{\"horizon\":3}"),
+        MATCHED,
+        DROPPED,
         (
             PUT_SMALL,
             CREATED,
@@ -173,12 +178,7 @@ fn a_store_without_room_for_a_deletion_stays_full(rt: HostRuntime) -> Result<(),
         b"{\"bytes\":65830,\"error\":\"store_full\"}",
     );
     let rows: [Row<'_>; 8] = [
-        (
-            &greatest,
-            CREATED,
-            b"Cache-Control: no-store\r\nQuaestor-Commit: 1\r\n",
-            b"{\"commit\":1}",
-        ),
+        first(&greatest),
         SECOND,
         (
             b"PUT /v1/d/shop/p3 HTTP/1.1\r\nHost: a\r\nContent-Length: 7\r\n\r\n{\"a\":1}",
@@ -187,8 +187,8 @@ fn a_store_without_room_for_a_deletion_stays_full(rt: HostRuntime) -> Result<(),
             b"{\"commit\":3}",
         ),
         full,
-        (MATCH, OK, NO_STORE, b"{\"front\":3}"),
-        (DROP, OK, NO_STORE, b"{\"horizon\":3}"),
+        MATCHED,
+        DROPPED,
         full,
         (
             b"GET /v1/d/shop/p3 HTTP/1.1\r\nHost: a\r\n\r\n",

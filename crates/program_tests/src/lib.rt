@@ -22,6 +22,8 @@ mod lifetimes;
 #[cfg(test)]
 mod limits;
 #[cfg(test)]
+mod options;
+#[cfg(test)]
 mod purges;
 #[cfg(test)]
 mod reads;

@@ -1,9 +1,13 @@
 //! Servers at an address in memory.
 
 use crate::calls::{AMPLE, Comers, Outcome, WHOLE, calls_of, run_at};
+use q_base::Memory;
 use q_outside::{Limits, Served, Why};
 use quaestor_prog::Status;
+use std::rt;
+use std::sync::Wait;
 use std::test::Fail;
+use std::thread::Threads;
 
 /// So many connections come, and then none.
 fn coming(connections: usize) -> Option<Comers> {
@@ -22,6 +26,22 @@ const FAILING: Option<Comers> = Some(Comers {
 /// How many connections the places have back, where they have doors.
 fn count_of(outcome: &Outcome) -> Option<usize> {
     outcome.kept.handed.as_ref().map(|handed| handed.len())
+}
+
+/// Runs a server to which one connection comes.
+fn run_served<R: Threads + Wait + rt::Clock + Copy + Send + AllocGlobal + 'static>(
+    rt: &R,
+    line: &[&str],
+) -> Result<Outcome, Memory> {
+    run_at(
+        rt,
+        line,
+        b"",
+        calls_of(WHOLE),
+        AMPLE,
+        calls_of(WHOLE),
+        coming(1),
+    )
 }
 
 #[test]
@@ -168,15 +188,7 @@ fn the_places_get_the_limits_of_time(rt: HostRuntime) -> Result<(), Fail> {
         (&["serve", "there"], None),
     ];
     for (line, limits) in rows {
-        let outcome = run_at(
-            &rt,
-            line,
-            b"",
-            calls_of(WHOLE),
-            AMPLE,
-            calls_of(WHOLE),
-            coming(1),
-        )?;
+        let outcome = run_served(&rt, line)?;
         assert_eq!(rt; outcome.kept.limits, limits);
     }
     Ok(())
@@ -209,15 +221,7 @@ fn the_places_are_told_who_watches(rt: HostRuntime) -> Result<(), Fail> {
         ),
     ];
     for (line, metrics, log, json) in rows {
-        let outcome = run_at(
-            &rt,
-            line,
-            b"",
-            calls_of(WHOLE),
-            AMPLE,
-            calls_of(WHOLE),
-            coming(1),
-        )?;
+        let outcome = run_served(&rt, line)?;
         let Some(watched) = &outcome.kept.watched else {
             return Err(Fail::from("the places were not asked"));
         };
