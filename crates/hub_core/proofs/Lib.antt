@@ -8,6 +8,7 @@ pub mod StateLemmas
 pub mod KeepLemmas
 pub mod LifeLemmas
 pub mod AbsentLemmas
+pub mod AllSetLemmas
 pub mod ReadLemmas
 pub mod MatchLemmas
 pub mod PurgeLemmas

@@ -1,5 +1,5 @@
 -- The steps of a write.
-use Rattle.std.proofs.Common.{◌≡◌, ◌⊎◌, ℕ, ◌+◌, Bool, true, false, ◌&&◌, List, [], ◌∷◌, ◌++◌, length, Result, Ok, Err, nat_le, if◌then◌else◌, refl, sym, ap, ap₂, ◌∙◌, subst, IsErr, inl, inr}
+use Rattle.std.proofs.Common.{◌≡◌, ◌⊎◌, ℕ, ◌+◌, max, arith, Bool, true, false, ◌&&◌, List, [], ◌∷◌, ◌++◌, length, Result, Ok, Err, nat_le, if◌then◌else◌, refl, sym, ap, ap₂, ◌∙◌, subst, IsErr, inl, inr}
 use Rattle.commit_book.specs.declared.change.Change.{Change}
 use Rattle.commit_book.specs.declared.refusal.BookRefusal.{BookRefusal}
 use Rattle.commit_book.specs.declared.refusal.BookRefusal.TheVariants.{Full, Memory}
@@ -155,3 +155,14 @@ module _ (g : Setting) (book : Contents) (s : State) (change : Change) (conditio
     pub leaves-done : nat_le (kept_with book.journal book.horizon change) book.capacity ≡ true → with_change change s ≡ wrote g change condition s
     unfolding left
     leaves-done fits = sym (ap (left change s) (accepted-now true fits))
+
+-- ---- what a write would answer
+
+-- a match ahead of a write, at its moment, changes nothing of the reply
+pub foreseen-reply : (g : Setting) (s : State) (moment : ℕ) (change : Change) (condition : Condition) →
+    written g change condition (at_moment s moment) ≡ written g change condition (at_moment (after_all g s (help_of s moment)) moment)
+foreseen-reply g s moment change condition = by (nat_le (s.front + most_unmatched) (length s.journal))
+  where
+    by : (b : Bool) → written g change condition (at_moment s moment) ≡ written g change condition (at_moment (after_all g s (if b then Match moment (length s.journal) ∷ [] else [])) moment)
+    by false = refl
+    by true = (let same : max s.clock moment ≡ max (max s.clock moment) moment = omega arith in ap (λ (n : ℕ). written g change condition (record s { clock = n })) same)

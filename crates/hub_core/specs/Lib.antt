@@ -4,6 +4,7 @@ pub mod Config
 pub mod ConfigRefusal
 pub mod Copied
 pub mod CopiesView
+pub mod Foreseen
 pub mod HubState
 pub mod Invalidations
 pub mod Lifetimes

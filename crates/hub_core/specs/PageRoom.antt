@@ -1,5 +1,5 @@
 -- Internal. What contracts see of the buffer for a page.
-use Rattle.std.specs.Prelude.{◌≡◌, ℕ, ◌+◌, ◌/◌, ◌^◌, ◌≤◌, List, length, drop, Option, option_map, unwrap_or, IfSome}
+use Rattle.std.specs.Prelude.{◌≡◌, ℕ, ◌+◌, ◌/◌, ◌^◌, ◌≤◌, true, List, length, drop, replicate, Option, option_map, unwrap_or, IfSome}
 use Rattle.flat_snapshot.specs.PageText.{page_text, page_with}
 use Rattle.hub_model.specs.Setting.{Setting}
 use Rattle.query_normal.specs.Pages.{Page}
@@ -19,6 +19,10 @@ pub record IsRoomFor (g : Setting) (room : PageRoomView) : Type 0 where
 -- the moment of the last fetched page, or 0 before the first
 abbrev pub moment_in : PageRoomView → ℕ
 moment_in room = unwrap_or (option_map (λ (page : Page). page.moment) room.page) 0
+
+-- the page with every bit set
+abbrev pub all_set : Page → Page
+all_set page = record page { bits = replicate (length page.bits) true }
 
 -- the page whose bits come after its header
 abbrev pub page_in : ℕ → ℕ → List ℕ → Numbers → Page

@@ -89,6 +89,17 @@ impl Copies {
         self.issued.clock()
     }
 
+    /// The clock after an entry of a moment.
+    pub fn clock_at(&self, moment: Moment) -> Moment
+        ensures { result ≡ max self.now.clock moment }
+    {
+        if self.has_reached(moment) {
+            self.clock()
+        } else {
+            moment
+        }
+    }
+
     /// Whether the clock has reached a moment, so that nothing passes until then.
     pub fn has_reached(&self, moment: Moment) -> bool
         ensures reached { result ≡ nat_le moment self.now.clock }

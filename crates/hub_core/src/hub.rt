@@ -1,7 +1,7 @@
 //! The hub.
-ghost use Rattle.std.specs.Prelude.{◌≡◌, ◌+◌, ◌^◌, ◌<◌, ◌≤◌, ◌++◌, ◌∷◌, [], length, option_map, Some, true, IfOk, OnOk, OnErr, false};
+ghost use Rattle.std.specs.Prelude.{◌≡◌, ◌+◌, ◌^◌, ◌<◌, ◌≤◌, ◌++◌, ◌∷◌, [], length, max, option_map, Some, true, IfOk, OnOk, OnErr, false};
 ghost use Rattle.hub_model.specs.declared.entry.Entry.TheVariants.{Write, Read, Match, Fetch, Purges, Tick, Horizon};
-ghost use Rattle.commit_book.specs.Journal.{document_at, kept};
+ghost use Rattle.commit_book.specs.Journal.{document_at, kept, kept_with};
 ghost use Rattle.query_normal.specs.declared.key.KeyShape.TheVariants.{Record};
 ghost use Rattle.hub_model.specs.Copies.{active_keys};
 ghost use Rattle.hub_model.specs.Journal.{result_at};
@@ -12,6 +12,7 @@ ghost use Rattle.hub_model.specs.Reply.{wrote, read, matched, fetched, purged, c
 ghost use Rattle.hub_model.specs.State.{State, start};
 ghost use Rattle.hub_model.specs.Step.{found_of, is_accepted, after, after_all};
 ghost use Rattle.hub_model.specs.Helps.{helps_of};
+ghost use Rattle.hub_core.specs.Foreseen.{tells_done};
 ghost use Rattle.hub_core.specs.PageRoom.{IsRoomFor};
 ghost use Rattle.hub_core.specs.ActiveQueries.{is_query};
 ghost use Rattle.hub_core.specs.HubState.{IsAsBefore, IsAt, IsLean};
@@ -155,6 +156,32 @@ impl Hub {
                 })
             }
             Err(BookRefusal::Memory) => Err(Memory),
+        }
+    }
+
+    /// What `write` would answer. It makes no entry, takes no memory, and as long as printing the document.
+    pub fn foresee(&self, moment: Moment, change: &Change, condition: &Condition) -> Written
+        requires { self.now.commits + 1 < 2 ^ 64 }
+        ensures told { (s : State) → IsAt self.now s → wrote result ≡ reply_in self.now.setting (after_all self.now.setting s (helps_of self.now.setting s (Write moment change.now condition.now))) (Write moment change.now condition.now) }
+        ensures accepted { (s : State) → IsAt self.now s → is_accepted self.now.setting s change.now condition.now ≡ tells_done result }
+    {
+        let before = found(&self.book, change);
+        let clock = self.copies.clock_at(moment);
+        if !condition.is_met(before, self.book.count()) {
+            return Written::Precondition {
+                found: before,
+                clock,
+            };
+        }
+        let capacity = self.copies.config().capacity();
+        let bytes = bytes_with(&self.book, change);
+        if bytes > capacity {
+            return Written::Full { bytes, clock };
+        }
+        Written::Done {
+            commit: self.book.count() + 1,
+            before,
+            clock,
         }
     }
 
@@ -399,6 +426,13 @@ impl Hub {
         }
     }
 
+    /// The clock after an entry of a moment.
+    pub fn clock_at(&self, moment: Moment) -> Moment
+        ensures { result ≡ max self.now.clock moment }
+    {
+        self.copies.clock_at(moment)
+    }
+
     /// The commit up to which old changes were dropped.
     pub fn horizon(&self) -> Commit
         ensures same { result ≡ self.now.horizon }
@@ -477,6 +511,16 @@ impl Hub {
     {
         self.copies.invalidated_count()
     }
+}
+
+/// What the kept changes would take of the capacity with one more, in bytes.
+fn bytes_with(book: &Book, change: &Change) -> u64
+    requires { book.now.capacity ≤ 2 ^ 62 }
+    ensures { result ≡ kept_with book.now.journal book.now.horizon change.now }
+{
+    // Its count shows that what is kept is within the capacity.
+    let _count = book.count();
+    book.bytes() + change.cost()
 }
 
 /// What the last commit has of the record that a change is of.

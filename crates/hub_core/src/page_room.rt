@@ -1,13 +1,19 @@
 //! The buffer for a page.
 ghost use Rattle.std.specs.Prelude.{◌≡◌, ◌*◌, ◌^◌, length, IfOk, Some, None, option_map, unwrap_or, []};
 ghost use Rattle.flat_snapshot.specs.PageText.{page_text, page_with};
-ghost use Rattle.hub_core.specs.PageRoom.{IsRoomFor, moment_in};
+ghost use Rattle.hub_core.specs.PageRoom.{IsRoomFor, all_set, moment_in};
 
 use crate::config::Config;
 use flat_snapshot::write_page;
 use q_base::{Commit, Memory, Moment};
 use std::alloc::Global;
 use std::marker::Model;
+
+/// The number of bytes before the bits of a page.
+const HEAD_BYTES: usize = 30;
+
+/// The byte of eight bits that are set.
+const ALL_SET: u8 = 255;
 
 /// The bytes of the last fetched page. The buffer is made once and used for each fetch.
 #[derive(Debug, Drop)]
@@ -51,7 +57,7 @@ impl PageRoom {
         ensures none { IfOk result (λ room. room.page ≡ None) }
     {
         let log2_bits = config.log2_bits();
-        let size = 30 + (1usize << log2_bits) / 8;
+        let size = HEAD_BYTES + (1usize << log2_bits) / 8;
         Ok(PageRoom {
             log2_bits,
             hashes: config.hashes(),
@@ -78,6 +84,13 @@ impl PageRoom {
             Some(numbers) => numbers.moment,
             None => Moment::of(0),
         }
+    }
+
+    /// Sets every bit of the last fetched page, where there is one. Its first 30 bytes and its length stay.
+    pub fn set_all(&mut self)
+        ensures { self.new ≡ record self.old { page = option_map all_set self.old.page } }
+    {
+        self.bytes[HEAD_BYTES..].fill(ALL_SET);
     }
 
     /// Writes a page with these bits.

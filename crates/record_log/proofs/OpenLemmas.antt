@@ -1,7 +1,7 @@
 -- Opening a log, from step to step.
 use Rattle.std.proofs.Common.{◌≡◌, ◌⊎◌, ℕ, ◌+◌, ◌<◌, ◌≤◌, List, [], ◌∷◌, ◌++◌, length, get_or, Option, Some, None, Result, Ok, Err, refl, ap, sym, ◌∙◌, subst, inl, inr, append_assoc, arith, length-append}
 use Rattle.std.proofs.lemmas.List.{append-nil}
-use Rattle.disks.specs.Devices.{at_rest}
+use Rattle.disks.specs.Devices.{Synced, at_rest}
 use Rattle.disks.specs.Histories.{History, DiskView, device_of}
 use Rattle.disks.proofs.Chain.{leaves_both, each_weaken}
 use Rattle.record_log.specs.declared.log_record.LogRecord.{LogRecord}
@@ -11,7 +11,7 @@ use Rattle.record_log.specs.Frames.{Frame, Fits, closed_gate, opened, front_of}
 use Rattle.record_log.specs.Images.{IsReady, new_log}
 use Rattle.record_log.specs.Logs.{LogView}
 use Rattle.record_log.specs.Opened.{Say, HaveFrames, HasOpened, HasBadRecord, RefusesLog, IsRepair, LeavesOpening}
-use Rattle.record_log.specs.Openings.{IsReading, IsStart, LeavesStart, IsClosing, LeavesClosing, HasBegun, HasBadMark, Finds}
+use Rattle.record_log.specs.Openings.{IsReading, IsStart, LeavesBegun, LeavesStart, IsClosing, LeavesClosing, HasBegun, HasBadMark, Finds, synced}
 use Rattle.record_log.specs.Records.{record_of}
 use Rattle.record_log.proofs.StandsLemmas.{front_append}
 
@@ -57,7 +57,7 @@ reading_more (Some h) place next fs rest more f r e n =
 
 -- the frames that were there, with one more read
 frames_more : (bytes : List ℕ) (fs : List Frame) (f : Frame) (rest more : List ℕ) → rest ≡ opened f ++ more → HaveFrames bytes fs rest → HaveFrames bytes (fs ++ f ∷ []) more
-frames_more bytes fs f rest more e (inl is) = inl (is ∙ ap (λ (x : List ℕ). front_of fs ++ x) e ∙ front_more fs f more)
+frames_more bytes fs f rest more e (inl is) = inl (is.0 ∙ ap (λ (x : List ℕ). front_of fs ++ x) e ∙ front_more fs f more, is.1)
 frames_more bytes fs f rest more e (inr new) = inr (new.0, sym (front_more fs f more) ∙ ap (λ (x : List ℕ). front_of fs ++ x) (sym e) ∙ new.1)
 
 -- one record more was read
@@ -76,11 +76,11 @@ open_more (Some h) old new rs r o s n =
 
 -- and a crash leaves what it left before
 pub start_more : (before : Option History) (old new : LogView) (rs : List LogRecord) (r : LogRecord) → IsOpening before old.history old.gate rs → Steps old new (Ok (Some r)) → (old.history ≡ None → new.history ≡ None)
-    → LeavesStart before old.history → LeavesStart before new.history
+    → LeavesBegun before old.history → LeavesBegun before new.history
 start_more None old new rs r o s n l = n l
 start_more (Some h) old new rs r o s n l =
     let found = s o.0 o.1 o.4 in
-    let P : Option History → Type 0 = λ m. LeavesStart (Some h) m in subst P (sym found.5) l
+    let P : Option History → Type 0 = λ m. LeavesBegun (Some h) m in subst P (sym found.5) l
 
 -- the log is read to its end
 pub open_end : (before : Option History) (old new : LogView) (rs : List LogRecord) → IsOpening before old.history old.gate rs → Steps old new (Ok None) → (old.history ≡ None → new.history ≡ None) → HasOpened before new rs
@@ -101,26 +101,32 @@ new_closed (f ∷ fs) gate behind e = absurd (let k : 1 ≡ 0 = ap (λ (x : List
 
 -- what a gate that is closed may be is what was there, or a repair
 closing_is : (h : History) (fs : List Frame) (rs : List LogRecord) (rest image : List ℕ) → Say fs rs → HaveFrames (device_of h).seen fs rest → IsClosing fs rest image → IsStart h image ⊎ IsRepair h image
-closing_is h fs rs rest image s (inl is) (inl same) = inl (inr (inl (same ∙ sym is)))
+closing_is h fs rs rest image s (inl is) (inl same) = inl (inl (same ∙ sym is.0))
 closing_is h fs rs rest image s (inr new) (inl same) =
-    inl (inr (inr (new.0, (let k : length image ≡ 5 = ap (λ (x : List ℕ). length x) (same ∙ new.1) in omega (arith, k)))))
+    inl (inr (new.0, (let k : length image ≡ 5 = ap (λ (x : List ℕ). length x) (same ∙ new.1) in omega (arith, k))))
 closing_is h fs rs rest image s (inl is) (inr c) =
-    inr (fs, rs, c.0, c.1, c.2, c.3, s, is ∙ ap (λ (x : List ℕ). front_of fs ++ x) c.4, c.5, c.6, c.7)
+    inr (fs, rs, c.0, c.1, c.2, c.3, s, is.0 ∙ ap (λ (x : List ℕ). front_of fs ++ x) c.4, c.5, c.6, c.7, is.1)
 closing_is h fs rs rest image s (inr new) (inr c) =
     absurd (c.6 (new_closed fs c.0 c.2 (ap (λ (x : List ℕ). front_of fs ++ x) (sym c.4) ∙ new.1)))
 
 -- what a crash leaves while a log is opened, a step on
-pub leaves_more : (before : Option History) (old new : LogView) (rs : List LogRecord) → IsOpening before old.history old.gate rs → StepLeaves old new → (old.history ≡ None → new.history ≡ None) → LeavesStart before old.history → LeavesOpening before new.history
+pub leaves_more : (before : Option History) (old new : LogView) (rs : List LogRecord) → IsOpening before old.history old.gate rs → StepLeaves old new → (old.history ≡ None → new.history ≡ None) → LeavesBegun before old.history → LeavesOpening before new.history
 leaves_more None old new rs o s n l = n o
 leaves_more (Some h) old new rs o s n l =
-    leaves_both (Some h) old.history new.history (IsStart h) (IsClosing o.0 o.1) (λ image. IsStart h image ⊎ IsRepair h image)
-    (λ image p. inl p) (λ image c. closing_is h o.0 rs o.1 image o.2 o.3 c) l (s o.0 o.1 o.4)
+    inr (leaves_both (Some (synced h)) old.history new.history (IsStart h) (IsClosing o.0 o.1) (λ image. IsStart h image ⊎ IsRepair h image)
+    (λ image p. inl p) (λ image c. closing_is h o.0 rs o.1 image o.2 o.3 c) l (s o.0 o.1 o.4))
 
 -- nothing but the beginning came
-pub leaves_begun : (before after : Option History) → LeavesStart before after → LeavesOpening before after
+pub leaves_begun : (before after : Option History) → LeavesBegun before after → LeavesOpening before after
 leaves_begun None after l = l
 leaves_begun (Some h) after l =
-    (l.0, l.1, each_weaken h.start h.calls l.0 (IsStart h) (λ image. IsStart h image ⊎ IsRepair h image) (λ image p. inl p) l.2)
+    inr (l.0, l.1, each_weaken h.start (Synced ∷ h.calls) l.0 (IsStart h) (λ image. IsStart h image ⊎ IsRepair h image) (λ image p. inl p) l.2)
+
+-- nor that
+pub leaves_start : (before after : Option History) → LeavesStart before after → LeavesOpening before after
+leaves_start None after l = l
+leaves_start (Some h) after (inl same) = inl same
+leaves_start (Some h) after (inr l) = leaves_begun (Some h) after l
 
 -- where reading has come to
 place_is : (o : Option History) (place : ℕ) (fs : List Frame) (rest : List ℕ) → IsReading o place fs rest → place ≡ length (front_of fs)

@@ -2,7 +2,7 @@
 use Rattle.std.specs.Prelude.{◌≡◌, ◌≢◌, ◌⊎◌, ℕ, ◌+◌, ◌<◌, ◌≤◌, List, [], ◌∷◌, ◌++◌, length, get_or, Result, Ok, Err}
 use Rattle.std.specs.declared.option.Option.{Option}
 use Rattle.std.specs.declared.option.Option.TheVariants.{None, Some}
-use Rattle.disks.specs.Devices.{at_rest, MayLeave}
+use Rattle.disks.specs.Devices.{Synced, at_rest}
 use Rattle.disks.specs.Histories.{History, DiskView, device_of}
 use Rattle.disks.specs.Moments.{Leaves}
 use Rattle.record_log.specs.declared.log_record.LogRecord.{LogRecord}
@@ -18,21 +18,33 @@ abbrev pub IsReading : Option History → ℕ → List Frame → List ℕ → Ty
 IsReading None place fs rest = ⊥
 IsReading (Some h) place fs rest = (device_of h ≡ at_rest (front_of fs ++ rest)) × (place ≡ length (front_of fs))
 
--- until it is read, a disk may be left as before, with what reads give, or as a new log that is not yet written
-abbrev pub IsStart : History → List ℕ → Type 0
-IsStart h image =
-    MayLeave (device_of h) image ⊎ ((image ≡ (device_of h).seen) ⊎ ((length (device_of h).seen ≤ empty_length) × (length image ≤ empty_length)))
+-- a history with a sync more
+abbrev pub synced : History → History
+synced h = record { start = h.start; calls = Synced ∷ h.calls }
 
--- from a disk as it was, at any moment a crash leaves such an image
+-- the disk is as it was; or a sync came first, and at any moment from then on a crash leaves an image with the property
+abbrev pub LeavesBehindSync : History → Option History → (List ℕ → Type 0) → Type 0
+LeavesBehindSync h after P = (after ≡ Some h) ⊎ Leaves (Some (synced h)) after P
+
+-- until it is read, a synced disk may be left with what reads give, or as a new log that is not yet written
+abbrev pub IsStart : History → List ℕ → Type 0
+IsStart h image = (image ≡ (device_of h).seen) ⊎ ((length (device_of h).seen ≤ empty_length) × (length image ≤ empty_length))
+
+-- a sync came first, and at any moment from then on a crash leaves such an image
+abbrev pub LeavesBegun : Option History → Option History → Type 0
+LeavesBegun None after = after ≡ None
+LeavesBegun (Some h) after = Leaves (Some (synced h)) after (IsStart h)
+
+-- the disk is as it was, or that
 abbrev pub LeavesStart : Option History → Option History → Type 0
 LeavesStart None after = after ≡ None
-LeavesStart (Some h) after = Leaves (Some h) after (IsStart h)
+LeavesStart (Some h) after = LeavesBehindSync h after (IsStart h)
 
--- the bytes behind the mark are the next to read: those that the disk had, or those of a new log
+-- the bytes behind the mark are the next to read: those that the disk had, where it had more than a new log, or those of a new log
 abbrev pub HasBegun : Option History → Option History → ℕ → Type 0
 HasBegun None after place = after ≡ None
 HasBegun (Some h) after place = (rest : List ℕ) × IsReading after place [] rest
-    × (((device_of h).seen ≡ mark ++ rest) ⊎ ((length (device_of h).seen ≤ empty_length) × (mark ++ rest ≡ new_log)))
+    × ((((device_of h).seen ≡ mark ++ rest) × (empty_length < length (device_of h).seen)) ⊎ ((length (device_of h).seen ≤ empty_length) × (mark ++ rest ≡ new_log)))
 
 -- a disk has more bytes than a new log, and they do not begin with the mark
 abbrev pub HasBadMark : Option History → Type 0

@@ -1,5 +1,5 @@
 //! A batch: records as the bytes that a log adds at once.
-ghost use Rattle.std.specs.Prelude.{◌≡◌, ◌≤◌, ◌<◌, ◌^◌, ◌-◌, [], ◌∷◌, ◌++◌, length, take, IfOk, OnOk, OnErr};
+ghost use Rattle.std.specs.Prelude.{◌≡◌, ◌≤◌, ◌<◌, ◌^◌, ◌-◌, true, false, [], ◌∷◌, ◌++◌, length, take, IfOk, OnOk, OnErr};
 ghost use Rattle.record_log.specs.Batches.{AddsFrame, IsBatch, IsFrameOf};
 ghost use Rattle.record_log.specs.Frames.{closed_gate, opened, batch_of};
 ghost use Rattle.commit_book.specs.Journal.{text_of};
@@ -45,6 +45,22 @@ impl Batch {
         Ok(Batch { alloc, bytes })
     }
 
+    /// Whether it has no record.
+    pub fn is_empty(&self) -> bool
+        ensures empty { result ≡ true → self.now ≡ batch_of [] }
+        ensures some { result ≡ false → self.now ≡ batch_of [] → ⊥ }
+    {
+        self.bytes.len() == 1
+    }
+
+    /// Lets its records go, and keeps the memory for others.
+    pub fn clear(&mut self)
+        ensures { self.new ≡ batch_of [] }
+    {
+        self.bytes.truncate(0);
+        self.bytes.push_reserved(CLOSED);
+    }
+
     /// The bytes.
     pub fn as_slice(&self) -> &[u8]
         ensures same { result.now ≡ self.now }
@@ -62,6 +78,15 @@ impl Batch {
     {
         let body = body_of(self.alloc, change)?;
         self.add(COMMIT, clock, &body)
+    }
+
+    /// Adds the record that the change of this body is a commit, made at a clock in seconds since 1970.
+    pub fn add_body(&mut self, clock: u64, body: &Body) -> Result<(), Memory>
+        requires { clock ≤ greatest_clock }
+        ensures added { OnOk result (AddsFrame self.old self.new (record { kind = 1; clock = clock; body = body.now })) }
+        ensures not { OnErr result (self.new ≡ self.old) }
+    {
+        self.add(COMMIT, clock, body.as_slice())
     }
 
     /// Adds the record that a moment is kept, in seconds since 1970.
@@ -84,6 +109,41 @@ impl Batch {
             Ok(()) => Ok(()),
             Err(_) => Err(Memory),
         }
+    }
+}
+
+/// A change as the body of its record, which is made before its clock is known. Contracts see the bytes.
+#[derive(Drop)]
+pub struct Body {
+    bytes: Vec<u8>,
+}
+
+impl Model for Body {
+    ghost use Rattle.std.specs.Prelude.{List, ℕ, length, ◌<◌, ◌^◌};
+
+    ghost Value = { List ℕ };
+
+    ghost view = { λ b. b.bytes.items };
+
+    ghost invariant = { λ b. length b.bytes.items < 2 ^ 32 };
+}
+
+impl Body {
+    /// The body of a change.
+    pub fn of(alloc: Global, change: &Change) -> Result<Body, Memory>
+        ensures text { IfOk result (λ body. body ≡ body_of change.now) }
+        ensures can { IfOk result (λ _. CanPut change.now) }
+    {
+        let bytes = body_of(alloc, change)?;
+        Ok(Body { bytes })
+    }
+
+    /// The bytes.
+    pub fn as_slice(&self) -> &[u8]
+        ensures same { result.now ≡ self.now }
+        ensures short { length self.now < 2 ^ 32 }
+    {
+        &self.bytes
     }
 }
 

@@ -15,7 +15,7 @@ mod start;
 mod store;
 
 pub use adding::{CLOSED, OPEN};
-pub use batch::Batch;
+pub use batch::{Batch, Body};
 pub use log::Log;
 pub use log_record::{COMMIT, GREATEST_CLOCK, LogRecord, MOMENT};
 pub use opened::{Opened, open_log};

@@ -5,9 +5,10 @@ ghost use Rattle.record_log.specs.Images.{IsReady};
 
 use crate::adding::append_at;
 use crate::batch::Batch;
-use disks::Disk;
+use disks::{Disk, MemoryDisk};
 use q_outside::Failed;
 use std::marker::Model;
+use std::sync::ledger::Ledger;
 
 /// A log on a disk, and the place of its closed gate. Contracts see what the disk shows, and that place.
 #[derive(Drop)]
@@ -69,5 +70,15 @@ impl<K: Disk> Log<K> {
         ensures faults { (K.at result).faults ≡ self.faults }
     {
         self.disk
+    }
+}
+
+impl<L: Ledger> Log<MemoryDisk<L>> {
+    /// The machine stops after this many calls of the disk more: each call after them fails and changes
+    /// nothing.
+    pub fn stop_after(&mut self, calls: u64)
+        ensures { self.new ≡ self.old }
+    {
+        self.disk.stop_after(calls);
     }
 }

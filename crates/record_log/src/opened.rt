@@ -24,7 +24,8 @@ pub fn open_log<K: Disk>(alloc: Global, disk: K) -> Result<Opened<K>, (K, LogRef
     ensures ready { IfOk result (λ o. IsReady o.log.history o.log.gate) }
     ensures refused { IfErr result (λ e. RefusesLog (K.at disk) (K.at e.0) e.1) }
 
-    // A crash at any moment leaves what was there, or a repaired log.
+    // The disk is as it was until it is synced. From then on a crash at any moment leaves what was read, or
+    // a repaired log.
     ensures leaves { MatchResult result (λ o. LeavesOpening (K.at disk).history o.log.history) (λ e. LeavesOpening (K.at disk).history (K.at e.0).history) }
 {
     let mut opening = match Opening::begin(alloc, disk) {

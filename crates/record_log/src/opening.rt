@@ -19,7 +19,7 @@ ghost use Rattle.disks.specs.Histories.{Goes};
 ghost use Rattle.record_log.specs.Frames.{Frame};
 ghost use Rattle.record_log.specs.Images.{IsReady};
 ghost use Rattle.record_log.specs.Logs.{LogView};
-ghost use Rattle.record_log.specs.Openings.{IsReading, LeavesStart, LeavesClosing, HasBegun, RefusesMark, Finds};
+ghost use Rattle.record_log.specs.Openings.{IsReading, LeavesBegun, LeavesStart, LeavesClosing, HasBegun, RefusesMark, Finds};
 
 use crate::gate::{Gate, close_gate, read_gate};
 use crate::log::Log;
@@ -56,8 +56,9 @@ impl<K: Disk> Opening<K> {
         ensures faults { IfOk result (λ o. (K.at disk).faults ≤ o.faults) }
         ensures refused { IfErr result (λ e. RefusesMark (K.at disk) (K.at e.0) e.1) }
 
-        // A crash at any moment leaves the disk as it was, or a new log that is not yet written.
-        ensures leaves { MatchResult result (λ o. LeavesStart (K.at disk).history o.history) (λ e. LeavesStart (K.at disk).history (K.at e.0).history) }
+        // The disk is as it was until it is synced. From then on a crash at any moment leaves what reads
+        // gave, or a new log that is not yet written.
+        ensures leaves { MatchResult result (λ o. LeavesBegun (K.at disk).history o.history) (λ e. LeavesStart (K.at disk).history (K.at e.0).history) }
     {
         match start(&mut disk) {
             Ok(()) => Ok(Opening {

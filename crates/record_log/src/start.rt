@@ -1,9 +1,9 @@
 //! The beginning of a log: the mark, or a new log in the place of a disk that has hardly a byte.
-ghost use Rattle.std.specs.Prelude.{◌≡◌, ◌<◌, ◌≤◌, [], IfOk, IfErr, OnOk, OnErr, Decides};
+ghost use Rattle.std.specs.Prelude.{◌≡◌, ◌<◌, ◌≤◌, [], IfOk, IfErr, OnOk, OnErr, MatchResult, Decides};
 ghost use Rattle.disks.specs.Histories.{Goes, HasWritten};
 ghost use Rattle.record_log.specs.Frames.{mark};
 ghost use Rattle.record_log.specs.Images.{new_log};
-ghost use Rattle.record_log.specs.Openings.{HasBegun, LeavesStart, RefusesMark};
+ghost use Rattle.record_log.specs.Openings.{HasBegun, LeavesBegun, LeavesStart, RefusesMark};
 ghost use Rattle.record_log.specs.Starts.{MarkIs};
 ghost use Rattle.record_log.specs.Stores.{HasStored};
 
@@ -25,7 +25,7 @@ pub(crate) const FIRST_GATE: u64 = 4;
 pub(crate) fn start<D: Disk>(disk: &mut D) -> Result<(), LogRefusal>
     ensures begun { OnOk result (HasBegun (D.at disk.old).history (D.at disk.new).history FIRST_GATE) }
     ensures refused { IfErr result (λ e. RefusesMark (D.at disk.old) (D.at disk.new) e) }
-    ensures leaves { LeavesStart (D.at disk.old).history (D.at disk.new).history }
+    ensures leaves { MatchResult result (λ _. LeavesBegun (D.at disk.old).history (D.at disk.new).history) (λ _. LeavesStart (D.at disk.old).history (D.at disk.new).history) }
     ensures faults { (D.at disk.old).faults ≤ (D.at disk.new).faults }
 {
     match disk.sync() {

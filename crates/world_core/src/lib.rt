@@ -14,10 +14,12 @@ mod text;
 mod watch;
 mod world;
 
+pub use generator::Generator;
 pub use hostile::{HostileLink, Move};
 pub use line::ReadLine;
 pub use link::WorldLink;
+pub use product::{collection, product_id, push_number};
 pub use step::{Step, steps_of};
-pub use text::world_text;
+pub use text::{push_count, push_word, world_text};
 pub use watch::{Silent, Watch};
 pub use world::World;

@@ -106,7 +106,7 @@ fn push_text(text: &mut Vec<u8>, piece: &[u8]) -> Result<(), AllocError>
 }
 
 /// Appends a word, a blank and a number.
-fn push_word(text: &mut Vec<u8>, word: &[u8], number: u64) -> Result<(), AllocError>
+pub fn push_word(text: &mut Vec<u8>, word: &[u8], number: u64) -> Result<(), AllocError>
     ensures { OnOk result (text.new.items ≡ text.old.items ++ word_and word.now number) }
 {
     text.extend_from_slice(word)?;
@@ -147,7 +147,7 @@ fn push_numbers(
 }
 
 /// Appends the line of a number.
-fn push_count(text: &mut Vec<u8>, word: &[u8], number: u64) -> Result<(), AllocError>
+pub fn push_count(text: &mut Vec<u8>, word: &[u8], number: u64) -> Result<(), AllocError>
     ensures { OnOk result (text.new.items ≡ text.old.items ++ count_text word.now number) }
 {
     push_word(text, word, number)?;

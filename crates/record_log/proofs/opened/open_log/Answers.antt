@@ -6,11 +6,11 @@ use Rattle.record_log.specs.declared.refusal.LogRefusal.{LogRefusal}
 use Rattle.record_log.specs.Images.{IsReady}
 use Rattle.record_log.specs.Logs.{LogView}
 use Rattle.record_log.specs.Opened.{HasOpened, LeavesOpening}
-use Rattle.record_log.proofs.OpenLemmas.{IsOpening, Steps, leaves_begun, open_more, start_more, open_end, ready_end, leaves_more, refused_next}
+use Rattle.record_log.proofs.OpenLemmas.{IsOpening, Steps, leaves_begun, leaves_start, open_more, start_more, open_end, ready_end, leaves_more, refused_next}
 use Rattle.record_log.proofs.opened.open_log.Goals as goal
 
 pub returns-in-Err-clause-leaves : goal.returns-in-Err-clause-leaves
-returns-in-Err-clause-leaves g c = leaves_begun _ _ c.in-Err.ensures.leaves
+returns-in-Err-clause-leaves g c = leaves_start _ _ c.in-Err.ensures.leaves
 
 pub into_log-requires-clause-ready : goal.into_log-requires-clause-ready
 into_log-requires-clause-ready g c =
