@@ -15,7 +15,7 @@ const MOST_DROPPED: u64 = 4_096;
 const GREATEST_COST: u64 = 65_728;
 
 /// How many commits more may be kept than a trim leaves, until writers rest.
-const MOST_BEHIND: u64 = 16_384;
+const MOST_BEHIND: u64 = 4_096;
 
 /// Up to where a call drops old changes: none above the front.
 #[derive(Clone, Copy, Debug, PartialEq, Eq)]
