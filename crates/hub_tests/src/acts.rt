@@ -1,5 +1,5 @@
-//! What the tests of queries and drops do to a hub: each function does one thing. Keys are written as
-//! texts.
+//! What the tests of queries, lifetimes and drops do to a hub: each function does one thing. Keys are
+//! written as texts.
 ghost use Rattle.std.specs.Prelude.{◌+◌, ◌^◌, ◌<◌, OnOk};
 
 use hub_core::{Config, Hub};

@@ -1,14 +1,16 @@
 //! Lifetimes of replies, and purges: worked histories, whose answers come from the definitions.
 
-use crate::acts::has_few;
+use crate::acts::{has_few, key};
 use hub_core::{Config, Hub};
 use hub_model::{Change, Commits, Condition, Tags};
 use q_base::{Moment, Name};
 use q_doc::Doc;
-use query_core::{Filter, Form, Kind, Order, Query};
-use query_normal::{Key, normal};
+use query_normal::Key;
 use std::alloc::Global;
 use std::test::Fail;
+
+/// The key of the query for all documents of the collection shop.
+const ALL: &[u8] = b"q/shop/objects/f=true;o=;s=0;n=100";
 
 /// A new hub with these least and greatest lifetimes, and so many active keys, in a box, so that letting it
 /// go is one call wherever a function may end.
@@ -48,20 +50,6 @@ fn match_all(hub: &mut Hub, second: u64) -> Result<(), Fail> {
 fn record_key(alloc: Global, id: &[u8]) -> Result<Key, Fail> {
     let collection = Name::read(alloc, b"shop")?;
     Ok(Key::record(alloc, collection, Name::read(alloc, id)?)?)
-}
-
-/// The key of the query for all documents of the collection shop.
-fn query_key(alloc: Global) -> Result<Key, Fail> {
-    let query = Query {
-        collection: Name::read(alloc, b"shop")?,
-        filter: Filter {
-            form: Form::Constant(true),
-        },
-        order: Order::of(Vec::new(alloc)),
-        skip: 0,
-        take: 100,
-    };
-    Ok(Key::query(alloc, Kind::Objects, normal(alloc, query)?)?)
 }
 
 /// The lifetime of a reply for a key at a second.
@@ -107,7 +95,8 @@ fn absent_keys_take_a_quarter_of_the_places(rt: HostRuntime) -> Result<(), Fail>
     assert_eq!(rt; record_lifetime(alloc, &mut hub, 102, b"p2")?, 30);
     // A present one does, and so does a query.
     assert_eq!(rt; record_lifetime(alloc, &mut hub, 102, b"p1")?, 60);
-    assert_eq!(rt; lifetime(alloc, &mut hub, 102, &query_key(alloc)?)?, 60);
+    let all = key(alloc, ALL)?;
+    assert_eq!(rt; lifetime(alloc, &mut hub, 102, &all)?, 60);
     // The last copy of p2 expires at 132, and its place is free.
     assert_eq!(rt; record_lifetime(alloc, &mut hub, 131, b"p3")?, 0);
     assert_eq!(rt; record_lifetime(alloc, &mut hub, 132, b"p3")?, 30);
@@ -178,7 +167,7 @@ fn lifetimes_are_at_most_a_year(rt: HostRuntime) -> Result<(), Fail> {
 fn the_estimate_of_a_query_learns_from_a_purge(rt: HostRuntime) -> Result<(), Fail> {
     let alloc = rt.alloc();
     let mut hub = new_hub(alloc, 1, 3_600, 10)?;
-    let key = query_key(alloc)?;
+    let key = key(alloc, ALL)?;
     put_four(alloc, &mut hub)?;
     assert_eq!(rt; lifetime(alloc, &mut hub, 400, &key)?, 51);
     put(alloc, &mut hub, 420, b"p2", br#"{"a":4}"#)?;

@@ -1,39 +1,30 @@
 //! What no clause says of the results of queries: that they are answered by the kept texts, and worked
 //! changes that outdate them.
 
+use crate::acts::key;
 use crate::hubs::{Asks, is_text, match_all, new_hub, write, write_all};
 use hub_core::{Config, Hub};
 use hub_model::{Commits, Outcome, Tags};
 use q_base::{Moment, Name};
 use q_doc::Doc;
-use query_core::{Filter, Form, Kind, Order, Query};
-use query_normal::{Key, normal};
+use query_normal::Key;
 use std::alloc::Global;
 use std::test::Fail;
 
 /// The key of the query for the first two documents of the collection shop.
-fn query_key(alloc: Global, kind: Kind) -> Result<Key, Fail> {
-    let query = Query {
-        collection: Name::read(alloc, b"shop")?,
-        filter: Filter {
-            form: Form::Constant(true),
-        },
-        order: Order::of(Vec::new(alloc)),
-        skip: 0,
-        take: 2,
-    };
-    Ok(Key::query(alloc, kind, normal(alloc, query)?)?)
-}
+const OBJECTS: &[u8] = b"q/shop/objects/f=true;o=;s=0;n=2";
+
+/// The same of the query for their ids.
+const IDS: &[u8] = b"q/shop/ids/f=true;o=;s=0;n=2";
 
 /// Whether a query's result has this text, which may be kept, and is known by its commit after a
 /// further one that does not change it.
-fn is_queried(alloc: Global, hub: &mut Hub, kind: Kind, text: &[u8]) -> Result<bool, Fail> {
-    let key = query_key(alloc, kind)?;
+fn is_queried(alloc: Global, hub: &mut Hub, key: &Key, text: &[u8]) -> Result<bool, Fail> {
     let mut tags = Commits::new(alloc);
-    let first = hub.read(Moment::of(100), &key, &Tags::Listed(tags.clone()?))?;
+    let first = hub.read(Moment::of(100), key, &Tags::Listed(tags.clone()?))?;
     write(alloc, hub, b'3', None, Asks::Nothing)?;
     tags.push(first.commit)?;
-    let next = hub.read(Moment::of(100), &key, &Tags::Listed(tags))?;
+    let next = hub.read(Moment::of(100), key, &Tags::Listed(tags))?;
     let is_known = match next.result {
         Outcome::Same { tag, version: None } => tag == first.commit,
         _ => false,
@@ -47,8 +38,10 @@ fn queries_are_answered_by_the_kept_texts(rt: HostRuntime) -> Result<(), Fail> {
     let mut hub = new_hub(alloc, Config::default())?;
     write_all(alloc, &mut hub, b"1")?;
     let objects = br#"[{"doc":{"a":1},"id":"p1","version":1}]"#;
-    assert!(rt; is_queried(alloc, &mut hub, Kind::Objects, objects)?);
-    assert!(rt; is_queried(alloc, &mut hub, Kind::Ids, br#"["p1"]"#)?);
+    let key_of_objects = key(alloc, OBJECTS)?;
+    assert!(rt; is_queried(alloc, &mut hub, &key_of_objects, objects)?);
+    let key_of_ids = key(alloc, IDS)?;
+    assert!(rt; is_queried(alloc, &mut hub, &key_of_ids, br#"["p1"]"#)?);
     Ok(())
 }
 
@@ -99,8 +92,8 @@ fn a_change_outdates_the_results_that_show_it(rt: HostRuntime) -> Result<(), Fai
     let alloc = rt.alloc();
     let mut hub = new_hub(alloc, Config::default())?;
     write_all(alloc, &mut hub, b"12")?;
-    let objects = query_key(alloc, Kind::Objects)?;
-    let ids = query_key(alloc, Kind::Ids)?;
+    let objects = key(alloc, OBJECTS)?;
+    let ids = key(alloc, IDS)?;
     assert!(rt; are_shown(alloc, &mut hub, &objects, &ids)?);
     Ok(())
 }
@@ -117,7 +110,7 @@ fn a_document_slides_into_a_window(rt: HostRuntime) -> Result<(), Fail> {
     let alloc = rt.alloc();
     let mut hub = new_hub(alloc, Config::default())?;
     write_all(alloc, &mut hub, b"123")?;
-    let ids = query_key(alloc, Kind::Ids)?;
+    let ids = key(alloc, IDS)?;
     assert!(rt; slides(alloc, &mut hub, &ids)?);
     Ok(())
 }
@@ -134,7 +127,7 @@ fn is_undone(alloc: Global, hub: &mut Hub, ids: &Key) -> Result<bool, Fail> {
 fn a_change_that_is_undone_outdates_a_result(rt: HostRuntime) -> Result<(), Fail> {
     let alloc = rt.alloc();
     let mut hub = new_hub(alloc, Config::default())?;
-    let ids = query_key(alloc, Kind::Ids)?;
+    let ids = key(alloc, IDS)?;
     assert!(rt; is_undone(alloc, &mut hub, &ids)?);
     hub.tick(Moment::of(3_700));
     assert!(rt; !hub.holds(&ids));
@@ -154,7 +147,7 @@ fn put_often(alloc: Global, hub: &mut Hub, times: u32) -> Result<(), Fail> {
 fn a_write_is_helped_where_1024_commits_are_not_matched(rt: HostRuntime) -> Result<(), Fail> {
     let alloc = rt.alloc();
     let mut hub = new_hub(alloc, Config::default())?;
-    let ids = query_key(alloc, Kind::Ids)?;
+    let ids = key(alloc, IDS)?;
     assert!(rt; reads(alloc, &mut hub, &ids, b"[]")?);
     put_often(alloc, &mut hub, 1_024)?;
     assert!(rt; hub.front() == 0 && !hub.holds(&ids));
