@@ -1,0 +1,10 @@
+pub mod AcrossLemmas
+pub mod ImageLemmas
+pub mod JournalLemmas
+pub mod KeptLemmas
+pub mod LoopLemmas
+pub mod OpenedLemmas
+pub mod OpeningLemmas
+pub mod ReplayLemmas
+pub mod StateLemmas
+pub mod SoundLemmas

@@ -1,0 +1,3 @@
+mod CrashLemmas
+mod FollowLemmas
+mod LifetimeLemmas
