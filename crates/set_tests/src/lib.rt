@@ -1,8 +1,10 @@
-//! Tests of match sets and of active queries.
+//! Tests of match sets, of the index of queries and of active queries.
 #![tactic(auto)]
 
 #[cfg(test)]
 mod following;
+#[cfg(test)]
+mod indexed;
 #[cfg(test)]
 mod newest;
 #[cfg(test)]

@@ -1,0 +1,4 @@
+pub mod CandidateLemmas
+pub mod FoundLemmas
+pub mod PlaceLemmas
+mod StandardFacts
