@@ -1,0 +1,5 @@
+pub mod CrashLemmas
+pub mod CrossingLemmas
+pub mod NoteLemmas
+pub mod SeatLemmas
+pub mod StandLemmas

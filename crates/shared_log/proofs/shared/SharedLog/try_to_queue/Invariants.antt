@@ -1,0 +1,6 @@
+-- the seat has seen no less than before
+use Rattle.shared_log.specs.Shared.{IsSeated, KnowsStill}
+use Rattle.shared_log.proofs.shared.SharedLog.try_to_queue.Given as goal
+
+abbrev pub invariant-loop-n : goal.invariant-loop-n
+invariant-loop-n g l = IsSeated l.self.turnstile l.seat × KnowsStill l.self.turnstile l.initial.seat l.seat

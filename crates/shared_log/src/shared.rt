@@ -1,0 +1,122 @@
+//! A log behind its turnstile, with two bells.
+//!
+//! A thread that waits for the log reads a bell, then takes a turn and looks, and then sleeps while the bell
+//! says what it read. Whoever changes what others wait for gives the turn back first and then rings: so one
+//! that looked before the change finds the bell changed, and does not sleep.
+ghost use Rattle.std.specs.Prelude.{◌≡◌, ℕ, ◌+◌, IfOk};
+ghost use Rattle.record_log.specs.Images.{IsReady};
+ghost use Rattle.shared_log.specs.LogValues.{opened_of};
+ghost use Rattle.shared_log.specs.Shared.{IsSeated};
+ghost use Rattle.turnstile.specs.Seats.{setting_of, seen, HasOut, IsPart};
+
+use crate::log_value::LogValue;
+use crate::mark::AtOpening;
+use disks::Disk;
+use q_base::Memory;
+use record_log::Log;
+use std::alloc::Global;
+use std::sync::Wait;
+use std::sync::atomic::{AtomicU64, Ordering};
+use std::time::Duration;
+use turnstile::{Seat, Turnstile};
+
+/// For how many milliseconds one who waits sleeps at most.
+const REST_MILLIS: u64 = 100;
+
+/// What a sync waits for.
+#[derive(Clone, Copy, Debug, PartialEq, Eq)]
+pub enum Sync {
+    /// Nothing: what is queued is stored at once.
+    Always,
+    /// Others, for so many milliseconds, so that they share it.
+    Batch { millis: u64 },
+}
+
+/// Something that others wait for.
+#[derive(Drop)]
+pub(crate) struct Bell {
+    word: AtomicU64,
+}
+
+impl Bell {
+    fn new() -> Bell {
+        Bell {
+            word: AtomicU64::new(0),
+        }
+    }
+
+    /// What the bell says.
+    pub(crate) fn read(&self) -> u64 {
+        self.word.load(Ordering::SeqCst)
+    }
+
+    /// Changes what it says, and wakes those who sleep.
+    pub(crate) fn ring(&self) {
+        self.word.fetch_add(1, Ordering::SeqCst);
+        self.word.wake_all();
+    }
+
+    /// Sleeps while it says this.
+    pub(crate) fn sleep<R: Wait>(&self, rt: &R, heard: u64) {
+        let low = (heard & 0xffff_ffff) as u32;
+        self.word
+            .park_timeout(rt, low, Duration::from_millis(REST_MILLIS));
+    }
+}
+
+/// A log that many share.
+#[derive(Drop)]
+pub struct SharedLog<K: Disk + Drop> {
+    pub(crate) turnstile: Turnstile<LogValue<K>>,
+    pub(crate) sync: Sync,
+    /// It rings where records were stored, or the disk failed.
+    pub(crate) stored: Bell,
+    /// It rings where a commit was queued for which another waits.
+    pub(crate) queued: Bell,
+    /// How many wait for a commit to be queued.
+    pub(crate) early: AtomicU64,
+}
+
+impl<K: Disk + Drop> SharedLog<K> {
+    /// The shared log over one that was opened, and its first seat.
+    pub fn open(
+        alloc: Global,
+        log: Log<K>,
+        at: AtOpening,
+        sync: Sync,
+    ) -> Result<(SharedLog<K>, Seat<LogValue<K>>), Memory>
+        requires { IsReady log.history log.gate }
+        ensures seat { IfOk result (λ r. IsSeated r.0.turnstile r.1) }
+        ensures out { IfOk result (λ r. HasOut 0 r.1) }
+        ensures opened { IfOk result (λ r. setting_of opened_of r.0.turnstile ≡ record { log = log; commits = at.commits; moment = at.moment }) }
+    {
+        let (turnstile, seat) = Turnstile::open(alloc, LogValue::new(alloc, log, at)?)?;
+        let shared = SharedLog {
+            turnstile,
+            sync,
+            stored: Bell::new(),
+            queued: Bell::new(),
+            early: AtomicU64::new(0),
+        };
+        Ok((shared, seat))
+    }
+
+    /// A further seat.
+    pub fn split(&self, seat: &mut Seat<LogValue<K>>) -> Seat<LogValue<K>>
+        requires { IsSeated self.now.turnstile seat.old }
+        ensures seat { IsSeated self.now.turnstile seat.new }
+        ensures own { IsSeated self.now.turnstile result }
+        ensures known { seen seat.new ≡ seen seat.old }
+        ensures same { seen result ≡ seen seat.old }
+        ensures out { (n : ℕ) → HasOut n seat.old → HasOut (n + 1) seat.new × IsPart result }
+    {
+        self.turnstile.split(seat)
+    }
+
+    /// Wakes those who came early with a commit, where there are any.
+    pub(crate) fn wake_early(&self) {
+        if self.early.load(Ordering::SeqCst) != 0 {
+            self.queued.ring();
+        }
+    }
+}
