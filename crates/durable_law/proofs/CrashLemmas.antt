@@ -20,6 +20,7 @@ use Rattle.durable_book.specs.KeptHub.{HoldsJournal, KeptView, StandsFor}
 use Rattle.durable_book.specs.Moments.{guard_of}
 use Rattle.durable_book.specs.Replay.{opening_of}
 use Rattle.durable_book.proofs.ImageLemmas.{leaves-still}
+use Rattle.durable_law.specs.Left.{GoesOn}
 use Rattle.durable_law.specs.Outlasts.{Outlasts}
 use Rattle.durable_law.proofs.FollowLemmas.{Following}
 
@@ -137,3 +138,6 @@ module _ (one : OneList) (one_journal : OneJournal) where
     behind-crash h image log shown may opened =
         let holds = subst (λ (o : Option History). HoldsJournal o k.log.gate (state_of k.hub.setting history).journal k.kept) shown stands.state.disk in
         behind-read image log (inl (still h k.log.gate (state_of k.hub.setting history).journal k.kept holds image may)) opened
+
+    pub behind-openings : (image : List ℕ) (log : LogView) → GoesOn (state_of k.hub.setting history).journal k.kept image → HasOpened (rests image) log records → costs_of (journal_of records) ≤ later_g.capacity → Outlasts k later_g → IsFollowed
+    behind-openings image log left opened = by_records (go_on image (state_of k.hub.setting history).journal left.more k.kept left.later left.waiting log records left.rises left.stands opened)

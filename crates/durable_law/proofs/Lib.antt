@@ -1,3 +1,4 @@
 mod CrashLemmas
 mod FollowLemmas
+mod LeftLemmas
 mod LifetimeLemmas

@@ -4,11 +4,13 @@ ghost use Rattle.commit_book.specs.declared.change.Change.{Change as AChange};
 ghost use Rattle.disks.specs.Devices.{MayLeave};
 ghost use Rattle.disks.specs.Histories.{History, device_of};
 ghost use Rattle.durable_book.specs.Across.{Follows};
-ghost use Rattle.durable_book.specs.Images.{IsInRead, IsInWrite};
+ghost use Rattle.durable_book.specs.Images.{IsBefore, IsInRead, IsInWrite};
 ghost use Rattle.durable_book.specs.Journals.{costs_of, journal_of, last_kept, last_moment};
 ghost use Rattle.durable_book.specs.KeptHub.{KeptView, StandsFor};
 ghost use Rattle.durable_book.specs.Moments.{guard_of};
+ghost use Rattle.durable_book.specs.Opened.{IsFoundIn};
 ghost use Rattle.durable_book.specs.Replay.{opening_of};
+ghost use Rattle.durable_law.specs.Left.{GoesOn};
 ghost use Rattle.durable_law.specs.Outlasts.{Outlasts};
 ghost use Rattle.hub_model.specs.declared.entry.Entry.{Entry as AnEntry};
 ghost use Rattle.hub_model.specs.Desk.{IsPrefix};
@@ -63,6 +65,31 @@ pub fn stores_behind_a_call_follow()
         (image : List ℕ) (log : LogView) →
         StandsFor k history
         → IsInRead (state_of k.hub.setting history).journal k.kept image
+        → HasOpened (Some (record { start = image; calls = [] })) log records
+        → costs_of (journal_of records) ≤ later_g.capacity → Outlasts k later_g
+        → Follows k.hub.setting later_g history (opening_of later_g records moment ++ more) (guard_of later_g (last_moment records)) }
+{
+    later_stores_follow();
+    an_image_stands_for_one_journal();
+    bytes_have_one_list_of_frames();
+}
+
+/// What a crash leaves of a store goes on from its journal: what it leaves between two calls, and at any
+/// moment of a write and of a read; and what it leaves at any moment of an opening of such an image, however
+/// often that comes.
+pub fn what_a_crash_leaves_goes_on()
+    ensures still { (journal : List AChange) (kept : ℕ) (image : List ℕ) → IsBefore journal kept image → GoesOn journal kept image }
+    ensures write { (capacity kept : ℕ) (journal : List AChange) (change : AChange) (image : List ℕ) → IsInWrite capacity journal kept change image → GoesOn journal kept image }
+    ensures read { (journal : List AChange) (kept : ℕ) (image : List ℕ) → IsInRead journal kept image → GoesOn journal kept image }
+    ensures opening { (journal : List AChange) (kept : ℕ) (seen image : List ℕ) → GoesOn journal kept seen → IsFoundIn seen image → GoesOn journal kept image }
+{}
+
+/// So a store that is opened follows the earlier one also where openings between the two were cut off.
+pub fn stores_behind_openings_follow()
+    ensures { (k : KeptView) (later_g : Setting) (history more : List AnEntry) (records : List ARecord) (moment : ℕ)
+        (image : List ℕ) (log : LogView) →
+        StandsFor k history
+        → GoesOn (state_of k.hub.setting history).journal k.kept image
         → HasOpened (Some (record { start = image; calls = [] })) log records
         → costs_of (journal_of records) ≤ later_g.capacity → Outlasts k later_g
         → Follows k.hub.setting later_g history (opening_of later_g records moment ++ more) (guard_of later_g (last_moment records)) }

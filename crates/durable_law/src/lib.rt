@@ -4,4 +4,7 @@
 
 mod laws;
 
-pub use laws::{later_stores_follow, stores_behind_a_call_follow, stores_behind_a_crash_follow};
+pub use laws::{
+    later_stores_follow, stores_behind_a_call_follow, stores_behind_a_crash_follow,
+    stores_behind_openings_follow, what_a_crash_leaves_goes_on,
+};
