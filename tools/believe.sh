@@ -6,7 +6,7 @@
 # counts too, so it may find more than is reached, and never less.
 #
 # A file of specs/ with a definition that is reached begins with `-- Believed. `, each other one with
-# `-- Internal. `; of a file that only `read` and `world` reach either is taken. docs/BELIEVE.md lists these files, and the files of src/ with types that are reached,
+# `-- Internal. `; of a file that only `read`, `world` and `crash` reach either is taken. docs/BELIEVE.md lists these files, and the files of src/ with types that are reached,
 # once each, each after those that it uses, and names the kit's crates that they cite. The script prints
 # a line for each thing that is otherwise, and its status is 1 where it printed any.
 #
@@ -21,7 +21,7 @@ specs() { find crates -name out -prune -o -path '*/specs/*.antt' ! -name Lib.ant
 sources() { find crates -name out -prune -o -path '*/src/*.rt' ! -name tests.rt ! -path '*_tests/*' -print | sort; }
 
 # Prints a line for each file that is reached, with the names; for the kit's crates, `kit NAME`. With the
-# word `served`, what `read` and `world` reach besides is left out.
+# word `served`, what `read`, `world` and `crash` reach besides is left out.
 closure() {
     awk -v part="$1" '
         # the names of an import: `PATH.{a, b as c}`, `PATH as x` or `PATH`
@@ -93,7 +93,7 @@ closure() {
             sub(/\/\/.*/, "")
             # what the program does as a client
             if (part == "served" && crate == "quaestor_prog") {
-                if ($0 ~ /^ *ensures (read|world) |^ *type Link|^ *ghost links|^ *fn (reach|hear|note|keep_link)[(<]/) client = 1
+                if ($0 ~ /^ *ensures (read|world|crash) |^ *type Link|^ *ghost links|^ *fn (reach|hear|note|keep_link)[(<]/) client = 1
                 else if ($0 ~ /^ *(ensures [a-z]+ |type |ghost [a-z]+:|fn |\{$)|^}/ && !($0 ~ /^ *ensures (gives|links|unused|unasked|count) /)) client = 0
                 if (client) next
             }

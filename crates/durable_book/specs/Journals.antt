@@ -1,4 +1,4 @@
--- Internal. What records say of a store: its journal, and the last moment that it keeps.
+-- Believed. What records say of a store: its journal, and the last moment that it keeps.
 use Rattle.std.specs.Prelude.{ℕ, List, [], ◌∷◌, fold, sum_by}
 use Rattle.std.specs.List.{flat_map}
 use Rattle.std.specs.Option.{option_map_or}

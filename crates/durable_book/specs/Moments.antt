@@ -1,4 +1,4 @@
--- Internal. The kept moment and the guard of a store.
+-- Believed. The kept moment and the guard of a store.
 use Rattle.std.specs.Prelude.{ℕ, ◌+◌, ◌-◌, ◌^◌, min, nat_lt, if◌then◌else◌, unwrap_or}
 use Rattle.std.specs.declared.option.Option.{Option}
 use Rattle.std.specs.declared.option.Option.TheVariants.{None, Some}

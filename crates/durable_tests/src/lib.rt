@@ -6,6 +6,8 @@ mod guards;
 #[cfg(test)]
 mod openings;
 #[cfg(test)]
+mod runs;
+#[cfg(test)]
 mod stops;
 #[cfg(test)]
 mod worked;

@@ -90,7 +90,7 @@ fn run_ended<R: Threads + Wait + rt::Clock + Copy + Send + AllocGlobal + 'static
 
 #[test]
 fn the_sink_is_ended_once_behind_all_that_is_given(rt: HostRuntime) -> Result<(), Fail> {
-    let rows: [(&[&str], Status); 7] = [
+    let rows: [(&[&str], Status); 8] = [
         (&["pipe"], Status::Done),
         (&["serve"], Status::Words),
         (&["serve", "here"], Status::Done),
@@ -101,6 +101,7 @@ fn the_sink_is_ended_once_behind_all_that_is_given(rt: HostRuntime) -> Result<()
             Status::PlaceFault,
         ),
         (&["world", "7", "1"], Status::Done),
+        (&["crash", "7", "1"], Status::Done),
     ];
     for (at, (line, status)) in rows.into_iter().enumerate() {
         let mut sink = Ended {

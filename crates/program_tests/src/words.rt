@@ -91,6 +91,10 @@ fn options_are_numbers_within_their_limits(rt: HostRuntime) -> Result<(), Fail> 
         ("world 7 1 1", Status::Words),
         ("world --seed 7 1", Status::Words),
         ("world 18446744073709551615 1", Status::Done),
+        ("crash 7 0", Status::Words),
+        ("crash 7 100001", Status::Words),
+        ("crash 7", Status::Words),
+        ("crash 18446744073709551615 1", Status::Done),
         ("read here session", Status::Words),
         ("read here Session r/shop/p1", Status::Words),
         ("read here weak r/shop/p1", Status::Words),
@@ -165,7 +169,7 @@ fn options_are_numbers_within_their_limits(rt: HostRuntime) -> Result<(), Fail> 
 #[test]
 fn numbers_are_taken_up_to_their_limits(rt: HostRuntime) -> Result<(), Fail> {
     // The words ahead of the number, two numbers that are taken, and two that are not.
-    let rows: [(&[&str], [&str; 2], [&str; 2]); 21] = [
+    let rows: [(&[&str], [&str; 2], [&str; 2]); 22] = [
         (&["pipe", "--bits"], ["10", "22"], ["9", "23"]),
         (&["pipe", "--hashes"], ["1", "16"], ["0", "17"]),
         (&["pipe", "--ttl-low"], ["1", "3600"], ["0", "3601"]),
@@ -235,6 +239,7 @@ fn numbers_are_taken_up_to_their_limits(rt: HostRuntime) -> Result<(), Fail> {
             ["00", "31536001"],
         ),
         (&["world", "7"], ["1", "1000000"], ["0", "1000001"]),
+        (&["crash", "7"], ["1", "100000"], ["0", "100001"]),
     ];
     for (words, within, beyond) in rows {
         for number in within {
@@ -351,6 +356,7 @@ fn help_and_version_are_written(rt: HostRuntime) -> Result<(), Fail> {
         "serve --help",
         "read --help",
         "world -h",
+        "crash -h",
     ] {
         let outcome = run_line(&rt, line)?;
         assert_eq!(rt; outcome.status, Status::Done, "of {line}");
@@ -363,6 +369,7 @@ fn help_and_version_are_written(rt: HostRuntime) -> Result<(), Fail> {
         "serve -V",
         "read -V",
         "world -V",
+        "crash -V",
     ] {
         let outcome = run_line(&rt, line)?;
         assert_run(&rt, &outcome, Status::Done, b"quaestor 0.1.0\n", 0);

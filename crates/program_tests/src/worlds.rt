@@ -1,4 +1,4 @@
-//! Worlds: their texts.
+//! Worlds, and runs with crashes: their texts.
 
 use crate::calls::{AMPLE, WHOLE, assert_run, calls_of, run_over};
 use quaestor_prog::Status;
@@ -7,17 +7,30 @@ use std::test::Fail;
 /// A world of one step, which is no read.
 const FIRST: &[u8] = b"steps 1\ncommits 2000\nreads 0\ncached 0\ndirect 0\nrecord 0\n";
 
+/// A run with crashes of one step, which is no crash.
+const FIRST_CRASH: &[u8] = b"open 0 0 0\nsteps 1\ncommits 0\ncrashes 0\n";
+
 #[test]
-fn a_world_is_written_or_a_beginning_of_it(rt: HostRuntime) -> Result<(), Fail> {
-    for (capacity, status) in [
-        (AMPLE, Status::Done),
-        (FIRST.len(), Status::Done),
-        (FIRST.len() - 1, Status::WriteFault),
-        (0, Status::WriteFault),
-    ] {
+fn the_text_of_a_run_is_written_or_a_beginning_of_it(rt: HostRuntime) -> Result<(), Fail> {
+    let rows = [
+        ("world", FIRST, AMPLE, Status::Done),
+        ("world", FIRST, FIRST.len(), Status::Done),
+        ("world", FIRST, FIRST.len() - 1, Status::WriteFault),
+        ("world", FIRST, 0, Status::WriteFault),
+        ("crash", FIRST_CRASH, AMPLE, Status::Done),
+        ("crash", FIRST_CRASH, FIRST_CRASH.len(), Status::Done),
+        (
+            "crash",
+            FIRST_CRASH,
+            FIRST_CRASH.len() - 1,
+            Status::WriteFault,
+        ),
+        ("crash", FIRST_CRASH, 0, Status::WriteFault),
+    ];
+    for (command, text, capacity, status) in rows {
         let outcome = run_over(
             &rt,
-            &["world", "7", "1"],
+            &[command, "7", "1"],
             b"x",
             calls_of(WHOLE),
             capacity,
@@ -27,7 +40,7 @@ fn a_world_is_written_or_a_beginning_of_it(rt: HostRuntime) -> Result<(), Fail> 
             &rt,
             &outcome,
             status,
-            FIRST.get(..capacity).unwrap_or(FIRST),
+            text.get(..capacity).unwrap_or(text),
             capacity,
         );
     }

@@ -7,13 +7,13 @@ use Rattle.clap.specs.declared.parser.matches.ArgMatches.{ArgMatches}
 use Rattle.clap.specs.declared.error.kind.ErrorKind.{ErrorKind}
 use Rattle.clap.specs.declared.error.kind.ErrorKind.TheVariants as kind
 use Rattle.hub_model.specs.Setting.{Setting}
-use Rattle.quaestor_prog.specs.Commands.{flag_rule, option_rule, word_rule, with_limit_rules, with_number_rules, with_setting_rules, with_watch_rules, versioned, pipe_app, serve_app, read_app, world_app, program_app, NamesPipe, NamesServe, NamesRead, NamesWorld, NamesNone, FaultsAre, IsAnswered, AskHelp}
+use Rattle.quaestor_prog.specs.Commands.{flag_rule, option_rule, word_rule, with_limit_rules, with_number_rules, with_setting_rules, with_watch_rules, versioned, pipe_app, serve_app, read_app, world_app, crash_app, program_app, NamesPipe, NamesServe, NamesRead, NamesWorld, NamesCrash, NamesNone, FaultsAre, IsAnswered, AskHelp}
 use Rattle.quaestor_prog.specs.Help.{IsHelpOf, IsShownFor}
 use Rattle.quaestor_prog.specs.declared.help.HelpText.{HelpText}
 use Rattle.quaestor_prog.specs.declared.help.HelpText.TheVariants as texts
-use Rattle.quaestor_prog.specs.Words.{AreRun, AreTaken, Asks, FoundRead, IsAnswerOf, IsPipe, IsPipeOf, IsRead, IsServe, IsServeOf, IsWorld, AreOptions, AreServeOptions, ReadAsk, ServeAsk}
+use Rattle.quaestor_prog.specs.Words.{AreRun, AreTaken, Asks, FoundRead, IsAnswerOf, IsPipe, IsPipeOf, IsRead, IsServe, IsServeOf, IsWorld, IsCrash, AreOptions, AreServeOptions, ReadAsk, ServeAsk}
 use Rattle.quaestor_prog.specs.declared.words.Invocation.{Invocation}
-use Rattle.quaestor_prog.specs.declared.words.Invocation.TheVariants.{Pipe, Serve, Read, World, Help, Invalid}
+use Rattle.quaestor_prog.specs.declared.words.Invocation.TheVariants.{Pipe, Serve, Read, World, Crash, Help, Invalid}
 use Rattle.quaestor_prog.specs.declared.refusal.Refusal.TheVariants as why
 use Rattle.quaestor_prog.proofs.Singles.{Single, fault_single}
 
@@ -55,6 +55,9 @@ read_is a b c d pa pb pc pd =
 pub world_is : (a b c : App) → a ≡ versioned (codes "world") → b ≡ with_rule a (word_rule (codes "SEED")) → c ≡ with_rule b (word_rule (codes "STEPS")) → c ≡ world_app
 world_is a b c pa pb pc = pc ∙ ap (λ x. with_rule x (word_rule (codes "STEPS"))) (pb ∙ ap (λ x. with_rule x (word_rule (codes "SEED"))) pa)
 
+pub crash_is : (a b c : App) → a ≡ versioned (codes "crash") → b ≡ with_rule a (word_rule (codes "SEED")) → c ≡ with_rule b (word_rule (codes "STEPS")) → c ≡ crash_app
+crash_is a b c pa pb pc = pc ∙ ap (λ x. with_rule x (word_rule (codes "STEPS"))) (pb ∙ ap (λ x. with_rule x (word_rule (codes "SEED"))) pa)
+
 -- clap has at most one kind of error for the words of a command
 pub pipe_single : (words : List Text) → Single (fault_of pipe_app words)
 pipe_single words = fault_single pipe_app words refl refl refl
@@ -67,6 +70,9 @@ read_single words = fault_single read_app words refl refl refl
 
 pub world_single : (words : List Text) → Single (fault_of world_app words)
 world_single words = fault_single world_app words refl refl refl
+
+pub crash_single : (words : List Text) → Single (fault_of crash_app words)
+crash_single words = fault_single crash_app words refl refl refl
 
 pub program_single : (words : List Text) → Single (fault_of program_app words)
 program_single words = fault_single program_app words refl refl refl
@@ -94,7 +100,8 @@ help_asked words text (inl p) = inl (p.0, shown_answered _ text _ p.1)
 help_asked words text (inr (inl s)) = inr (inl (s.0, shown_answered _ text _ s.1))
 help_asked words text (inr (inr (inl r))) = inr (inr (inl (r.0, shown_answered _ text _ r.1)))
 help_asked words text (inr (inr (inr (inl w)))) = inr (inr (inr (inl (w.0, shown_answered _ text _ w.1))))
-help_asked words text (inr (inr (inr (inr n)))) = inr (inr (inr (inr (n.0, shown_answered _ text _ n.1))))
+help_asked words text (inr (inr (inr (inr (inl k))))) = inr (inr (inr (inr (inl (k.0, shown_answered _ text _ k.1)))))
+help_asked words text (inr (inr (inr (inr (inr n))))) = inr (inr (inr (inr (inr (n.0, shown_answered _ text _ n.1)))))
 
 -- a list with a kind is not empty
 pub not_taken : (kinds : Kinds) (of : ErrorKind) → (of ≡ kind.OutOfMemory) ⊎ IsAmong of kinds → of ≢ kind.OutOfMemory → kinds ≡ [] → ⊥
@@ -139,72 +146,109 @@ serve_world words p q = let bad : 115 ≡ 119 = first_of_name words _ _ p q in a
 pub read_world : (words : List Text) → NamesRead words → NamesWorld words → ⊥
 read_world words p q = let bad : 114 ≡ 119 = first_of_name words _ _ p q in absurd (omega (arith, bad))
 
+pub pipe_crash : (words : List Text) → NamesPipe words → NamesCrash words → ⊥
+pipe_crash words p q = let bad : 112 ≡ 99 = first_of_name words _ _ p q in absurd (omega (arith, bad))
+
+pub serve_crash : (words : List Text) → NamesServe words → NamesCrash words → ⊥
+serve_crash words p q = let bad : 115 ≡ 99 = first_of_name words _ _ p q in absurd (omega (arith, bad))
+
+pub read_crash : (words : List Text) → NamesRead words → NamesCrash words → ⊥
+read_crash words p q = let bad : 114 ≡ 99 = first_of_name words _ _ p q in absurd (omega (arith, bad))
+
+pub world_crash : (words : List Text) → NamesWorld words → NamesCrash words → ⊥
+world_crash words p q = let bad : 119 ≡ 99 = first_of_name words _ _ p q in absurd (omega (arith, bad))
+
 -- what is said of clap's faults for the words is said of those of the command that they name
 pub faults_pipe : (such : Kinds → Type 0) (words : List Text) → NamesPipe words → FaultsAre such words → such (fault_of pipe_app words)
 faults_pipe such words named (inl p) = p.1
 faults_pipe such words named (inr (inl s)) = absurd (pipe_serve words named s.0)
 faults_pipe such words named (inr (inr (inl r))) = absurd (pipe_read words named r.0)
 faults_pipe such words named (inr (inr (inr (inl w)))) = absurd (pipe_world words named w.0)
-faults_pipe such words named (inr (inr (inr (inr n)))) = absurd (n.0.0 named)
+faults_pipe such words named (inr (inr (inr (inr (inl k))))) = absurd (pipe_crash words named k.0)
+faults_pipe such words named (inr (inr (inr (inr (inr n))))) = absurd (n.0.0 named)
 
 pub faults_serve : (such : Kinds → Type 0) (words : List Text) → NamesServe words → FaultsAre such words → such (fault_of serve_app words)
 faults_serve such words named (inl p) = absurd (pipe_serve words p.0 named)
 faults_serve such words named (inr (inl s)) = s.1
 faults_serve such words named (inr (inr (inl r))) = absurd (serve_read words named r.0)
 faults_serve such words named (inr (inr (inr (inl w)))) = absurd (serve_world words named w.0)
-faults_serve such words named (inr (inr (inr (inr n)))) = absurd (n.0.1 named)
+faults_serve such words named (inr (inr (inr (inr (inl k))))) = absurd (serve_crash words named k.0)
+faults_serve such words named (inr (inr (inr (inr (inr n))))) = absurd (n.0.1 named)
 
 pub faults_read : (such : Kinds → Type 0) (words : List Text) → NamesRead words → FaultsAre such words → such (fault_of read_app words)
 faults_read such words named (inl p) = absurd (pipe_read words p.0 named)
 faults_read such words named (inr (inl s)) = absurd (serve_read words s.0 named)
 faults_read such words named (inr (inr (inl r))) = r.1
 faults_read such words named (inr (inr (inr (inl w)))) = absurd (read_world words named w.0)
-faults_read such words named (inr (inr (inr (inr n)))) = absurd (n.0.2 named)
+faults_read such words named (inr (inr (inr (inr (inl k))))) = absurd (read_crash words named k.0)
+faults_read such words named (inr (inr (inr (inr (inr n))))) = absurd (n.0.2 named)
 
 pub faults_world : (such : Kinds → Type 0) (words : List Text) → NamesWorld words → FaultsAre such words → such (fault_of world_app words)
 faults_world such words named (inl p) = absurd (pipe_world words p.0 named)
 faults_world such words named (inr (inl s)) = absurd (serve_world words s.0 named)
 faults_world such words named (inr (inr (inl r))) = absurd (read_world words r.0 named)
 faults_world such words named (inr (inr (inr (inl w)))) = w.1
-faults_world such words named (inr (inr (inr (inr n)))) = absurd (n.0.3 named)
+faults_world such words named (inr (inr (inr (inr (inl k))))) = absurd (world_crash words named k.0)
+faults_world such words named (inr (inr (inr (inr (inr n))))) = absurd (n.0.3 named)
+
+pub faults_crash : (such : Kinds → Type 0) (words : List Text) → NamesCrash words → FaultsAre such words → such (fault_of crash_app words)
+faults_crash such words named (inl p) = absurd (pipe_crash words p.0 named)
+faults_crash such words named (inr (inl s)) = absurd (serve_crash words s.0 named)
+faults_crash such words named (inr (inr (inl r))) = absurd (read_crash words r.0 named)
+faults_crash such words named (inr (inr (inr (inl w)))) = absurd (world_crash words w.0 named)
+faults_crash such words named (inr (inr (inr (inr (inl k))))) = k.1
+faults_crash such words named (inr (inr (inr (inr (inr n))))) = absurd (n.0.4 named)
 
 pub faults_program : (such : Kinds → Type 0) (words : List Text) → NamesNone words → FaultsAre such words → such (fault_of program_app words)
 faults_program such words none (inl p) = absurd (none.0 p.0)
 faults_program such words none (inr (inl s)) = absurd (none.1 s.0)
 faults_program such words none (inr (inr (inl r))) = absurd (none.2 r.0)
 faults_program such words none (inr (inr (inr (inl w)))) = absurd (none.3 w.0)
-faults_program such words none (inr (inr (inr (inr n)))) = n.1
+faults_program such words none (inr (inr (inr (inr (inl k))))) = absurd (none.4 k.0)
+faults_program such words none (inr (inr (inr (inr (inr n))))) = n.1
 
 -- words that a command runs are those that it takes
 pub pipe_runs : (words : List Text) → NamesPipe words → AreRun words → (g : Setting) × (at : Option ℕ) × IsPipe words g at
 pipe_runs words named (inl p) = p
 pipe_runs words named (inr (inl s)) = absurd (pipe_serve words named s.1.named)
 pipe_runs words named (inr (inr (inl r))) = absurd (pipe_read words named r.1.named)
-pipe_runs words named (inr (inr (inr w))) = absurd (pipe_world words named w.2.named)
+pipe_runs words named (inr (inr (inr (inl w)))) = absurd (pipe_world words named w.2.named)
+pipe_runs words named (inr (inr (inr (inr k)))) = absurd (pipe_crash words named k.2.named)
 
 pub serve_runs : (words : List Text) → NamesServe words → AreRun words → (ask : ServeAsk) × IsServe words ask
 serve_runs words named (inl p) = absurd (pipe_serve words p.2.named named)
 serve_runs words named (inr (inl s)) = s
 serve_runs words named (inr (inr (inl r))) = absurd (serve_read words named r.1.named)
-serve_runs words named (inr (inr (inr w))) = absurd (serve_world words named w.2.named)
+serve_runs words named (inr (inr (inr (inl w)))) = absurd (serve_world words named w.2.named)
+serve_runs words named (inr (inr (inr (inr k)))) = absurd (serve_crash words named k.2.named)
 
 pub read_runs : (words : List Text) → NamesRead words → AreRun words → (ask : ReadAsk) × IsRead words ask
 read_runs words named (inl p) = absurd (pipe_read words p.2.named named)
 read_runs words named (inr (inl s)) = absurd (serve_read words s.1.named named)
 read_runs words named (inr (inr (inl r))) = r
-read_runs words named (inr (inr (inr w))) = absurd (read_world words named w.2.named)
+read_runs words named (inr (inr (inr (inl w)))) = absurd (read_world words named w.2.named)
+read_runs words named (inr (inr (inr (inr k)))) = absurd (read_crash words named k.2.named)
 
 pub world_runs : (words : List Text) → NamesWorld words → AreRun words → (seed : ℕ) × (steps : ℕ) × IsWorld words seed steps
 world_runs words named (inl p) = absurd (pipe_world words p.2.named named)
 world_runs words named (inr (inl s)) = absurd (serve_world words s.1.named named)
 world_runs words named (inr (inr (inl r))) = absurd (read_world words r.1.named named)
-world_runs words named (inr (inr (inr w))) = w
+world_runs words named (inr (inr (inr (inl w)))) = w
+world_runs words named (inr (inr (inr (inr k)))) = absurd (world_crash words named k.2.named)
+
+pub crash_runs : (words : List Text) → NamesCrash words → AreRun words → (seed : ℕ) × (steps : ℕ) × IsCrash words seed steps
+crash_runs words named (inl p) = absurd (pipe_crash words p.2.named named)
+crash_runs words named (inr (inl s)) = absurd (serve_crash words s.1.named named)
+crash_runs words named (inr (inr (inl r))) = absurd (read_crash words r.1.named named)
+crash_runs words named (inr (inr (inr (inl w)))) = absurd (world_crash words w.2.named named)
+crash_runs words named (inr (inr (inr (inr k)))) = k
 
 pub none_runs : (words : List Text) → NamesNone words → AreRun words → ⊥
 none_runs words none (inl p) = none.0 p.2.named
 none_runs words none (inr (inl s)) = none.1 s.1.named
 none_runs words none (inr (inr (inl r))) = none.2 r.1.named
-none_runs words none (inr (inr (inr w))) = none.3 w.2.named
+none_runs words none (inr (inr (inr (inl w)))) = none.3 w.2.named
+none_runs words none (inr (inr (inr (inr k)))) = none.4 k.2.named
 
 -- an error that is not out of memory has one of the kinds
 pub among_kinds : (kinds : Kinds) (of own : ErrorKind) → (of ≡ kind.OutOfMemory) ⊎ IsAmong of kinds → of ≢ kind.OutOfMemory → own ≡ of → IsAmong own kinds
@@ -219,6 +263,7 @@ asks_error words own kinds of (Ok (Pipe p)) single says shows helps runs k a = a
 asks_error words own kinds of (Ok (Serve s)) single says shows helps runs k a = absurd a
 asks_error words own kinds of (Ok (Read r)) single says shows helps runs k a = absurd a
 asks_error words own kinds of (Ok (World w)) single says shows helps runs k a = absurd a
+asks_error words own kinds of (Ok (Crash w)) single says shows helps runs k a = absurd a
 asks_error words own kinds of (Ok (Help t)) single says shows helps runs k a = shows t (answered own t kinds of k a)
 asks_error words own kinds of (Ok (Invalid (why.Words e))) single says shows helps runs k a = (
   (λ taken. ⊎_elim (λ r. not_taken kinds of k a.0 (runs r)) (λ h. unanswered kinds of single k a.0 a.1 a.2 (helps h)) taken),
@@ -240,8 +285,11 @@ asks_read words of r named k a = asks_error words texts.Read (fault_of read_app 
 pub asks_world : {E : Type 0} (words : List Text) (of : ErrorKind) (r : Result Invocation E) → NamesWorld words → (of ≡ kind.OutOfMemory) ⊎ IsAmong of (fault_of world_app words) → IsAnswerOf texts.World of r → IfOk r (Asks words)
 asks_world words of r named k a = asks_error words texts.World (fault_of world_app words) of r (world_single words) (λ such s. inr (inr (inr (inl (named, s))))) (λ text s. inr (inr (inr (inl (named, s))))) (faults_world IsAnswered words named) (λ runs. (world_runs words named runs).2.taken) k a
 
+pub asks_crash : {E : Type 0} (words : List Text) (of : ErrorKind) (r : Result Invocation E) → NamesCrash words → (of ≡ kind.OutOfMemory) ⊎ IsAmong of (fault_of crash_app words) → IsAnswerOf texts.Crash of r → IfOk r (Asks words)
+asks_crash words of r named k a = asks_error words texts.Crash (fault_of crash_app words) of r (crash_single words) (λ such s. inr (inr (inr (inr (inl (named, s)))))) (λ text s. inr (inr (inr (inr (inl (named, s)))))) (faults_crash IsAnswered words named) (λ runs. (crash_runs words named runs).2.taken) k a
+
 pub asks_program : {E : Type 0} (words : List Text) (of : ErrorKind) (r : Result Invocation E) → NamesNone words → (of ≡ kind.OutOfMemory) ⊎ IsAmong of (fault_of program_app words) → IsAnswerOf texts.Program of r → IfOk r (Asks words)
-asks_program words of r none k a = asks_error words texts.Program (fault_of program_app words) of r (program_single words) (λ such s. inr (inr (inr (inr (none, s))))) (λ text s. inr (inr (inr (inr (none, s))))) (faults_program IsAnswered words none) (λ runs. absurd (none_runs words none runs)) k a
+asks_program words of r none k a = asks_error words texts.Program (fault_of program_app words) of r (program_single words) (λ such s. inr (inr (inr (inr (inr (none, s)))))) (λ text s. inr (inr (inr (inr (inr (none, s)))))) (faults_program IsAnswered words none) (λ runs. absurd (none_runs words none runs)) k a
 
 -- words that a command takes, though not with these values, are not taken at all
 pub pipe_refused : (words : List Text) → NamesPipe words → fault_of pipe_app words ≡ [] → ((g : Setting) (at : Option ℕ) → IsPipe words g at → ⊥) → AreTaken words → ⊥
@@ -260,6 +308,10 @@ pub world_refused : (words : List Text) → NamesWorld words → fault_of world_
 world_refused words named taken none (inl runs) = let w = world_runs words named runs in none w.0 w.1 w.2
 world_refused words named taken none (inr help) = nothing_answered _ taken (faults_world IsAnswered words named help)
 
+pub crash_refused : (words : List Text) → NamesCrash words → fault_of crash_app words ≡ [] → ((seed steps : ℕ) → IsCrash words seed steps → ⊥) → AreTaken words → ⊥
+crash_refused words named taken none (inl runs) = let k = crash_runs words named runs in none k.0 k.1 k.2
+crash_refused words named taken none (inr help) = nothing_answered _ taken (faults_crash IsAnswered words named help)
+
 -- what clap found for the words of `read` says what they ask for
 pub read_asked : {E : Type 0} (words : List Text) (r : Result Invocation E) → NamesRead words → fault_of read_app words ≡ [] → IfOk r (FoundRead (matches_of read_app words)) → IfOk r (Asks words)
 read_asked words (Ok (Read r)) named taken found = record { named = named; taken = taken; options = found }
@@ -270,6 +322,7 @@ read_asked words (Ok (Invalid (why.Words e))) named taken found = absurd found
 read_asked words (Ok (Pipe p)) named taken found = absurd found
 read_asked words (Ok (Serve s)) named taken found = absurd found
 read_asked words (Ok (World w)) named taken found = absurd found
+read_asked words (Ok (Crash k)) named taken found = absurd found
 read_asked words (Ok (Help t)) named taken found = absurd found
 read_asked words (Err e) named taken found = tt
 
@@ -283,6 +336,7 @@ pipe_asked words g at (Ok (Pipe p)) named taken options is = record {
 pipe_asked words g at (Ok (Serve s)) named taken options is = absurd is
 pipe_asked words g at (Ok (Read r)) named taken options is = absurd is
 pipe_asked words g at (Ok (World w)) named taken options is = absurd is
+pipe_asked words g at (Ok (Crash k)) named taken options is = absurd is
 pipe_asked words g at (Ok (Help t)) named taken options is = absurd is
 pipe_asked words g at (Ok (Invalid f)) named taken options is = absurd is
 pipe_asked words g at (Err e) named taken options is = tt
@@ -293,6 +347,7 @@ serve_asked words ask (Ok (Serve s)) named taken options is = record { named = n
 serve_asked words ask (Ok (Pipe p)) named taken options is = absurd is
 serve_asked words ask (Ok (Read r)) named taken options is = absurd is
 serve_asked words ask (Ok (World w)) named taken options is = absurd is
+serve_asked words ask (Ok (Crash k)) named taken options is = absurd is
 serve_asked words ask (Ok (Help t)) named taken options is = absurd is
 serve_asked words ask (Ok (Invalid f)) named taken options is = absurd is
 serve_asked words ask (Err e) named taken options is = tt

@@ -13,7 +13,7 @@ use Rattle.clap.proofs.CallerLemmas.{required_has_value}
 use Rattle.clap.proofs.SimpleLemmas.{ready_simple, simple_groups}
 use Rattle.clap.proofs.TakesLemmas.{each_rule, free_arg}
 use Rattle.clap.proofs.WalkLemmas.{first_value-rows}
-use Rattle.quaestor_prog.specs.Commands.{word_rule, serve_app, read_app, world_app}
+use Rattle.quaestor_prog.specs.Commands.{word_rule, serve_app, read_app, world_app, crash_app}
 
 abbrev is_other : Text → Rule → Bool
 is_other name r = not (bytes_eq r.id name)
@@ -160,3 +160,10 @@ world_seed command m is parsed = word_given world_app command m is parsed 0 (cod
 
 pub world_steps : (command : Command) (m : ArgMatches) → app_of command ≡ world_app → IsParsedFrom command m → is_some (first_of (codes "STEPS") (rows_of (found_of m))) ≡ true
 world_steps command m is parsed = word_given world_app command m is parsed 1 (codes "STEPS") (has_word world_app 1 (codes "STEPS") refl refl)
+
+-- and those of `crash`
+pub crash_seed : (command : Command) (m : ArgMatches) → app_of command ≡ crash_app → IsParsedFrom command m → is_some (first_of (codes "SEED") (rows_of (found_of m))) ≡ true
+crash_seed command m is parsed = word_given crash_app command m is parsed 0 (codes "SEED") (has_word crash_app 0 (codes "SEED") refl refl)
+
+pub crash_steps : (command : Command) (m : ArgMatches) → app_of command ≡ crash_app → IsParsedFrom command m → is_some (first_of (codes "STEPS") (rows_of (found_of m))) ≡ true
+crash_steps command m is parsed = word_given crash_app command m is parsed 1 (codes "STEPS") (has_word crash_app 1 (codes "STEPS") refl refl)

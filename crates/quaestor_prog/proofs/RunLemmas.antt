@@ -9,7 +9,7 @@ use Rattle.q_base.specs.declared.moment.TheConstants.{GREATEST_SECONDS}
 use Rattle.q_outside.specs.Ends.{End, HasEnded, LastEnd, Ticks}
 use Rattle.q_outside.specs.declared.clocks.FixedClock.{FixedClock}
 use Rattle.q_outside.specs.declared.served.Served.{Served}
-use Rattle.quaestor_prog.specs.Run.{AreAt, AreTimed, GaveWorld, IsRun}
+use Rattle.quaestor_prog.specs.Run.{AreAt, AreTimed, GaveCrash, GaveWorld, IsRun}
 use Rattle.quaestor_prog.specs.Status.{status_of}
 use Rattle.clap.specs.Words.{Text}
 use Rattle.q_outside.specs.Doors.{DoorsView}
@@ -19,9 +19,9 @@ use Rattle.quaestor_prog.specs.Places.{PlacesView, WatchAsk}
 use Rattle.quaestor_prog.specs.Reading.{HasRead}
 use Rattle.quaestor_prog.specs.Serving.{HasServed}
 use Rattle.client_session.specs.Link.{Exchange, LinkView}
-use Rattle.quaestor_prog.specs.Words.{IsPipe, IsRead, IsServe, IsWorld, ReadAsk, ServeAsk}
-use Rattle.quaestor_prog.proofs.CommandLemmas.{nothing_answered, faults_pipe, faults_serve, faults_read, faults_world}
-use Rattle.quaestor_prog.proofs.WordLemmas.{one_pipe, one_ask, one_read, one_world}
+use Rattle.quaestor_prog.specs.Words.{IsCrash, IsPipe, IsRead, IsServe, IsWorld, ReadAsk, ServeAsk}
+use Rattle.quaestor_prog.proofs.CommandLemmas.{nothing_answered, faults_pipe, faults_serve, faults_read, faults_world, faults_crash}
+use Rattle.quaestor_prog.proofs.WordLemmas.{one_pipe, one_ask, one_read, one_world, one_crash}
 use Rattle.quaestor_prog.specs.declared.status.Status.{Status}
 use Rattle.quaestor_server.specs.Conversation.{Conversation}
 
@@ -88,6 +88,9 @@ no_help_reading words ask r help = nothing_answered _ r.taken (faults_read IsAns
 pub no_help_world : (words : List Text) (seed steps : ℕ) → IsWorld words seed steps → AskHelp words → ⊥
 no_help_world words seed steps w help = nothing_answered _ w.taken (faults_world IsAnswered words w.named help)
 
+pub no_help_crash : (words : List Text) (seed steps : ℕ) → IsCrash words seed steps → AskHelp words → ⊥
+no_help_crash words seed steps k help = nothing_answered _ k.taken (faults_crash IsAnswered words k.named help)
+
 -- what `read` did is said of what the words ask it for
 pub read_of : {P D L : Type 0} (link_at : L → LinkView) (answers : L → Exchange → L → Type 0) (places_at : P → PlacesView D L) (links : P → List ℕ → L → P → Type 0)
     (words : List Text) (a b : ReadAsk) (sink sink' : End) (ended : LastEnd) (places places' : P) (status : Status) → IsRead words a → IsRead words b
@@ -99,3 +102,8 @@ read_of link_at answers places_at links words a b sink sink' ended places places
 pub world_of : (words : List Text) (m n s t : ℕ) (sink sink' : End) (ended : LastEnd) (status : Status) → IsWorld words m s → IsWorld words n t → GaveWorld m s sink sink' ended status → GaveWorld n t sink sink' ended status
 world_of words m n s t sink sink' ended status p q text = let one = one_world words m n s t p q in
     subst (λ k. GaveWorld k t sink sink' ended status) one.0 (subst (λ k. GaveWorld m k sink sink' ended status) one.1 text)
+
+-- and what `crash` wrote
+pub crash_of : (words : List Text) (m n s t : ℕ) (sink sink' : End) (ended : LastEnd) (status : Status) → IsCrash words m s → IsCrash words n t → GaveCrash m s sink sink' ended status → GaveCrash n t sink sink' ended status
+crash_of words m n s t sink sink' ended status p q text = let one = one_crash words m n s t p q in
+    subst (λ k. GaveCrash k t sink sink' ended status) one.0 (subst (λ k. GaveCrash m k sink sink' ended status) one.1 text)

@@ -13,8 +13,8 @@ use Rattle.hub_desk.specs.declared.trim.Trim.{Trim}
 use Rattle.hub_desk.specs.declared.trim.Trim.TheVariants.{Below, Full}
 use Rattle.hub_model.specs.Setting.{Setting, IsWithinLimits}
 use Rattle.q_outside.specs.declared.limits.Limits.{Limits}
-use Rattle.quaestor_prog.specs.declared.ranges.TheConstants.{MOST_PLACES, DEFAULT_PLACES, MOST_WORKERS, DEFAULT_WORKERS, MOST_MATCHERS, DEFAULT_MATCHERS, MOST_KEPT, MOST_CONNECTIONS, MOST_SECONDS, DEFAULT_IDLE, DEFAULT_HEAD_TIME, DEFAULT_REPLY_TIME, MOST_RATE, DEFAULT_RATE, DEFAULT_GRACE, MOST_LIFETIME, MOST_SEED, MOST_STEPS}
-use Rattle.quaestor_prog.specs.Words.{IsCount, IsNumber, IsNumberIn, IsClock, IsConfiguration, IsLifetime, IsPipe, IsSetting, IsServe, IsRead, IsTrim, IsWorld, AreHosts, AreLimits, AreOrigins, AreServeOptions, AreWatching, AreReadOptions, ReadAsk, ServeAsk, are_hosts, are_origins, is_given, level_word}
+use Rattle.quaestor_prog.specs.declared.ranges.TheConstants.{MOST_PLACES, DEFAULT_PLACES, MOST_WORKERS, DEFAULT_WORKERS, MOST_MATCHERS, DEFAULT_MATCHERS, MOST_KEPT, MOST_CONNECTIONS, MOST_SECONDS, DEFAULT_IDLE, DEFAULT_HEAD_TIME, DEFAULT_REPLY_TIME, MOST_RATE, DEFAULT_RATE, DEFAULT_GRACE, MOST_LIFETIME, MOST_SEED, MOST_STEPS, MOST_CRASH_STEPS}
+use Rattle.quaestor_prog.specs.Words.{IsCount, IsNumber, IsNumberIn, IsClock, IsConfiguration, IsLifetime, IsPipe, IsSetting, IsServe, IsRead, IsTrim, IsWorld, IsCrash, AreHosts, AreLimits, AreOrigins, AreServeOptions, AreWatching, AreReadOptions, ReadAsk, ServeAsk, is_given, level_word}
 use Rattle.quaestor_prog.specs.Places.{WatchAsk}
 
 -- the first word, as a text
@@ -162,35 +162,9 @@ one_limits found a b p q = same_limits a b
 one_text : (given : Option Text) (s t : Text) → given ≡ Some s → given ≡ Some t → s ≡ t
 one_text given s t p q = ap (λ o. unwrap_or o s) (sym p ∙ q)
 
--- the origins of a text, and where none is given
-pub origins_some : (given : Option Text) (t : Text) → given ≡ Some t → are_origins t ≡ true → AreOrigins given t
-origins_some given t e p = subst (λ o. AreOrigins o t) (sym e) (refl, p)
-
-pub origins_none : (given : Option Text) → given ≡ None → AreOrigins given []
-origins_none given e = subst (λ o. AreOrigins o []) (sym e) refl
-
-pub not_origins : (given : Option Text) (t o : Text) → given ≡ Some t → are_origins t ≡ false → AreOrigins given o → ⊥
-not_origins given t o e bad p =
-    let good : are_origins t ≡ true = (subst (λ x. AreOrigins x o) e p).1 in
-    let no : false ≡ true = sym bad ∙ good in
-    absurd cc
-
 one_origins : (given : Option Text) (a b : Text) → AreOrigins given a → AreOrigins given b → a ≡ b
 one_origins None a b p q = p ∙ sym q
 one_origins (Some text) a b p q = p.0 ∙ sym q.0
-
--- the hosts of a text, and where none is given
-pub hosts_some : (given : Option Text) (t : Text) → given ≡ Some t → are_hosts t ≡ true → AreHosts given t
-hosts_some given t e p = subst (λ o. AreHosts o t) (sym e) (refl, p)
-
-pub hosts_none : (given : Option Text) → given ≡ None → AreHosts given []
-hosts_none given e = subst (λ o. AreHosts o []) (sym e) refl
-
-pub not_hosts : (given : Option Text) (t o : Text) → given ≡ Some t → are_hosts t ≡ false → AreHosts given o → ⊥
-not_hosts given t o e bad p =
-    let good : are_hosts t ≡ true = (subst (λ x. AreHosts x o) e p).1 in
-    let no : false ≡ true = sym bad ∙ good in
-    absurd cc
 
 -- the lifetime of a text, and where none is given
 pub lifetime_some : (given : Option Text) (t : Text) (n : ℕ) → given ≡ Some t → (t ≡ decimal n) × (1 ≤ n) × (n ≤ MOST_LIFETIME) → IsLifetime given n
@@ -307,6 +281,13 @@ pub one_world : (words : List Text) (m n s t : ℕ) → IsWorld words m s → Is
 one_world words m n s t p q = (
   decimal_injective m n (small m MOST_SEED (omega arith) p.options.0.2) (small n MOST_SEED (omega arith) q.options.0.2) (one_text _ _ _ p.options.0.0 q.options.0.0),
   decimal_injective s t (small s MOST_STEPS (omega arith) p.options.1.2) (small t MOST_STEPS (omega arith) q.options.1.2) (one_text _ _ _ p.options.1.0 q.options.1.0),
+)
+
+-- and `crash` too
+pub one_crash : (words : List Text) (m n s t : ℕ) → IsCrash words m s → IsCrash words n t → (m ≡ n) × (s ≡ t)
+one_crash words m n s t p q = (
+  decimal_injective m n (small m MOST_SEED (omega arith) p.options.0.2) (small n MOST_SEED (omega arith) q.options.0.2) (one_text _ _ _ p.options.0.0 q.options.0.0),
+  decimal_injective s t (small s MOST_CRASH_STEPS (omega arith) p.options.1.2) (small t MOST_CRASH_STEPS (omega arith) q.options.1.2) (one_text _ _ _ p.options.1.0 q.options.1.0),
 )
 
 skip : (b : Bool) (e r : Result Setting ConfigRefusal) → b ≡ false → (if b then e else r) ≡ r

@@ -60,6 +60,10 @@ read_app = with_rule (with_rule (with_rule (versioned (codes "read")) (word_rule
 abbrev pub world_app : App
 world_app = with_rule (with_rule (versioned (codes "world")) (word_rule (codes "SEED"))) (word_rule (codes "STEPS"))
 
+-- the command `crash`
+abbrev pub crash_app : App
+crash_app = with_rule (with_rule (versioned (codes "crash")) (word_rule (codes "SEED"))) (word_rule (codes "STEPS"))
+
 -- the program where no command is named: it has the flags `--help` and `--version` alone
 abbrev pub program_app : App
 program_app = record (versioned (codes "quaestor")) { top = record (versioned (codes "quaestor")).top { no_binary_name = true } }
@@ -80,9 +84,13 @@ NamesRead words = slice_get words 0 ≡ Some (codes "read")
 abbrev pub NamesWorld : List Text → Type 0
 NamesWorld words = slice_get words 0 ≡ Some (codes "world")
 
+-- the first word names the command `crash`
+abbrev pub NamesCrash : List Text → Type 0
+NamesCrash words = slice_get words 0 ≡ Some (codes "crash")
+
 -- it names none of them
 abbrev pub NamesNone : List Text → Type 0
-NamesNone words = (NamesPipe words → ⊥) × (NamesServe words → ⊥) × (NamesRead words → ⊥) × (NamesWorld words → ⊥)
+NamesNone words = (NamesPipe words → ⊥) × (NamesServe words → ⊥) × (NamesRead words → ⊥) × (NamesWorld words → ⊥) × (NamesCrash words → ⊥)
 
 -- the kinds of error that clap has for the words, by the command that they name, are such
 abbrev pub FaultsAre : (Kinds → Type 0) → List Text → Type 0
@@ -91,6 +99,7 @@ FaultsAre such words =
     ⊎ (NamesServe words × such (fault_of serve_app words))
     ⊎ (NamesRead words × such (fault_of read_app words))
     ⊎ (NamesWorld words × such (fault_of world_app words))
+    ⊎ (NamesCrash words × such (fault_of crash_app words))
     ⊎ (NamesNone words × such (fault_of program_app words))
 
 -- clap answers with a text of help, or with the version

@@ -15,6 +15,7 @@ use Rattle.quaestor_prog.specs.Status.{status_of}
 use Rattle.quaestor_prog.specs.declared.status.Status.{Status}
 use Rattle.quaestor_prog.specs.declared.status.Status.TheVariants.{Done, Words, WriteFault, Memory}
 use Rattle.quaestor_server.specs.Conversation.{Conversation}
+use Rattle.crash_core.specs.Told.{IsCrashText}
 use Rattle.world_core.specs.Text.{IsWorldText}
 
 -- each of the moments is that of the fixed clock
@@ -89,5 +90,18 @@ GaveWorld seed steps before after ended _ = ⊥
 -- The words ask for a world: its text was given, and nothing else was done.
 pub record HasWorld (seed steps : ℕ) (a b : Sides) (ended : LastEnd) (tells : List ℕ → Type 0) (status : Status) : Type 0 where
   pub text : GaveWorld seed steps a.sink b.sink ended status
+  pub source : b.source ≡ a.source
+  pub ticks : tells []
+
+-- the text of the run with crashes that a seed gives was given, or a beginning of it, and the sink was ended behind that; or there was no memory for it
+abbrev pub GaveCrash : (seed steps : ℕ) → End → End → LastEnd → Status → Type 0
+GaveCrash seed steps before after ended Done = (text : List ℕ) × IsCrashText seed steps text × GaveBytes before after text × HasEnded ended after.bytes
+GaveCrash seed steps before after ended WriteFault = (text : List ℕ) × IsCrashText seed steps text × GavePart before after text × HasEnded ended after.bytes
+GaveCrash seed steps before after ended Memory = after ≡ before
+GaveCrash seed steps before after ended _ = ⊥
+
+-- The words ask for a run with crashes: its text was given, and nothing else was done.
+pub record HasCrash (seed steps : ℕ) (a b : Sides) (ended : LastEnd) (tells : List ℕ → Type 0) (status : Status) : Type 0 where
+  pub text : GaveCrash seed steps a.sink b.sink ended status
   pub source : b.source ≡ a.source
   pub ticks : tells []

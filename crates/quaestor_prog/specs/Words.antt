@@ -15,12 +15,12 @@ use Rattle.query_lang.specs.declared.key_reader.KeyRefusal.TheVariants.{BadKey}
 use Rattle.query_normal.specs.Keys.{key_text, IsKey}
 use Rattle.query_normal.specs.declared.key.KeyShape.{KeyShape}
 use Rattle.q_outside.specs.declared.limits.Limits.{Limits}
-use Rattle.quaestor_prog.specs.Commands.{pipe_app, serve_app, read_app, world_app, program_app, NamesPipe, NamesServe, NamesRead, NamesWorld, NamesNone, AskHelp, FaultsAre}
+use Rattle.quaestor_prog.specs.Commands.{pipe_app, serve_app, read_app, world_app, crash_app, program_app, NamesPipe, NamesServe, NamesRead, NamesWorld, NamesCrash, NamesNone, AskHelp, FaultsAre}
 use Rattle.quaestor_prog.specs.Help.{IsHelpOf}
 use Rattle.quaestor_prog.specs.Places.{WatchAsk, watch_of}
 use Rattle.quaestor_prog.specs.declared.help.HelpText.{HelpText}
 use Rattle.quaestor_prog.specs.declared.help.HelpText.TheVariants.{Version}
-use Rattle.quaestor_prog.specs.declared.ranges.TheConstants.{MOST_PLACES, DEFAULT_PLACES, MOST_WORKERS, DEFAULT_WORKERS, MOST_MATCHERS, DEFAULT_MATCHERS, MOST_KEPT, MOST_CONNECTIONS, MOST_SECONDS, DEFAULT_IDLE, DEFAULT_HEAD_TIME, DEFAULT_REPLY_TIME, MOST_RATE, DEFAULT_RATE, DEFAULT_GRACE, MOST_LIFETIME, MOST_SEED, MOST_STEPS}
+use Rattle.quaestor_prog.specs.declared.ranges.TheConstants.{MOST_PLACES, DEFAULT_PLACES, MOST_WORKERS, DEFAULT_WORKERS, MOST_MATCHERS, DEFAULT_MATCHERS, MOST_KEPT, MOST_CONNECTIONS, MOST_SECONDS, DEFAULT_IDLE, DEFAULT_HEAD_TIME, DEFAULT_REPLY_TIME, MOST_RATE, DEFAULT_RATE, DEFAULT_GRACE, MOST_LIFETIME, MOST_SEED, MOST_STEPS, MOST_CRASH_STEPS}
 use Rattle.quaestor_prog.specs.declared.refusal.BadValue.{BadValue}
 use Rattle.quaestor_prog.specs.declared.refusal.BadValue.TheVariants.{Number, Lifetimes, Argument, NoLevel, NoKey, NoOrigins, NoHosts, NoLog}
 use Rattle.quaestor_prog.specs.declared.refusal.Refusal.{Refusal}
@@ -29,7 +29,7 @@ use Rattle.quaestor_prog.specs.declared.words.Invocation.{Invocation}
 use Rattle.quaestor_prog.specs.declared.words.ServeOptions.{ServeOptions}
 use Rattle.quaestor_prog.specs.declared.words.ReadOptions.{ReadOptions}
 use Rattle.quaestor_prog.specs.declared.words.Names.{Names}
-use Rattle.quaestor_prog.specs.declared.words.Invocation.TheVariants.{Pipe, Serve, Read, World, Help, Invalid}
+use Rattle.quaestor_prog.specs.declared.words.Invocation.TheVariants.{Pipe, Serve, Read, World, Crash, Help, Invalid}
 
 -- the number that an option shows in decimal digits without a sign and without leading zeros; the default where it is not given
 abbrev pub IsNumber : Option Text → ℕ → ℕ → Type 0
@@ -212,6 +212,16 @@ pub record IsWorld (words : List Text) (seed steps : ℕ) : Type 0 where
   pub taken : fault_of world_app words ≡ []
   pub options : AreWorldOptions (matches_of world_app words) seed steps
 
+-- the words of `crash`, by what clap found for each: the seed, and the number of steps
+abbrev pub AreCrashOptions : List Row → (seed steps : ℕ) → Type 0
+AreCrashOptions found seed steps = IsArgument found (codes "SEED") 0 MOST_SEED seed × IsArgument found (codes "STEPS") 1 MOST_CRASH_STEPS steps
+
+-- The words are `crash` and two numbers, which are these.
+pub record IsCrash (words : List Text) (seed steps : ℕ) : Type 0 where
+  pub named : NamesCrash words
+  pub taken : fault_of crash_app words ≡ []
+  pub options : AreCrashOptions (matches_of crash_app words) seed steps
+
 -- the words run a command
 abbrev pub AreRun : List Text → Type 0
 AreRun words =
@@ -219,6 +229,7 @@ AreRun words =
     ⊎ ((ask : ServeAsk) × IsServe words ask)
     ⊎ ((ask : ReadAsk) × IsRead words ask)
     ⊎ ((seed : ℕ) × (steps : ℕ) × IsWorld words seed steps)
+    ⊎ ((seed : ℕ) × (steps : ℕ) × IsCrash words seed steps)
 
 -- the words run a command, or ask for a help or for the version
 abbrev pub AreTaken : List Text → Type 0
@@ -251,6 +262,7 @@ IsRange option least most =
 abbrev pub IsArgumentRange : Text → ℕ → ℕ → Type 0
 IsArgumentRange word least most =
     ((word ≡ codes "SEED") × (least ≡ 0) × (most ≡ MOST_SEED)) ⊎ ((word ≡ codes "STEPS") × (least ≡ 1) × (most ≡ MOST_STEPS))
+    ⊎ ((word ≡ codes "STEPS") × (least ≡ 1) × (most ≡ MOST_CRASH_STEPS))
 
 -- what is refused of the values: an option or a word shows no number of its range, the least lifetime is above the greatest, a word is that of no level or of no key, a text is not that of origins or of hosts, or the form of a log is given without one
 abbrev pub IsBadValue : List Row → BadValue → Type 0
@@ -273,6 +285,7 @@ FoundAre such words =
     ⊎ (NamesServe words × (fault_of serve_app words ≡ []) × such (matches_of serve_app words))
     ⊎ (NamesRead words × (fault_of read_app words ≡ []) × such (matches_of read_app words))
     ⊎ (NamesWorld words × (fault_of world_app words ≡ []) × such (matches_of world_app words))
+    ⊎ (NamesCrash words × (fault_of crash_app words ≡ []) × such (matches_of crash_app words))
 
 -- why the words are refused: they name no command and clap finds no fault; clap's fault; or a value, where clap finds none
 abbrev pub IsReason : List Text → Refusal → Type 0
@@ -322,6 +335,7 @@ Asks words (Pipe p) = IsPipe words p.config p.clock
 Asks words (Serve s) = IsServe words (ask_of s)
 Asks words (Read r) = IsRead words (read_ask_of r)
 Asks words (World w) = IsWorld words w.seed w.steps
+Asks words (Crash k) = IsCrash words k.seed k.steps
 Asks words (Help text) = IsHelpOf words text
 Asks words (Invalid refusal) = (AreTaken words → ⊥) × IsReason words refusal
 
@@ -331,6 +345,7 @@ IsAnswerOf own of (Ok (Pipe p)) = ⊥
 IsAnswerOf own of (Ok (Serve s)) = ⊥
 IsAnswerOf own of (Ok (Read r)) = ⊥
 IsAnswerOf own of (Ok (World w)) = ⊥
+IsAnswerOf own of (Ok (Crash k)) = ⊥
 IsAnswerOf own of (Ok (Help text)) = ((of ≡ kind.DisplayHelp) × (text ≡ own)) ⊎ ((of ≡ kind.DisplayVersion) × (text ≡ Version))
 IsAnswerOf own of (Ok (Invalid (why.Words error))) = (of ≢ kind.OutOfMemory) × (of ≢ kind.DisplayHelp) × (of ≢ kind.DisplayVersion) × (kind_of error ≡ of)
 IsAnswerOf own of (Ok (Invalid refusal)) = ⊥

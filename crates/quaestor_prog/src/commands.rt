@@ -1,7 +1,7 @@
 //! The commands as clap reads them.
 ghost use Rattle.std.specs.Prelude.{◌≡◌, codes, false, IfOk};
 ghost use Rattle.clap.specs.Words.{app_of, rule_of, with_rule};
-ghost use Rattle.quaestor_prog.specs.Commands.{flag_rule, option_rule, pipe_app, program_app, read_app, serve_app, versioned, with_limit_rules, with_number_rules, with_setting_rules, with_watch_rules, word_rule, world_app};
+ghost use Rattle.quaestor_prog.specs.Commands.{flag_rule, option_rule, pipe_app, program_app, read_app, serve_app, versioned, with_limit_rules, with_number_rules, with_setting_rules, with_watch_rules, word_rule, crash_app, world_app};
 
 use clap::{Arg, ArgAction, Command};
 use std::alloc::{AllocError, Global};
@@ -64,6 +64,16 @@ pub(crate) fn world_command<'a>(alloc: Global) -> Result<Command<'a>, AllocError
     ensures { IfOk result (λ c. app_of c ≡ world_app) }
 {
     let bare = bare_world(alloc)?;
+    let seed = with_word(alloc, bare, "SEED")?;
+    let steps = with_word(alloc, seed, "STEPS")?;
+    Ok(steps)
+}
+
+/// The command `crash`.
+pub(crate) fn crash_command<'a>(alloc: Global) -> Result<Command<'a>, AllocError>
+    ensures { IfOk result (λ c. app_of c ≡ crash_app) }
+{
+    let bare = bare_crash(alloc)?;
     let seed = with_word(alloc, bare, "SEED")?;
     let steps = with_word(alloc, seed, "STEPS")?;
     Ok(steps)
@@ -197,6 +207,16 @@ fn bare_world<'a>(alloc: Global) -> Result<Command<'a>, AllocError>
     Command::new(alloc, "world")
         .version(VERSION)
         .bin_name("quaestor world")?
+        .display_name("quaestor")
+}
+
+/// The command `crash` without its words.
+fn bare_crash<'a>(alloc: Global) -> Result<Command<'a>, AllocError>
+    ensures { IfOk result (λ c. app_of c ≡ versioned (codes "crash")) }
+{
+    Command::new(alloc, "crash")
+        .version(VERSION)
+        .bin_name("quaestor crash")?
         .display_name("quaestor")
 }
 

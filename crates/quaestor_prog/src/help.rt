@@ -17,6 +17,7 @@ Commands:
   serve  Serves the connections that come to an address
   read   Reads a key at the server of an address
   world  Runs a server, two caches and three clients by numbers that a seed gives
+  crash  Runs a store on a disk that crashes, by numbers that a seed gives
 
 quaestor COMMAND --help shows the options of a command.
 ";
@@ -132,6 +133,22 @@ Options:
   -V, --version  Print version
 ";
 
+/// The help of `crash`.
+const CRASH_HELP: &[u8] =
+    b"Runs a store on a disk in memory that crashes, and writes a line for each opening and a
+summary
+
+Usage: quaestor crash <SEED> <STEPS>
+
+Arguments:
+  <SEED>   The number that gives all steps, 0 to 18446744073709551615
+  <STEPS>  How many steps, 1 to 100000
+
+Options:
+  -h, --help     Print help
+  -V, --version  Print version
+";
+
 /// A text that the program shows of itself.
 #[derive(Clone, Copy, Debug, PartialEq, Eq)]
 pub enum HelpText {
@@ -145,6 +162,8 @@ pub enum HelpText {
     Read,
     /// The help of `world`.
     World,
+    /// The help of `crash`.
+    Crash,
     /// The name of the program and its version.
     Version,
 }
@@ -161,6 +180,7 @@ impl HelpText {
             HelpText::Serve => SERVE_HELP,
             HelpText::Read => READ_HELP,
             HelpText::World => WORLD_HELP,
+            HelpText::Crash => CRASH_HELP,
             HelpText::Version => VERSION_LINE,
         }
     }

@@ -25,4 +25,4 @@ pub use program::{refusal_of, run};
 pub use reading::{ReadEnd, read_once};
 pub use refusal::{BadValue, Refusal};
 pub use status::Status;
-pub use words::{PipeOptions, ReadOptions, ServeOptions, WorldOptions};
+pub use words::{CrashOptions, PipeOptions, ReadOptions, ServeOptions, WorldOptions};

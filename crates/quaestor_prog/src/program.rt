@@ -6,8 +6,8 @@ ghost use Rattle.quaestor_prog.specs.Commands.{AskHelp};
 ghost use Rattle.quaestor_prog.specs.Help.{text_of_help};
 ghost use Rattle.quaestor_prog.specs.Reading.{IsReading};
 ghost use Rattle.quaestor_prog.specs.Serving.{IsServing};
-ghost use Rattle.quaestor_prog.specs.Run.{AreTimed, GaveWorld, HasWorld, IsHelped, IsRefused, IsRun, IsText, IsUnbegun, IsUsage};
-ghost use Rattle.quaestor_prog.specs.Words.{AreTaken, IsPipe, IsRead, IsReason, IsServe, IsWorld, ReadAsk, ServeAsk};
+ghost use Rattle.quaestor_prog.specs.Run.{AreTimed, GaveCrash, GaveWorld, HasCrash, HasWorld, IsHelped, IsRefused, IsRun, IsText, IsUnbegun, IsUsage};
+ghost use Rattle.quaestor_prog.specs.Words.{AreTaken, IsCrash, IsPipe, IsRead, IsReason, IsServe, IsWorld, ReadAsk, ServeAsk};
 
 use crate::help::HelpText;
 use crate::places::Places;
@@ -15,7 +15,8 @@ use crate::reading::read_at;
 use crate::refusal::Refusal;
 use crate::serving::serve_at;
 use crate::status::Status;
-use crate::words::{Invocation, WorldOptions, read_words};
+use crate::words::{CrashOptions, Invocation, WorldOptions, read_words};
+use crash_core::crash_text;
 use q_base::{Memory, Moment};
 use q_outside::{Clock, Failed, FixedClock, Sink, Source, give_all};
 use quaestor_server::{Config, Owned, Room, serve_connection};
@@ -37,7 +38,8 @@ const USAGE: &[u8] = b"usage: quaestor pipe, serve, read or world\n";
 /// each in a thread of its own, over one store that begins empty; the sink gets a line before the first
 /// and one behind the last. `read` fetches a page and reads a key over a link to the server of an address,
 /// and writes the answer; where there is none, the places hear why. `world` runs the steps that a seed gives
-/// over a server, two caches and three clients in memory, and writes what they read. `--help` and
+/// over a server, two caches and three clients in memory, and writes what they read. `crash` runs those that
+/// it gives over a store on a disk in memory that crashes, and writes what each opening finds. `--help` and
 /// `--version` write a text to the sink.
 pub fn run<S: Source, K: Sink, C, P: Places, R>(
     rt: &R,
@@ -71,6 +73,11 @@ where
         (record { source = S.at source.new; sink = K.at sink.new }) (K.ended sink.new)
         (AreTimed C.tick clock.old clock.new None) result
         × (places.new ≡ places.old) }
+    ensures crash { (seed steps : ℕ) → IsCrash (map string_bytes words.now) seed steps
+        → HasCrash seed steps (record { source = S.at source.old; sink = K.at sink.old })
+        (record { source = S.at source.new; sink = K.at sink.new }) (K.ended sink.new)
+        (AreTimed C.tick clock.old clock.new None) result
+        × (places.new ≡ places.old) }
     ensures help { AskHelp (map string_bytes words.now)
         → (IsHelped (map string_bytes words.now) (record { source = S.at source.old; sink = K.at sink.old })
         (record { source = S.at source.new; sink = K.at sink.new }) (K.ended sink.new)
@@ -100,6 +107,7 @@ where
         Ok(Invocation::Serve(options)) => serve_at(rt, alloc, options, sink, &*clock, places),
         Ok(Invocation::Read(options)) => read_at(alloc, &options, sink, places),
         Ok(Invocation::World(options)) => show_world(alloc, options, sink, &*places),
+        Ok(Invocation::Crash(options)) => show_crash(alloc, options, sink),
         Ok(Invocation::Help(asked)) => show(asked, sink),
         Ok(Invocation::Invalid(_)) => refuse(sink),
         Err(_) => Status::Memory,
@@ -118,6 +126,7 @@ pub fn refusal_of<'a>(alloc: Global, words: &'a [String]) -> Result<Option<Refus
         Invocation::Serve(_) => Ok(None),
         Invocation::Read(_) => Ok(None),
         Invocation::World(_) => Ok(None),
+        Invocation::Crash(_) => Ok(None),
         Invocation::Help(_) => Ok(None),
     }
 }
@@ -198,6 +207,21 @@ fn show_world<K: Sink, P: Places>(
         count: options.steps,
     };
     let Ok(text) = world_text(alloc, options.seed, options.steps, &mut listener) else {
+        return Status::Memory;
+    };
+    let given = give_all(sink, text.as_slice());
+    sink.end();
+    match given {
+        Ok(()) => Status::Done,
+        Err(Failed) => Status::WriteFault,
+    }
+}
+
+/// Runs a store on a disk that crashes, writes what its openings found, and ends the sink.
+fn show_crash<K: Sink>(alloc: Global, options: CrashOptions, sink: &mut K) -> Status
+    ensures { GaveCrash options.seed options.steps (K.at sink.old) (K.at sink.new) (K.ended sink.new) result }
+{
+    let Ok(text) = crash_text(alloc, options.seed, options.steps) else {
         return Status::Memory;
     };
     let given = give_all(sink, text.as_slice());

@@ -1,5 +1,5 @@
-//! The numbers that the options of `serve` and the words of `world` may have. Definitions and code read them
-//! here.
+//! The numbers that the options of `serve`, and the words of `world` and `crash`, may have. Definitions and
+//! code read them here.
 
 /// How many connections may be there at the same time.
 pub(crate) const MOST_PLACES: u64 = 32_768;
@@ -49,8 +49,11 @@ pub(crate) const DEFAULT_GRACE: u64 = 10;
 /// How many seconds the lifetime of an absent record, and that in shared caches, may have: a year.
 pub(crate) const MOST_LIFETIME: u64 = 31_536_000;
 
-/// The greatest seed of a world, 2^64 - 1.
+/// The greatest seed of a run, 2^64 - 1.
 pub(crate) const MOST_SEED: u64 = 18_446_744_073_709_551_615;
 
 /// How many steps a world may have.
 pub(crate) const MOST_STEPS: u64 = 1_000_000;
+
+/// How many steps a run with crashes may have.
+pub(crate) const MOST_CRASH_STEPS: u64 = 100_000;

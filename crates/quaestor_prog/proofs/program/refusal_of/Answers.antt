@@ -16,7 +16,10 @@ pub returns-in-Read-clause-none : goal.returns-in-Read-clause-none
 returns-in-Read-clause-none c = inl (inr (inr (inl (_, rw c.in-Read.is at c.in_ok-refusal.ensures))))
 
 pub returns-in-World-clause-none : goal.returns-in-World-clause-none
-returns-in-World-clause-none c = inl (inr (inr (inr (_, _, rw c.in-World.is at c.in_ok-refusal.ensures))))
+returns-in-World-clause-none c = inl (inr (inr (inr (inl (_, _, rw c.in-World.is at c.in_ok-refusal.ensures)))))
+
+pub returns-in-Crash-clause-none : goal.returns-in-Crash-clause-none
+returns-in-Crash-clause-none c = inl (inr (inr (inr (inr (_, _, rw c.in-Crash.is at c.in_ok-refusal.ensures)))))
 
 pub returns-clause-none : goal.returns-clause-none
 returns-clause-none c = inr (help_asked _ _ (rw c.in-Help.is at c.in_ok-refusal.ensures))

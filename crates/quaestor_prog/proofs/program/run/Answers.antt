@@ -1,7 +1,7 @@
 -- the words ask for one thing, or for none
 use Rattle.std.proofs.Common.{refl, inl, inr}
-use Rattle.quaestor_prog.proofs.CommandLemmas.{pipe_serve, pipe_read, pipe_world, serve_read, serve_world, read_world, help_asked}
-use Rattle.quaestor_prog.proofs.RunLemmas.{run_of, served_of, read_of, world_of, no_help, no_help_serving, no_help_reading, no_help_world}
+use Rattle.quaestor_prog.proofs.CommandLemmas.{pipe_serve, pipe_read, pipe_world, serve_read, serve_world, read_world, pipe_crash, serve_crash, read_crash, world_crash, help_asked}
+use Rattle.quaestor_prog.proofs.RunLemmas.{run_of, served_of, read_of, world_of, crash_of, no_help, no_help_serving, no_help_reading, no_help_world, no_help_crash}
 use Rattle.quaestor_prog.proofs.program.run.Goals as goal
 
 -- ---- pipe
@@ -17,6 +17,9 @@ returns-in-Ok-Pipe-clause-read g c = λ ask is. let pipe = rw c.in-Ok-Pipe.field
 
 pub returns-in-Ok-Pipe-clause-world : goal.returns-in-Ok-Pipe-clause-world
 returns-in-Ok-Pipe-clause-world g c = λ seed steps is. let pipe = rw c.in-Ok-Pipe.field-0-is at c.in-Ok-Pipe.ensures in absurd (pipe_world _ pipe.named is.named)
+
+pub returns-in-Ok-Pipe-clause-crash : goal.returns-in-Ok-Pipe-clause-crash
+returns-in-Ok-Pipe-clause-crash g c = λ seed steps is. let pipe = rw c.in-Ok-Pipe.field-0-is at c.in-Ok-Pipe.ensures in absurd (pipe_crash _ pipe.named is.named)
 
 pub returns-in-Ok-Pipe-clause-help : goal.returns-in-Ok-Pipe-clause-help
 returns-in-Ok-Pipe-clause-help g c = λ help. absurd (no_help _ _ _ (rw c.in-Ok-Pipe.field-0-is at c.in-Ok-Pipe.ensures) help)
@@ -38,6 +41,9 @@ returns-in-Ok-Serve-clause-read g c = λ ask is. let serve = rw c.in-Ok-Serve.fi
 pub returns-in-Ok-Serve-clause-world : goal.returns-in-Ok-Serve-clause-world
 returns-in-Ok-Serve-clause-world g c = λ seed steps is. let serve = rw c.in-Ok-Serve.field-0-is at c.in-Ok-Serve.ensures in absurd (serve_world _ serve.named is.named)
 
+pub returns-in-Ok-Serve-clause-crash : goal.returns-in-Ok-Serve-clause-crash
+returns-in-Ok-Serve-clause-crash g c = λ seed steps is. let serve = rw c.in-Ok-Serve.field-0-is at c.in-Ok-Serve.ensures in absurd (serve_crash _ serve.named is.named)
+
 pub returns-in-Ok-Serve-clause-help : goal.returns-in-Ok-Serve-clause-help
 returns-in-Ok-Serve-clause-help g c = λ help. absurd (no_help_serving _ _ (rw c.in-Ok-Serve.field-0-is at c.in-Ok-Serve.ensures) help)
 
@@ -57,6 +63,9 @@ returns-in-Ok-Read-clause-read g c = λ ask is. (refl, refl, inr (read_of _ _ _ 
 
 pub returns-in-Ok-Read-clause-world : goal.returns-in-Ok-Read-clause-world
 returns-in-Ok-Read-clause-world g c = λ seed steps is. let reads = rw c.in-Ok-Read.field-0-is at c.in-Ok-Read.ensures in absurd (read_world _ reads.named is.named)
+
+pub returns-in-Ok-Read-clause-crash : goal.returns-in-Ok-Read-clause-crash
+returns-in-Ok-Read-clause-crash g c = λ seed steps is. let reads = rw c.in-Ok-Read.field-0-is at c.in-Ok-Read.ensures in absurd (read_crash _ reads.named is.named)
 
 pub returns-in-Ok-Read-clause-help : goal.returns-in-Ok-Read-clause-help
 returns-in-Ok-Read-clause-help g c = λ help. absurd (no_help_reading _ _ (rw c.in-Ok-Read.field-0-is at c.in-Ok-Read.ensures) help)
@@ -85,11 +94,44 @@ returns-in-Ok-World-clause-world g c = λ seed steps is. (
   refl,
 )
 
+pub returns-in-Ok-World-clause-crash : goal.returns-in-Ok-World-clause-crash
+returns-in-Ok-World-clause-crash g c = λ seed steps is. let world = rw c.in-Ok-World.field-0-is at c.in-Ok-World.ensures in absurd (world_crash _ world.named is.named)
+
 pub returns-in-Ok-World-clause-help : goal.returns-in-Ok-World-clause-help
 returns-in-Ok-World-clause-help g c = λ help. absurd (no_help_world _ _ _ (rw c.in-Ok-World.field-0-is at c.in-Ok-World.ensures) help)
 
 pub returns-in-Ok-World-clause-usage : goal.returns-in-Ok-World-clause-usage
-returns-in-Ok-World-clause-usage g c = λ none. absurd (none (inl (inr (inr (inr (_, _, rw c.in-Ok-World.field-0-is at c.in-Ok-World.ensures))))))
+returns-in-Ok-World-clause-usage g c = λ none. absurd (none (inl (inr (inr (inr (inl (_, _, rw c.in-Ok-World.field-0-is at c.in-Ok-World.ensures)))))))
+
+-- ---- crash
+
+pub returns-in-Ok-Crash-clause-pipe : goal.returns-in-Ok-Crash-clause-pipe
+returns-in-Ok-Crash-clause-pipe g c = λ h at is. let crash = rw c.in-Ok-Crash.field-0-is at c.in-Ok-Crash.ensures in absurd (pipe_crash _ is.named crash.named)
+
+pub returns-in-Ok-Crash-clause-serve : goal.returns-in-Ok-Crash-clause-serve
+returns-in-Ok-Crash-clause-serve g c = λ ask is. let crash = rw c.in-Ok-Crash.field-0-is at c.in-Ok-Crash.ensures in absurd (serve_crash _ is.named crash.named)
+
+pub returns-in-Ok-Crash-clause-read : goal.returns-in-Ok-Crash-clause-read
+returns-in-Ok-Crash-clause-read g c = λ ask is. let crash = rw c.in-Ok-Crash.field-0-is at c.in-Ok-Crash.ensures in absurd (read_crash _ is.named crash.named)
+
+pub returns-in-Ok-Crash-clause-world : goal.returns-in-Ok-Crash-clause-world
+returns-in-Ok-Crash-clause-world g c = λ seed steps is. let crash = rw c.in-Ok-Crash.field-0-is at c.in-Ok-Crash.ensures in absurd (world_crash _ is.named crash.named)
+
+pub returns-in-Ok-Crash-clause-crash : goal.returns-in-Ok-Crash-clause-crash
+returns-in-Ok-Crash-clause-crash g c = λ seed steps is. (
+  record {
+    text = crash_of _ _ seed _ steps _ _ _ _ (rw c.in-Ok-Crash.field-0-is at c.in-Ok-Crash.ensures) is c.show_crash.ensures;
+    source = refl;
+    ticks = refl;
+  },
+  refl,
+)
+
+pub returns-in-Ok-Crash-clause-help : goal.returns-in-Ok-Crash-clause-help
+returns-in-Ok-Crash-clause-help g c = λ help. absurd (no_help_crash _ _ _ (rw c.in-Ok-Crash.field-0-is at c.in-Ok-Crash.ensures) help)
+
+pub returns-in-Ok-Crash-clause-usage : goal.returns-in-Ok-Crash-clause-usage
+returns-in-Ok-Crash-clause-usage g c = λ none. absurd (none (inl (inr (inr (inr (inr (_, _, rw c.in-Ok-Crash.field-0-is at c.in-Ok-Crash.ensures)))))))
 
 -- ---- help
 
@@ -104,6 +146,9 @@ returns-in-Ok-Help-clause-read g c = λ ask is. absurd (no_help_reading _ ask is
 
 pub returns-in-Ok-Help-clause-world : goal.returns-in-Ok-Help-clause-world
 returns-in-Ok-Help-clause-world g c = λ seed steps is. absurd (no_help_world _ seed steps is (help_asked _ _ (rw c.in-Ok-Help.field-0-is at c.in-Ok-Help.ensures)))
+
+pub returns-in-Ok-Help-clause-crash : goal.returns-in-Ok-Help-clause-crash
+returns-in-Ok-Help-clause-crash g c = λ seed steps is. absurd (no_help_crash _ seed steps is (help_asked _ _ (rw c.in-Ok-Help.field-0-is at c.in-Ok-Help.ensures)))
 
 pub returns-in-Ok-Help-clause-usage : goal.returns-in-Ok-Help-clause-usage
 returns-in-Ok-Help-clause-usage g c = λ none. absurd (none (inr (help_asked _ _ (rw c.in-Ok-Help.field-0-is at c.in-Ok-Help.ensures))))
@@ -132,7 +177,10 @@ pub returns-in-Ok-Invalid-clause-read : goal.returns-in-Ok-Invalid-clause-read
 returns-in-Ok-Invalid-clause-read g c = λ ask is. let asks = rw c.in-Ok-Invalid.field-0-is at c.in-Ok-Invalid.ensures in absurd (asks.0 (inl (inr (inr (inl (ask, is))))))
 
 pub returns-in-Ok-Invalid-clause-world : goal.returns-in-Ok-Invalid-clause-world
-returns-in-Ok-Invalid-clause-world g c = λ seed steps is. let asks = rw c.in-Ok-Invalid.field-0-is at c.in-Ok-Invalid.ensures in absurd (asks.0 (inl (inr (inr (inr (seed, steps, is))))))
+returns-in-Ok-Invalid-clause-world g c = λ seed steps is. let asks = rw c.in-Ok-Invalid.field-0-is at c.in-Ok-Invalid.ensures in absurd (asks.0 (inl (inr (inr (inr (inl (seed, steps, is)))))))
+
+pub returns-in-Ok-Invalid-clause-crash : goal.returns-in-Ok-Invalid-clause-crash
+returns-in-Ok-Invalid-clause-crash g c = λ seed steps is. let asks = rw c.in-Ok-Invalid.field-0-is at c.in-Ok-Invalid.ensures in absurd (asks.0 (inl (inr (inr (inr (inr (seed, steps, is)))))))
 
 pub returns-in-Ok-Invalid-clause-help : goal.returns-in-Ok-Invalid-clause-help
 returns-in-Ok-Invalid-clause-help g c = λ help. let asks = rw c.in-Ok-Invalid.field-0-is at c.in-Ok-Invalid.ensures in absurd (asks.0 (inr help))
