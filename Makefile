@@ -38,6 +38,8 @@ faults: ## [1 min] refuses each allocation of a run in turn, and compares what i
 	@python3 tools/faults.py
 soak: ## [30 min] writes at full speed over 1,000 ids, and compares the memory at the end with that at the beginning
 	@python3 tools/soak.py
+crash-test: ## [3 min] kills a server with a file 200 times under 64 writers, and tries full disks, refused calls and cuts
+	@python3 tools/crash_test.py
 costs: ## [20 s] compares what requests cost that would be dear if a call looked again at what it knows
 	@python3 tools/costs.py
 caches: ## [10 s] tries serve and read against each other, straight and through nginx and Varnish
@@ -65,4 +67,4 @@ shop: ## [at once] starts a server, the example's page and a cache, and prints t
 
 named:
 	@test -n "$(CRATE)" || { echo "say which: CRATE=name" >&2; exit 2; }
-.PHONY: help try test check fmt lint edits plant crate program run example lasts metrics dashboard hostile faults soak costs caches bench ci dist verify-dist wasm client client-test browser-test shop named
+.PHONY: help try test check fmt lint edits plant crate program run example lasts metrics dashboard hostile faults soak crash-test costs caches bench ci dist verify-dist wasm client client-test browser-test shop named

@@ -93,7 +93,7 @@ closure() {
             sub(/\/\/.*/, "")
             # what the program does as a client
             if (part == "served" && crate == "quaestor_prog") {
-                if ($0 ~ /^ *ensures (read|world|crash) |^ *type Link|^ *ghost links|^ *fn (reach|hear|note|keep_link)[(<]/) client = 1
+                if ($0 ~ /^ *ensures (read|simulation) |^ *type Link|^ *ghost links|^ *fn (reach|hear|note|keep_link)[(<]/) client = 1
                 else if ($0 ~ /^ *(ensures [a-z]+ |type |ghost [a-z]+:|fn |\{$)|^}/ && !($0 ~ /^ *ensures (gives|links|unused|unasked|count) /)) client = 0
                 if (client) next
             }
@@ -130,7 +130,7 @@ closure() {
         END {
             # a type with a model is seen as that, whatever it is made of
             for (name in value) if (name in where) { text[where[name]] = value[name]; sub(/Value/, "", text[where[name]]); modelled[where[name]] = 1 }
-            if (part == "served") for (name in text) if (home[name] ~ /^quaestor_prog\// && title[name] ~ /^(IsRead|ReadAsk|IsWorld)$/) text[name] = ""
+            if (part == "served") for (name in text) if (home[name] ~ /^(quaestor_prog|command_line)\// && title[name] ~ /^(IsRead|ReadAsk|AreReadOptions|HasSimulated)$/) text[name] = ""
             node = ""
             for (i = 1; i <= root_count; i++) reach(roots[i])
             if (root_count != 2) print "the clauses of run and of Status::code are not found" > "/dev/stderr"

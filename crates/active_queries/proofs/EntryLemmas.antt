@@ -20,13 +20,13 @@ use Rattle.active_queries.specs.Queries.{begun, HaveSeen, ListAbove, all_forgott
 
 -- ---- what holds of each
 
-All-first : {X : Type 0} (P : X → Type 0) (x : X) (xs : List X) → All P (x ∷ xs) → P x
+pub All-first : {X : Type 0} (P : X → Type 0) (x : X) (xs : List X) → All P (x ∷ xs) → P x
 All-first P x xs all = all 0 x (omega arith)
 
-All-rest : {X : Type 0} (P : X → Type 0) (x : X) (xs : List X) → All P (x ∷ xs) → All P xs
+pub All-rest : {X : Type 0} (P : X → Type 0) (x : X) (xs : List X) → All P (x ∷ xs) → All P xs
 All-rest P x xs all k d within = all (suc k) d (omega (arith, within))
 
-All-both : {X : Type 0} (P : X → Type 0) (x : X) (xs : List X) → P x → All P xs → All P (x ∷ xs)
+pub All-both : {X : Type 0} (P : X → Type 0) (x : X) (xs : List X) → P x → All P xs → All P (x ∷ xs)
 All-both P x xs here rest zero d within = here
 All-both P x xs here rest (suc k) d within = rest k d (omega (arith, within))
 
@@ -202,7 +202,7 @@ All-forgotten P Q to (e ∷ entries) each all =
     All-both Q (e.0, forgotten to e.1) (all_forgotten to entries) (each e (All-first P e entries all)) (All-forgotten P Q to entries each (All-rest P e entries all))
 
 -- those that are left are above the commit
-forgotten-above : (to : ℕ) (changed : List ℕ) → AreAbove to (filter (λ n. nat_lt to n) changed)
+pub forgotten-above : (to : ℕ) (changed : List ℕ) → AreAbove to (filter (λ n. nat_lt to n) changed)
 forgotten-above to changed =
     All-weaker (λ n. nat_lt to n ≡ true) (λ n. to < n) (λ n above. ltb-true to n above) (filter (λ n. nat_lt to n) changed) (filter_passes (λ n. nat_lt to n) changed)
 

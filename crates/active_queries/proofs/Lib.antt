@@ -1,3 +1,6 @@
 pub mod EntryLemmas
 mod FollowLemmas
+mod IndexedLemmas
+pub mod LiftLemmas
+mod ListedLemmas
 mod RowLemmas

@@ -1,5 +1,5 @@
 -- The rows of commits, one by one.
-use Rattle.std.proofs.Common.{◌≡◌, ℕ, zero, suc, ◌+◌, ◌-◌, ◌<◌, ◌≤◌, List, [], ◌∷◌, length, take, drop, get_or, slice_get, Some, refl, ap, ◌∙◌, arith}
+use Rattle.std.proofs.Common.{◌≡◌, ℕ, zero, suc, ◌+◌, ◌-◌, ◌<◌, ◌≤◌, List, [], ◌∷◌, length, take, drop, get_or, slice_get, Some, refl, ap, ap₂, ◌∙◌, arith}
 use Rattle.std.specs.List.{enumerate_from}
 use Rattle.std.proofs.lemmas.List.{get_or-drop, length-drop, get_or-take, get_or-map, length-map, length-take-le}
 use Rattle.std.proofs.lemmas.List.FromFn.{length-enumerate_from, get_or-enumerate_from}
@@ -46,3 +46,13 @@ row_there journal from n to row behind below within is =
           ∙ get_or-map (λ (c : ℕ × Change). commit_row journal c.0 c.1) (take (to - from) (drop from (enumerate_from 1 journal))) (n - from) (0, change) row (omega (arith, own, low))
           ∙ ap (λ (c : ℕ × Change). commit_row journal c.0 c.1) here,
     )
+
+-- the row at an index is that of the next commit
+pub row-next : (journal : List Change) (from i to : ℕ) (row : CommitRow) (rows : List CommitRow) → from ≤ to → to ≤ length journal → rows ≡ commit_rows journal from to → i < length rows → row ≡ get_or rows i row → IsRowAfter journal (from + i) row
+row-next journal from i to row rows forward within are low is =
+    let count = ap length are ∙ length-commit_rows journal from to forward within in
+    let place : i ≡ from + i - from = omega arith in
+    row_there journal from (from + i) to row (omega arith) (omega (arith, count, low, forward)) within (is ∙ ap₂ (λ (xs : List CommitRow) (n : ℕ). get_or xs n row) are place)
+
+pub row-number : (journal : List Change) (n : ℕ) (row : CommitRow) → IsRowAfter journal n row → row.commit ≡ suc n
+row-number journal n row after = ap (λ (r : CommitRow). r.commit) after.2

@@ -1,5 +1,5 @@
 -- Internal. How an active query follows the journal.
-use Rattle.std.specs.Prelude.{◌≡◌, ◌<◌, ◌≤◌, ◌==◌, ℕ, suc, max, nat_lt, List, Some, All, length, filter, slice_get}
+use Rattle.std.specs.Prelude.{◌≡◌, ◌<◌, ◌≤◌, ◌==◌, ℕ, suc, ◌-◌, max, nat_lt, List, Some, All, length, filter, slice_get}
 use Rattle.std.specs.List.{list_any}
 use Rattle.commit_book.specs.declared.change.Change.{Change}
 use Rattle.commit_book.specs.declared.change.CommitRow.{CommitRow}
@@ -49,6 +49,25 @@ AreAbove n changed = All (λ m. n < m) changed
 abbrev pub forgotten : ℕ → Following → Following
 forgotten to a = record { kind = a.kind; set = a.set; seen = a.seen; from = max a.from to; changed = filter (λ n. nat_lt to n) a.changed }
 
+-- with the last commit that all have seen, and the one above which all list changed commits, where these are above its own
+abbrev pub lifted : ℕ → ℕ → Following → Following
+lifted seen from a = record { kind = a.kind; set = a.set; seen = max a.seen seen; from = max a.from from; changed = a.changed }
+
+-- having seen the commits up to one
+abbrev pub raised : ℕ → Following → Following
+raised seen a = record { kind = a.kind; set = a.set; seen = max a.seen seen; from = a.from; changed = a.changed }
+
+-- It follows as before, has seen no less, and lists changed commits above the same commit: all those that come new are above what it had seen.
+pub record HasFollowed (journal : List Change) (old new : Following) : Type 0 where
+  pub follows : (kind : Kind) (query : Query) → Follows kind query old journal → Follows kind query new journal
+  pub from : new.from ≡ old.from
+  pub seen : old.seen ≤ new.seen
+  pub above : (n : ℕ) → n ≤ old.seen → AreAbove n old.changed → AreAbove n new.changed
+
 -- the row is that of the commit after the first n
 abbrev pub IsRowAfter : List Change → ℕ → CommitRow → Type 0
 IsRowAfter journal n row = (change : Change) × (slice_get journal n ≡ Some change) × (row ≡ commit_row journal (suc n) change)
+
+-- the row is that of its commit
+abbrev pub IsRowOf : List Change → CommitRow → Type 0
+IsRowOf journal row = IsRowAfter journal (row.commit - 1) row

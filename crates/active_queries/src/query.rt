@@ -4,7 +4,7 @@
 //! shows the result at each of them. A commit that passes by costs its verdict alone, and one of another
 //! collection a comparison of names. Each commit is seen whole or not at all: what it needs of memory is
 //! taken before the set steps, so that a step that was made is always noted.
-ghost use Rattle.std.specs.Prelude.{◌≡◌, ◌<◌, ◌≤◌, ◌+◌, ◌∷◌, ◌++◌, [], ℕ, ◌||◌, if◌then◌else◌, IfOk, OnOk, OnErr, length};
+ghost use Rattle.std.specs.Prelude.{◌≡◌, ◌<◌, ◌≤◌, ◌+◌, ◌∷◌, ◌++◌, [], ℕ, ◌||◌, max, if◌then◌else◌, IfOk, OnOk, OnErr, length};
 ghost use Rattle.std.specs.Vec.{vec_capacity};
 ghost use Rattle.commit_book.specs.CommitRows.{commit_rows};
 ghost use Rattle.query_core.specs.declared.query.Kind.{Kind as AKind};
@@ -14,8 +14,10 @@ ghost use Rattle.query_core.specs.Meaning.{satisfies_if};
 ghost use Rattle.match_sets.specs.Contents.{window_of, StandsFor, IsNext, IsSame};
 ghost use Rattle.match_sets.specs.Follow.{verdict_on};
 ghost use Rattle.match_sets.specs.Windows.{has_changed, ShowsChange};
-ghost use Rattle.active_queries.specs.Following.{Follows, AreAbove, IsRowAfter, forgotten};
+ghost use Rattle.active_queries.specs.Following.{Follows, HasFollowed, AreAbove, IsRowAfter, IsRowOf, forgotten, lifted};
+ghost use Rattle.active_queries.specs.Queries.{has_any};
 
+use crate::followed::Followed;
 use commit_book::{Book, CommitRow};
 use hub_model::laws::equal_results_are_tested;
 use match_sets::laws::{
@@ -118,8 +120,71 @@ impl ActiveQuery {
         self.changed.as_slice()
     }
 
+    /// Whether it lists a changed commit.
+    pub(crate) fn has_changed(&self) -> bool
+        ensures { result ≡ has_any self.now.changed }
+    {
+        !self.changed.is_empty()
+    }
+
+    /// Seen by itself.
+    pub fn followed(&self) -> Followed<'_>
+        ensures { result ≡ self.now }
+    {
+        Followed::of(self, self.seen, self.from)
+    }
+
+    /// Takes what it has in common with others as its own: that all have seen a commit, and list changed
+    /// commits above one.
+    pub(crate) fn settle(&mut self, seen: Commit, from: Commit)
+        ensures { self.new ≡ lifted seen from self.old }
+    {
+        self.seen = self.seen.max(seen);
+        self.from = self.from.max(from);
+    }
+
+    /// Sees the commits up to one, where it has this in common with others.
+    pub(crate) fn go_on(
+        &mut self,
+        alloc: Global,
+        book: &Book,
+        seen: Commit,
+        from: Commit,
+        to: Commit,
+    ) -> Result<(), Memory>
+        requires kept { book.now.horizon ≤ max self.old.seen seen }
+        requires within { to ≤ length book.now.journal }
+        ensures on { HasFollowed book.now.journal (lifted seen from self.old) self.new }
+        ensures reached { OnOk result (to ≤ self.new.seen) }
+    {
+        self.settle(seen, from);
+        self.follow_to(alloc, book, to)
+    }
+
+    /// Sees a commit, if it has not, and has seen the one before.
+    pub(crate) fn go_on_by(
+        &mut self,
+        alloc: Global,
+        book: &Book,
+        seen: Commit,
+        from: Commit,
+        row: &CommitRow,
+    ) -> Result<(), Memory>
+        requires row { IsRowOf book.now.journal row.now }
+        requires kept { book.now.horizon < row.now.commit }
+        requires recent { row.now.commit ≤ max self.old.seen seen + 1 }
+        ensures on { HasFollowed book.now.journal (lifted seen from self.old) self.new }
+        ensures reached { OnOk result (row.now.commit ≤ self.new.seen) }
+    {
+        self.settle(seen, from);
+        if row.commit <= self.seen {
+            return Ok(());
+        }
+        self.see(alloc, book, row)
+    }
+
     /// Sees the commits up to one. It takes no memory where they were seen.
-    pub(crate) fn follow_to(&mut self, alloc: Global, book: &Book, to: Commit) -> Result<(), Memory>
+    fn follow_to(&mut self, alloc: Global, book: &Book, to: Commit) -> Result<(), Memory>
         requires kept { book.now.horizon ≤ self.old.seen }
         requires within { to ≤ length book.now.journal }
         ensures follows { (kind : AKind) (query : AQuery) → Follows kind query self.old book.now.journal → Follows kind query self.new book.now.journal }
@@ -138,7 +203,7 @@ impl ActiveQuery {
 
     /// Sees the commits up to one, of which the rows after another are given. Where memory runs out the
     /// query has seen a part of them, and goes on from there the next time.
-    pub(crate) fn follow(
+    fn follow(
         &mut self,
         alloc: Global,
         book: &Book,

@@ -5,7 +5,6 @@ use Rattle.std.specs.List.{list_all}
 use Rattle.std.proofs.lemmas.Bool.{both_ways, and_parts, or_cases, leb-true}
 use Rattle.std.proofs.lemmas.List.{get_or-replicate}
 use Rattle.std.proofs.lemmas.List.Elements.{All-contains, All-head, All-tail}
-use Rattle.std.proofs.lemmas.List.FromFn.{length-map-range_with_len}
 use Rattle.q_base.proofs.PositionLemmas.{all_within}
 use Rattle.q_base.specs.Positions.{positions_of}
 use Rattle.query_normal.specs.declared.key.KeyShape.{KeyShape}
@@ -28,6 +27,7 @@ use Rattle.hub_model.specs.Record.{page_of}
 use Rattle.hub_model.specs.Setting.{Setting}
 use Rattle.hub_model.specs.State.{IssuedCopy, State, until_of}
 use Rattle.hub_model.specs.Step.{state_of}
+use Rattle.hub_model.proofs.Bits.{length-page_bits}
 use Rattle.durable_book.specs.Across.{Follows}
 use Rattle.durable_book.specs.Moments.{guarded}
 
@@ -120,7 +120,7 @@ all_are_set n (p ∷ ps) small =
 full_holds : (g : Setting) (s : State) (text : List ℕ) → (sight_of (all_set (page_of g s)) text).is_held ≡ true
 unfolding positions_of
 full_holds g s text =
-    let size : length (page_of g s).bits ≡ 2 ^ g.log2_bits = length-map-range_with_len _ 0 (2 ^ g.log2_bits) in
+    let size : length (page_of g s).bits ≡ 2 ^ g.log2_bits = length-page_bits g s in
     all_are_set (length (page_of g s).bits) (positions_of text g.log2_bits g.hashes)
     (subst (λ (n : ℕ). All (λ p. p < n) (positions_of text g.log2_bits g.hashes)) (sym size) (all_within g.log2_bits _ _ _))
 

@@ -9,7 +9,7 @@ use Rattle.http_front.specs.declared.body.ReplyBody.{ReplyBody}
 use Rattle.http_front.specs.declared.head.Head.{Head}
 use Rattle.http_front.specs.declared.shape.Shape.{Shape}
 use Rattle.http_front.specs.declared.told.Told.{Told}
-use Rattle.http_front.specs.declared.told.Told.TheVariants.{Write, Read, Match, Dropped, Page, Count, Purges, Refusal, Memory}
+use Rattle.http_front.specs.declared.told.Told.TheVariants.{Write, Read, Match, Dropped, Page, Count, Purges, Refusal, Memory, Unkept}
 
 fitting : (size : ℕ) → size < 2 ^ 64 → up_to_greatest size ≡ size
 fitting size fits = omega arith
@@ -28,6 +28,7 @@ head_up_to shape (Purges reply) size close fits =
     ap (λ n. record (json_head 200 n close) { leave = shape.leave }) same
 head_up_to shape (Refusal refused clock) size close fits = ap (λ n. head_of shape (Refusal refused clock) n close) (fitting size (fits refl))
 head_up_to shape Memory size close fits = ap (λ n. head_of shape Memory n close) (fitting size (fits refl))
+head_up_to shape Unkept size close fits = ap (λ n. head_of shape Unkept n close) (fitting size (fits refl))
 
 -- the head of what is told, of the length of its body as it is kept
 pub head_is_of : (shape : Shape) (told : Told) (page : List ℕ) (close : Bool) (body : ReplyBody) (size : ℕ) (head : Head)

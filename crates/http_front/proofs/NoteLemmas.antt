@@ -8,7 +8,7 @@ use Rattle.http_front.specs.ReplyText.{head_of, is_of_method, read_head, refusal
 use Rattle.http_front.specs.declared.refused.Refused.{Refused}
 use Rattle.http_front.specs.declared.shape.Shape.{Shape}
 use Rattle.http_front.specs.declared.told.Told.{Told}
-use Rattle.http_front.specs.declared.told.Told.TheVariants.{Write, Read, Match, Dropped, Page, Count, Purges, Refusal, Memory}
+use Rattle.http_front.specs.declared.told.Told.TheVariants.{Write, Read, Match, Dropped, Page, Count, Purges, Refusal, Memory, Unkept}
 use Rattle.http_front.specs.declared.head.Head.{Head}
 
 -- Two heads have the same status and lifetime.
@@ -43,3 +43,4 @@ heads_alike shape (Refusal refused clock) size other close last =
     let same = refused_by (shape.asks && is_of_method refused) shape refused size other close last refl in
     record { status = same.status; ttl = same.ttl }
 heads_alike shape Memory size other close last = record { status = refl; ttl = refl }
+heads_alike shape Unkept size other close last = record { status = refl; ttl = refl }

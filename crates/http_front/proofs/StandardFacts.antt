@@ -19,7 +19,7 @@ use Rattle.json.specs.Print.{escape_byte}
 use Rattle.http_front.specs.ReplyText.{json_head, purges_body, reply_of}
 use Rattle.http_front.specs.declared.shape.Shape.{Shape}
 use Rattle.http_front.specs.declared.told.Told.{Told}
-use Rattle.http_front.specs.declared.told.Told.TheVariants.{Write, Read, Dropped, Count, Purges, Refusal, Memory}
+use Rattle.http_front.specs.declared.told.Told.TheVariants.{Write, Read, Dropped, Count, Purges, Refusal, Memory, Unkept}
 
 -- the methods of the examples
 get : Shape
@@ -167,6 +167,11 @@ no-buffer = refl
 no-memory : text_at_100 get Memory false ≡ codes "HTTP/1.1 503 Service Unavailable\r\nContent-Type: application/json\r\nContent-Length: 18\r\nCache-Control: no-store\r\n\r\n{\"error\":\"memory\"}"
 unfolding head_text head_fields status_line digits get
 no-memory = refl
+
+-- what was done cannot be kept
+not-kept : text_at_100 get Unkept false ≡ codes "HTTP/1.1 503 Service Unavailable\r\nContent-Type: application/json\r\nContent-Length: 18\r\nCache-Control: no-store\r\n\r\n{\"error\":\"unkept\"}"
+unfolding head_text head_fields status_line digits get
+not-kept = refl
 
 -- a filter that ends too early
 bad-filter : text_at_100 get (Refusal (BadFilter (record { field = Filter; place = 3; reason = Syntax })) 100) false ≡ codes "HTTP/1.1 400 Bad Request\r\nDate: Thu, 01 Jan 1970 00:01:40 GMT\r\nContent-Type: application/json\r\nContent-Length: 62\r\nCache-Control: no-store\r\n\r\n{\"error\":\"bad_filter\",\"field\":\"f\",\"place\":3,\"reason\":\"syntax\"}"

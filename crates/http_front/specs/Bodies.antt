@@ -55,6 +55,7 @@ is_counted_in (told.Count stats) = true
 is_counted_in (told.Purges reply) = false
 is_counted_in (told.Refusal refused clock) = true
 is_counted_in told.Memory = true
+is_counted_in told.Unkept = true
 
 -- a length, or the greatest number of 64 bits where that is less
 abbrev pub up_to_greatest : ℕ → ℕ

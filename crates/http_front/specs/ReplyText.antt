@@ -28,7 +28,7 @@ use Rattle.http_front.specs.declared.refused.Refused.{Refused}
 use Rattle.http_front.specs.declared.refused.Refused.TheVariants.{Framing, BadHost, Misdirected, BadTarget, NoRoute, BadMethod, NoLength, BadEncoding, BadTag, BadFilter, BadDocument}
 use Rattle.http_front.specs.declared.shape.Shape.{Shape}
 use Rattle.http_front.specs.declared.told.Told.{Told}
-use Rattle.http_front.specs.declared.told.Told.TheVariants.{Write, Read, Match, Dropped, Page, Count, Purges, Refusal, Memory}
+use Rattle.http_front.specs.declared.told.Told.TheVariants.{Write, Read, Match, Dropped, Page, Count, Purges, Refusal, Memory, Unkept}
 
 -- the name of a field in a query
 abbrev pub field_name : QueryField → List ℕ
@@ -129,6 +129,7 @@ body_of (Count stats) page = stats_body stats
 body_of (Purges reply) page = purges_body (told_of reply)
 body_of (Refusal refused clock) page = (refusal refused).body
 body_of Memory page = codes "{\"error\":\"memory\"}"
+body_of Unkept page = codes "{\"error\":\"unkept\"}"
 
 -- a head that has a date, a body of JSON of this length, and no field of the store
 abbrev pub json_head : ℕ → ℕ → Bool → Head
@@ -235,6 +236,7 @@ told_head shape (Count stats) size close = json_head 200 size close
 told_head shape (Purges reply) size close = json_head 200 (min size (2 ^ 64 - 1)) close
 told_head shape (Refusal refused clock) size close = refusal_head shape refused size close
 told_head shape Memory size close = record (json_head 503 size close) { dated = false }
+told_head shape Unkept size close = record (json_head 503 size close) { dated = false }
 
 -- the head of each reply
 abbrev pub head_of : Shape → Told → ℕ → Bool → Head
@@ -257,6 +259,7 @@ clock_of (Count stats) = stats.clock
 clock_of (Purges reply) = reply.clock
 clock_of (Refusal refused clock) = clock
 clock_of Memory = 0
+clock_of Unkept = 0
 
 -- a reply says what a page may send, in place of a refusal of its method
 abbrev pub is_asked : Shape → Told → Bool
@@ -269,6 +272,7 @@ is_asked shape (Page clock) = false
 is_asked shape (Count stats) = false
 is_asked shape (Purges reply) = false
 is_asked shape Memory = false
+is_asked shape Unkept = false
 
 -- what follows a reply's head: a reply to HEAD has no body (RFC 9110, section 9.3.2), and one that says what a page may send
 abbrev pub given_body : Shape → Told → List ℕ → List ℕ

@@ -28,6 +28,9 @@ const ABSENT: &[u8] = b"{\"error\":\"absent\"}";
 /// The body where memory was wanting.
 const NO_MEMORY: &[u8] = b"{\"error\":\"memory\"}";
 
+/// The body of a reply where what was done cannot be kept.
+const UNKEPT: &[u8] = b"{\"error\":\"unkept\"}";
+
 /// The body of a reply, as it is kept until it is given.
 #[derive(Clone, Copy)]
 pub(crate) enum ReplyBody<'a> {
@@ -110,6 +113,7 @@ pub(crate) fn body_of<'a>(told: &'a Told, page: &'a [u8], buffer: &'a mut [u8]) 
         Told::Purges(reply) => return ReplyBody::Purges(reply),
         Told::Refusal(refused, _) => refusal_body(*refused, buffer),
         Told::Memory => NO_MEMORY,
+        Told::Unkept => UNKEPT,
     };
     ReplyBody::Piece(piece)
 }

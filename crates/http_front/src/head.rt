@@ -179,7 +179,7 @@ impl<'a> Head<'a> {
                 ..Head::json(StatusCode::OK, length, close)
             },
             Told::Refusal(refused, _) => Head::of_refusal(shape, *refused, length, close),
-            Told::Memory => Head {
+            Told::Memory | Told::Unkept => Head {
                 dated: false,
                 ..Head::json(StatusCode::SERVICE_UNAVAILABLE, length, close)
             },

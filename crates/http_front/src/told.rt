@@ -28,6 +28,8 @@ pub enum Told {
     Refusal(Refused, Moment),
     /// There was no memory, and no entry was made.
     Memory,
+    /// An entry was made, and what it could show cannot be kept.
+    Unkept,
 }
 
 impl Told {
@@ -43,7 +45,7 @@ impl Told {
             Told::Page(clock) | Told::Refusal(_, clock) => *clock,
             Told::Count(stats) => stats.clock,
             Told::Purges(reply) => reply.clock,
-            Told::Memory => Moment::of(0),
+            Told::Memory | Told::Unkept => Moment::of(0),
         }
     }
 }

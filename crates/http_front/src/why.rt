@@ -19,6 +19,7 @@ pub(crate) fn why_of(told: &Told, target: &[u8]) -> &'static str {
         Told::Write(Written::Precondition { .. }) => "precondition",
         Told::Write(Written::Full { .. }) => "store full",
         Told::Memory => "memory",
+        Told::Unkept => "unkept",
         _ => "",
     }
 }

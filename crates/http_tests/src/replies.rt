@@ -459,7 +459,7 @@ fn a_note_says_which_part_of_a_target_is_bad(rt: HostRuntime) -> Result<(), Fail
 fn a_note_says_why_a_request_is_not_served(rt: HostRuntime) -> Result<(), Fail> {
     let clock = Moment::of(100);
     let target = b"/v1/d/shop/p1".as_slice();
-    let rows: [Noted<'_>; 7] = [
+    let rows: [Noted<'_>; 8] = [
         (Told::Read(known(5, 4, clock)), target, 304, true, ""),
         (
             Told::Read(Answer {
@@ -472,6 +472,7 @@ fn a_note_says_why_a_request_is_not_served(rt: HostRuntime) -> Result<(), Fail> 
             "",
         ),
         (Told::Memory, target, 503, false, "memory"),
+        (Told::Unkept, target, 503, false, "unkept"),
         (
             Told::Refusal(Refused::NoRoute, clock),
             target,

@@ -1,10 +1,12 @@
 -- The steps of the hub's calls.
-use Rattle.std.proofs.Common.{◌≡◌, ℕ, ◌+◌, ◌-◌, ◌<◌, ◌≤◌, Bool, true, false, ◌&&◌, ◌||◌, Option, option_map, map, max, nat_lt, List, [], ◌∷◌, ◌++◌, length, slice_index_or, All, if◌then◌else◌, refl, sym, ap, ap₂, ◌∙◌, subst, arith, inl, Some, None, length-append, Result, Ok, Err, OnErr}
+use Rattle.std.proofs.Common.{◌≡◌, ℕ, ◌+◌, ◌-◌, ◌^◌, ◌<◌, ◌≤◌, Bool, true, false, ◌&&◌, ◌||◌, Option, option_map, map, max, nat_lt, List, [], ◌∷◌, ◌++◌, length, replicate, slice_index_or, All, if◌then◌else◌, refl, sym, ap, ap₂, ◌∙◌, subst, arith, inl, Some, None, length-append, Result, Ok, Err, OnErr}
 use Rattle.std.proofs.lemmas.Bool.{le-leb, lt-leb}
+use Rattle.std.proofs.lemmas.List.FromFn.{length-map-range_with_len}
 use Rattle.std.specs.List.{list_any, IsDistinct}
 use Rattle.std.specs.List.Sorted.{IsPermutation, IsSorted}
 use Rattle.query_normal.specs.Bits.{flat_bits}
 use Rattle.query_normal.specs.Keys.{key_text, same_key}
+use Rattle.query_normal.specs.Pages.{Page}
 use Rattle.query_normal.specs.declared.key.KeyShape.{KeyShape}
 use Rattle.issued_expiries.specs.Copies.{Copy, latest_where, is_active, active_keys, SameCopies}
 use Rattle.issued_expiries.specs.Expiries.{Issued, none_issued}
@@ -17,7 +19,7 @@ use Rattle.commit_book.specs.Contents.{Contents, with_commit, with_horizon}
 use Rattle.commit_book.specs.Journal.{is_of, kept_rows}
 use Rattle.commit_book.specs.Names.{AreNamesOf}
 use Rattle.commit_book.specs.declared.change.Change.{Change}
-use Rattle.hub_model.specs.Record.{is_recorded, record_of, bits_of, page_of}
+use Rattle.hub_model.specs.Record.{count_among, is_recorded, record_of, bits_of, page_of}
 use Rattle.hub_model.specs.Setting.{Setting}
 use Rattle.hub_model.specs.State.{State, start, at_moment}
 use Rattle.hub_model.specs.Journal.{result_at}
@@ -38,6 +40,7 @@ use Rattle.hub_core.specs.declared.lifetimes.Lifetimes.{Lifetimes}
 use Rattle.hub_core.specs.Absents.{AreAbsents, HasAbsents}
 use Rattle.hub_core.specs.ActiveQueries.{is_query, KeepsQueries, StayKept}
 use Rattle.hub_core.specs.HubState.{HubView, HasCopies, HasEstimates, HasWrites, HaveGoneOn, IsAsBefore, IsAt, IsLeanCopies, IsSoundHub, help_of, hub_of, hub_with}
+use Rattle.hub_core.specs.PageRoom.{all_set, set_below}
 use Rattle.hub_core.specs.Lifetimes.{Drops, KeepsLifetimes, MakesEntry, ViewedAlike, has_entry, ids_at, went_idle}
 use Rattle.hub_core.proofs.LifeLemmas.{estimates-known, estimates-passed, lifetime-at, lifetimes-longer, lifetimes-passed, lifetimes-records, writes-extended}
 use Rattle.hub_core.proofs.KeepLemmas.{keeps-written}
@@ -493,9 +496,9 @@ module _ (book : Contents) (front : ℕ) (h : CopiesView) (l : Lifetimes) (s : S
   pub invalidated-recorded : AreInvalidated h → IsPermutation (invalidated_keys h) (record_of s)
   invalidated-recorded invalidated = record-permutes s (invalidated_keys h) invalidated.once (λ key. invalidated.invalidated key ∙ recorded-at (hub_of book front h l) s key is)
 
-  -- the page of these numbers and bits is the state's
+  -- the page of these numbers and bits, or below the guard the one with every bit set, is the state's
   pub page-at : (g : Setting) (log2_bits hashes commits moment : ℕ) (bytes : List ℕ) → AreInvalidated h → h.setting ≡ g → log2_bits ≡ g.log2_bits → hashes ≡ g.hashes → commits ≡ length book.journal → moment ≡ h.clock → flat_bits bytes ≡ bits_of (invalidated_keys h) h.setting.log2_bits h.setting.hashes →
-      page_with log2_bits hashes front commits moment bytes ≡ page_of g s
+      set_below g.guard (page_with log2_bits hashes front commits moment bytes) ≡ page_of g s
   page-at g log2_bits hashes commits moment bytes invalidated setting log2_is hashes_is commits_is moment_is bits =
       let front_is : front ≡ s.front = is.time.front in
       let commits_at : commits ≡ length s.journal = commits_is ∙ is.book.commits in
@@ -503,4 +506,14 @@ module _ (book : Contents) (front : ℕ) (h : CopiesView) (l : Lifetimes) (s : S
       let bits_at : flat_bits bytes ≡ bits_of (record_of s) g.log2_bits g.hashes =
       bits ∙ ap (λ (x : Setting). bits_of (invalidated_keys h) x.log2_bits x.hashes) setting
       ∙ bits-permute (invalidated_keys h) (record_of s) g.log2_bits g.hashes (invalidated-recorded invalidated) in
-      (λ i. record { log2_bits = log2_is i; hashes = hashes_is i; front = front_is i; commits = commits_at i; moment = moment_at i; bits = bits_at i })
+      let size : length (flat_bits bytes) ≡ 2 ^ g.log2_bits = ap length bits_at ∙ length-map-range_with_len (λ (j : ℕ). nat_lt 0 (count_among (record_of s) g.log2_bits g.hashes j)) 0 (2 ^ g.log2_bits) in
+      let all_at : replicate (length (flat_bits bytes)) true ≡ replicate (2 ^ g.log2_bits) true = ap (λ (n : ℕ). replicate n true) size in
+      let page : List Bool → Page = λ (xs : List Bool). record { log2_bits = g.log2_bits; hashes = g.hashes; front = s.front; commits = length s.journal; moment = s.clock; bits = xs } in
+      let own : Page = page_with log2_bits hashes front commits moment bytes in
+      let own_is : own ≡ page (bits_of (record_of s) g.log2_bits g.hashes) = (λ i. record { log2_bits = log2_is i; hashes = hashes_is i; front = front_is i; commits = commits_at i; moment = moment_at i; bits = bits_at i }) in
+      let all_is : all_set own ≡ page (replicate (2 ^ g.log2_bits) true) = (λ i. record { log2_bits = log2_is i; hashes = hashes_is i; front = front_is i; commits = commits_at i; moment = moment_at i; bits = all_at i }) in
+      one_page page (all_set own) own (nat_lt moment g.guard) (nat_lt s.clock g.guard) (replicate (2 ^ g.log2_bits) true) (bits_of (record_of s) g.log2_bits g.hashes) (ap (λ (n : ℕ). nat_lt n g.guard) moment_at) all_is own_is
+    where
+      one_page : (page : List Bool → Page) (all own : Page) (b c : Bool) (xs ys : List Bool) → b ≡ c → all ≡ page xs → own ≡ page ys → (if b then all else own) ≡ page (if c then xs else ys)
+      one_page page all own b true xs ys test all_is own_is = ap (λ (x : Bool). if x then all else own) test ∙ all_is
+      one_page page all own b false xs ys test all_is own_is = ap (λ (x : Bool). if x then all else own) test ∙ own_is

@@ -1,7 +1,8 @@
 -- What the invalidations of a match raise.
 use Rattle.std.proofs.Common.{◌≡◌, ℕ, zero, suc, ◌+◌, ◌<◌, ◌≤◌, ◌==◌, Bool, true, false, not, ◌&&◌, ◌||◌, ◌⊎◌, max, nat_lt, nat_le, List, [], ◌∷◌, ◌++◌, length, map, is_some, Option, Some, None, unwrap_or, slice_get, slice_index, slice_index_or, get_or, take, option_map, option_and_then, bytes_eq, if◌then◌else◌, refl, sym, ap, ap₂, ◌∙◌, arith, inl, inr}
-use Rattle.std.specs.List.{list_any}
-use Rattle.std.specs.Map.{lookup}
+use Rattle.std.specs.List.{list_any, IsDistinct, AllByRecursion}
+use Rattle.std.specs.Map.{lookup, keys_of}
+use Rattle.std.proofs.lemmas.Option.{get_or_from_slice_get}
 use Rattle.std.proofs.lemmas.Bool.{cases_Bool, cases_lt, lt-ltb, le-ltb, le-leb, lt-leb, ltb-true, leb-true, eq-eqb, eqb-true, or_left, or_right}
 use Rattle.std.proofs.Math.Bool.{and-true, and-false, and_comm, or-false}
 use Rattle.std.proofs.Math.Seq.{take-suc}
@@ -14,7 +15,7 @@ use Rattle.issued_expiries.proofs.ViewLemmas.{only_above, latest_unexpired}
 use Rattle.commit_book.specs.declared.change.Change.{Change}
 use Rattle.commit_book.specs.Journal.{is_of, document_at, alteration}
 use Rattle.active_queries.specs.Following.{Following}
-use Rattle.active_queries.specs.Queries.{HaveSeen}
+use Rattle.active_queries.specs.Queries.{HaveSeen, AreListed, has_any, has_changed}
 use Rattle.hub_model.specs.Copies.{live}
 use Rattle.hub_model.specs.Outdated.{is_changed}
 use Rattle.hub_model.specs.State.{IssuedCopy, State, until_of}
@@ -23,7 +24,7 @@ use Rattle.hub_model.proofs.Changes.{record-changed}
 use Rattle.hub_model.proofs.Covered.{outdated_until-commit}
 use Rattle.hub_core.specs.declared.invalidations.Invalidation.{Invalidation}
 use Rattle.hub_core.specs.ActiveQueries.{is_query, KeepsQueries}
-use Rattle.hub_core.specs.Invalidations.{key_of, altered_key, is_key, is_invalidation, is_after, invalidates, AreInvalidationsOf, AreRecordInvalidationsOf, invalidated_until}
+use Rattle.hub_core.specs.Invalidations.{key_of, altered_key, is_key, is_invalidation, is_after, invalidates, lists_after, AreInvalidationsOf, AreRecordInvalidationsOf, invalidated_until}
 use Rattle.hub_core.specs.Copied.{copy_of}
 use Rattle.hub_core.specs.HubState.{HasCopies}
 use Rattle.hub_core.specs.CopiesView.{until_below}
@@ -201,14 +202,77 @@ item-there [] i low = absurd (omega (arith, low))
 item-there (x ∷ xs) zero low = (x, refl)
 item-there (x ∷ xs) (suc i) low = item-there xs i (omega (arith, low))
 
--- the invalidations by one query more
-pub queries-next : {X : Type 0} (p : X → Bool) (xs : List X) (i : ℕ) (first old new : Bool) → i < length xs → old ≡ (first || list_any p (take i xs)) → ((x : X) → slice_get xs i ≡ Some x → new ≡ (old || p x)) → new ≡ (first || list_any p (take (i + 1) xs))
-queries-next p xs i first old new low was is =
-    let there = item-there xs i low in
-    is there.0 there.1
-    ∙ ap (λ (b : Bool). b || p there.0) was
-    ∙ sym (or-group first (list_any p (take i xs)) (p there.0))
-    ∙ ap (λ (b : Bool). first || b) (sym (any-next p xs i there.0 there.1))
+-- the invalidations by one key more
+pub listed-next : (lists : Option Following → Bool) (entries : List (KeyShape × Following)) (key k : KeyShape) (ks : List KeyShape) (i : ℕ) (first old new : Bool) → i < length ks → k ≡ get_or ks i k → old ≡ (first || (list_any (same_key key) (take i ks) && lists (lookup (same_key key) entries)))
+    → new ≡ (old || (same_key key k && lists (lookup (same_key k) entries))) → new ≡ (first || (list_any (same_key key) (take (i + 1) ks) && lists (lookup (same_key key) entries)))
+listed-next lists entries key k ks i first old new low item was is =
+    let there = item-there ks i low in
+    let k_is : k ≡ there.0 = item ∙ get_or_from_slice_get ks i there.0 k there.1 in
+    is
+    ∙ ap₂ (λ (a b : Bool). a || b) was own
+    ∙ group first (list_any (same_key key) (take i ks)) (same_key key k) (lists (lookup (same_key key) entries))
+    ∙ ap (λ (x : KeyShape). first || ((list_any (same_key key) (take i ks) || same_key key x) && lists (lookup (same_key key) entries))) k_is
+    ∙ ap (λ (b : Bool). first || (b && lists (lookup (same_key key) entries))) (sym (any-next (same_key key) ks i there.0 there.1))
+  where
+    group : (a b c d : Bool) → ((a || (b && d)) || (c && d)) ≡ (a || ((b || c) && d))
+    group true b c d = refl
+    group false true true true = refl
+    group false true true false = refl
+    group false true false true = refl
+    group false true false false = refl
+    group false false c d = refl
+
+    own : (same_key key k && lists (lookup (same_key k) entries)) ≡ (same_key key k && lists (lookup (same_key key) entries))
+    own = elim (cases_Bool (same_key key k)) [
+      | inl hit ↦ ap (λ (x : KeyShape). same_key key k && lists (lookup (same_key x) entries)) (sym ((same_key-Decides key k).0 hit))
+      | inr miss ↦ rw miss refl
+    ]
+
+-- no query of the keys has this one
+others-invalidate : (front to : ℕ) (key : KeyShape) (n : ℕ) (first : KeyShape) (entries : List (KeyShape × Following)) → key ≡ first → AllByRecursion (λ k. same_key first k ≡ false) (keys_of entries) → list_any (invalidates front to key n) entries ≡ false
+others-invalidate front to key n first [] same apart = refl
+others-invalidate front to key n first (e ∷ entries) same apart =
+    let miss : same_key key e.0 ≡ false = ap (λ (k : KeyShape). same_key k e.0) same ∙ apart.0 in
+    rw miss (others-invalidate front to key n first entries same apart.1)
+
+-- the one query of a key
+own-invalidates : (front to : ℕ) (key : KeyShape) (n : ℕ) (entries : List (KeyShape × Following)) → IsDistinct same_key (keys_of entries) → lists_after front to n (lookup (same_key key) entries) ≡ list_any (invalidates front to key n) entries
+unfolding IsDistinct
+own-invalidates front to key n [] once = refl
+own-invalidates front to key n (e ∷ entries) once = elim (cases_Bool (same_key key e.0)) [
+  | inl hit ↦
+      let rest = others-invalidate front to key n e.0 entries ((same_key-Decides key e.0).0 hit) once.0 in
+      rw (hit, rest) (sym (or-false (list_any (λ m. is_after front to m && (m == n)) e.1.changed)))
+  | inr miss ↦ rw miss (own-invalidates front to key n entries once.1)
+]
+
+-- the keys that were looked at are those of all queries that list a changed commit
+pub listed-whole : (front to : ℕ) (key : KeyShape) (n : ℕ) (entries : List (KeyShape × Following)) (listed : List KeyShape) (i : ℕ) (first new : Bool) → AreListed entries listed → IsDistinct same_key (keys_of entries) → length listed ≤ i
+    → new ≡ (first || (list_any (same_key key) (take i listed) && lists_after front to n (lookup (same_key key) entries))) → new ≡ (first || list_any (invalidates front to key n) entries)
+listed-whole front to key n entries listed i first new are once past is =
+    is
+    ∙ ap (λ (ks : List KeyShape). first || (list_any (same_key key) ks && lists_after front to n (lookup (same_key key) entries))) (whole listed i past)
+    ∙ ap (λ (b : Bool). first || (b && lists_after front to n (lookup (same_key key) entries))) (are key)
+    ∙ ap (λ (b : Bool). first || b) (both (lookup (same_key key) entries) ∙ own-invalidates front to key n entries once)
+  where
+    whole : (ks : List KeyShape) (m : ℕ) → length ks ≤ m → take m ks ≡ ks
+    whole [] zero past = refl
+    whole [] (suc m) past = refl
+    whole (k ∷ ks) zero past = absurd (omega (arith, past))
+    whole (k ∷ ks) (suc m) past = ap (λ (rest : List KeyShape). k ∷ rest) (whole ks m (omega (arith, past)))
+
+    by : (changed : List ℕ) → (has_any changed && list_any (λ m. is_after front to m && (m == n)) changed) ≡ list_any (λ m. is_after front to m && (m == n)) changed
+    by [] = refl
+    by (m ∷ changed) = refl
+
+    both : (found : Option Following) → (has_changed found && lists_after front to n found) ≡ lists_after front to n found
+    both None = refl
+    both (Some a) = by a.changed
+
+-- there are no queries
+pub none-listed : {X : Type 0} (p : X → Bool) (xs : List X) (first : Bool) → length xs ≡ 0 → first ≡ (first || list_any p xs)
+none-listed p [] first none = sym (or-false first)
+none-listed p (x ∷ xs) first none = absurd (omega (arith, none))
 
 -- and by one of a query's changes more
 pub changes-next : (p : ℕ → Bool) (own : Bool) (xs : List ℕ) (i m : ℕ) (first old new : Bool) → i < length xs → m ≡ slice_index xs i → old ≡ (first || (own && list_any p (take i xs))) → new ≡ (old || (own && p m)) → new ≡ (first || (own && list_any p (take (i + 1) xs)))

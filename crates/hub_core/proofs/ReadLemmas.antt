@@ -13,7 +13,7 @@ use Rattle.commit_book.specs.declared.change.Change.{Change}
 use Rattle.active_queries.specs.Following.{Following, Follows, FollowsKey, AreFollowing}
 use Rattle.active_queries.specs.Queries.{Queries}
 use Rattle.hub_core.specs.CopiesView.{CopiesView, Passes, is_idle}
-use Rattle.hub_core.specs.ActiveQueries.{KeepsQueries, IsAtHand, IsStarted, HasSeenAll, StayKept, is_query, query_at_hand, with_started}
+use Rattle.hub_core.specs.ActiveQueries.{KeepsQueries, CanBeAdded, IsAtHand, IsStarted, HasSeenAll, StayKept, is_query, query_at_hand, with_started}
 use Rattle.hub_core.specs.Lifetimes.{ids_at}
 use Rattle.hub_core.proofs.KeepLemmas.{keeps-later, keeps-same, keeps-issued, keeps-started}
 
@@ -56,11 +56,6 @@ of-key journal key kind query a is (own, its, same, follows) =
     let query_is : its ≡ query = (let h = both in cc) in
     subst (λ (k : Kind). Follows k query a journal) kind_is (subst (λ (q : Query). Follows own q a journal) query_is follows)
 
--- what is found behind a reference is there
-pub copied-some : {R X : Type 0} (value : R → X) (found : Option R) (o : Option X) → option_map value found ≡ o → is_some found ≡ true → is_some o ≡ true
-copied-some value None o is there = absurd (let e = there in cc)
-copied-some value (Some r) o is there = sym (ap is_some is)
-
 -- a query that is there, and has seen the last commit
 pub seen-all : (journal : List Change) (key : KeyShape) (n : ℕ) (queries : Queries) → n ≡ length journal → is_some (lookup (same_key key) queries.entries) ≡ true → IfSome (lookup (same_key key) queries.entries) (λ a. n ≤ a.seen) → HasSeenAll journal key queries
 seen-all journal key n queries last there seen = by (lookup (same_key key) queries.entries) refl there seen
@@ -100,9 +95,15 @@ ids-none (KeyShape.Query kind normal) journal none = absurd (let e = none in cc)
 
 -- ---- the copy of a read
 
--- what is ready for the query that was started
-pub started-space : (journal : List Change) (key : KeyShape) (new : KeyShape × Following) (queries : Queries) → IsStarted journal key new queries → (0 < queries.spare) × (lookup (same_key new.0) queries.entries ≡ None)
-started-space journal key new queries started = (started.space, subst (λ (k : KeyShape). lookup (same_key k) queries.entries ≡ None) (sym started.key_is) started.absent)
+-- the query that was started may be added
+pub may-be-added : (journal : List Change) (key : KeyShape) (started : Option (KeyShape × Following)) (queries : Queries) → IsAtHand journal key started queries → IfSome started (λ new. CanBeAdded new queries)
+may-be-added journal key None queries hand = tt
+may-be-added journal key (Some new) queries hand = record {
+  space = hand.space;
+  ready = hand.ready ∙ ap Some (sym hand.key_is);
+  absent = subst (λ (k : KeyShape). lookup (same_key k) queries.entries ≡ None) (sym hand.key_is) hand.absent;
+  changed = hand.changed;
+}
 
 -- with the copy of a read, where it may be kept, the queries are those of the active keys
 module _ (journal : List Change) (front : ℕ) (mid new : CopiesView) (key : KeyShape) (commit ttl until : ℕ) (queries : Queries) (keeps : KeepsQueries journal front mid.copies mid.idle queries.entries)

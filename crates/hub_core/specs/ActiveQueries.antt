@@ -36,7 +36,7 @@ pub record KeepsQueries (journal : List Change) (front : ℕ) (copies : List Cop
 abbrev pub StayKept : CopiesView → List (KeyShape × Following) → CopiesView → List (KeyShape × Following) → Type 0
 StayKept old before new after = (journal : List Change) (front : ℕ) → KeepsQueries journal front old.copies old.idle before → KeepsQueries journal front new.copies new.idle after
 
--- The query of a key, which had none, started at the last commit, and there is space for it beside the others.
+-- The query of a key, which had none, started at the last commit, and all is ready for it beside the others.
 pub record IsStarted (journal : List Change) (key : KeyShape) (new : KeyShape × Following) (queries : Queries) : Type 0 where
   pub key_is : new.0 ≡ key
   pub query : is_query key ≡ true
@@ -46,6 +46,14 @@ pub record IsStarted (journal : List Change) (key : KeyShape) (new : KeyShape ×
   pub changed : new.1.changed ≡ []
   pub absent : lookup (same_key key) queries.entries ≡ None
   pub space : 0 < queries.spare
+  pub ready : queries.ready ≡ Some key
+
+-- the query of a key may be added
+pub record CanBeAdded (new : KeyShape × Following) (queries : Queries) : Type 0 where
+  pub space : 0 < queries.spare
+  pub ready : queries.ready ≡ Some new.0
+  pub absent : lookup (same_key new.0) queries.entries ≡ None
+  pub changed : new.1.changed ≡ []
 
 -- the key is no query's, or it has a query, which has seen the last commit
 abbrev pub HasSeenAll : List Change → KeyShape → Queries → Type 0

@@ -35,6 +35,11 @@ AreRecordInvalidationsOf journal front to invalidations = (key : KeyShape) (comm
 abbrev pub invalidates : ℕ → ℕ → KeyShape → ℕ → KeyShape × Following → Bool
 invalidates front to key commit e = same_key key e.0 && list_any (λ m. is_after front to m && (m == commit)) e.1.changed
 
+-- the same of the query, if there is one
+abbrev pub lists_after : ℕ → ℕ → ℕ → Option Following → Bool
+lists_after front to commit None = false
+lists_after front to commit (Some a) = list_any (λ m. is_after front to m && (m == commit)) a.changed
+
 -- the key of the record that a change is of
 abbrev pub key_of : Change → KeyShape
 key_of change = Record change.collection change.id

@@ -1,5 +1,5 @@
--- Internal. What contracts see of the buffer for a page.
-use Rattle.std.specs.Prelude.{◌≡◌, ℕ, ◌+◌, ◌/◌, ◌^◌, ◌≤◌, true, List, length, drop, replicate, Option, option_map, unwrap_or, IfSome}
+-- Believed. What contracts see of the buffer for a page.
+use Rattle.std.specs.Prelude.{◌≡◌, ℕ, ◌+◌, ◌/◌, ◌^◌, ◌≤◌, true, if◌then◌else◌, nat_lt, List, length, drop, replicate, Option, option_map, unwrap_or, IfSome}
 use Rattle.flat_snapshot.specs.PageText.{page_text, page_with}
 use Rattle.hub_model.specs.Setting.{Setting}
 use Rattle.query_normal.specs.Pages.{Page}
@@ -23,6 +23,10 @@ moment_in room = unwrap_or (option_map (λ (page : Page). page.moment) room.page
 -- the page with every bit set
 abbrev pub all_set : Page → Page
 all_set page = record page { bits = replicate (length page.bits) true }
+
+-- the page, or where its moment is below this one the page with every bit set
+abbrev pub set_below : ℕ → Page → Page
+set_below guard page = if nat_lt page.moment guard then all_set page else page
 
 -- the page whose bits come after its header
 abbrev pub page_in : ℕ → ℕ → List ℕ → Numbers → Page

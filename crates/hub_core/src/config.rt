@@ -1,5 +1,5 @@
 //! The configuration of a hub.
-ghost use Rattle.std.specs.Prelude.{◌≡◌, []};
+ghost use Rattle.std.specs.Prelude.{◌≡◌, true, false, []};
 ghost use Rattle.hub_core.specs.Config.{configured, with_ttls};
 ghost use Rattle.hub_model.specs.Lifetime.{kept_for, shared_of};
 ghost use Rattle.hub_model.specs.Setting.{IsWithinLimits};
@@ -49,6 +49,8 @@ pub struct Config {
     hosts: Option<SharedText>,
     ttl_absent: u32,
     ttl_shared: u32,
+    keeps: bool,
+    guard: u64,
 }
 
 impl Model for Config {
@@ -68,6 +70,8 @@ impl Model for Config {
       hosts = unwrap_or c.hosts [];
       ttl_absent = c.ttl_absent;
       ttl_shared = c.ttl_shared;
+      keeps = c.keeps;
+      guard = c.guard;
     } };
 
     ghost invariant = { λ c. IsWithinLimits (record {
@@ -81,6 +85,8 @@ impl Model for Config {
       hosts = unwrap_or c.hosts [];
       ttl_absent = c.ttl_absent;
       ttl_shared = c.ttl_shared;
+      keeps = c.keeps;
+      guard = c.guard;
     }) };
 }
 
@@ -156,6 +162,8 @@ impl Config {
           hosts = [];
           ttl_absent = 0;
           ttl_shared = 0;
+          keeps = false;
+          guard = 0;
         }) }
     {
         if log2_bits < LEAST_LOG2_BITS || log2_bits > MOST_LOG2_BITS {
@@ -187,6 +195,8 @@ impl Config {
             hosts: None,
             ttl_absent: 0,
             ttl_shared: 0,
+            keeps: false,
+            guard: 0,
         })
     }
 
@@ -225,6 +235,18 @@ impl Config {
             ttl_shared: shared,
             ..self
         })
+    }
+
+    /// The same configuration, of a store whose commits are kept on a disk. The guard is the second from
+    /// which on no copy is unexpired that was issued before the store was opened, or 0 where there was none.
+    pub fn kept(self, guard: u64) -> Config
+        ensures { result ≡ record self { keeps = true; guard = guard } }
+    {
+        Config {
+            keeps: true,
+            guard,
+            ..self
+        }
     }
 
     /// The origins of web pages that may read replies, with a space between two.
@@ -291,6 +313,13 @@ impl Config {
         self.ttl_absent
     }
 
+    /// The second below which each page has every bit set, or 0 where no page needs that.
+    pub fn guard(&self) -> u64
+        ensures { result ≡ self.now.guard }
+    {
+        self.guard
+    }
+
     /// For how many seconds shared caches may keep a reply of this lifetime, or 0 where nothing is said.
     pub fn shared_of(&self, ttl: u32) -> u32
         ensures { result ≡ shared_of self.now ttl }
@@ -332,6 +361,8 @@ impl Default for Config {
             hosts: None,
             ttl_absent: 0,
             ttl_shared: 0,
+            keeps: false,
+            guard: 0,
         }
     }
 }

@@ -347,7 +347,8 @@ impl Hub {
         })
     }
 
-    /// Writes the page into the buffer, as one entry. It takes no memory.
+    /// Writes the page into the buffer, as one entry: below the guard with every bit set. It takes no
+    /// memory.
     pub fn fetch(&mut self, moment: Moment, room: &mut PageRoom)
         requires { IsRoomFor self.old.setting room.old }
         ensures told { (s : State) → IsAt self.old s → option_map fetched room.new.page ≡ Some (reply_in self.old.setting s (Fetch moment)) }
@@ -367,6 +368,7 @@ impl Hub {
             moment,
         };
         room.write(numbers, self.copies.bits());
+        room.set_below(self.copies.config().guard());
     }
 
     /// Tells the purged keys from a number on, as one entry: at most 1,000 of them. The first has number 1,

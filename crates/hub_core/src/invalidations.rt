@@ -1,14 +1,14 @@
 //! The keys that the commits of a match invalidate.
-ghost use Rattle.std.specs.Prelude.{◌≡◌, ◌<◌, ◌≤◌, ◌||◌, ◌&&◌, ◌==◌, ℕ, length, slice_get, Some, All, max, IfOk, OnOk};
+ghost use Rattle.std.specs.Prelude.{◌≡◌, ◌<◌, ◌≤◌, ◌||◌, ◌&&◌, ◌==◌, ℕ, length, All, max, IfOk, OnOk};
 ghost use Rattle.std.specs.List.{list_any};
+ghost use Rattle.std.specs.Map.{lookup};
 ghost use Rattle.query_normal.specs.Keys.{same_key};
 ghost use Rattle.query_normal.specs.declared.key.KeyShape.{KeyShape as AKey};
 ghost use Rattle.hub_core.specs.CopiesView.{until_in, IsInvalidationReserved, CanInvalidate};
-ghost use Rattle.active_queries.specs.Following.{Following as AFollowing};
 ghost use Rattle.active_queries.specs.Queries.{HaveSeen};
 ghost use Rattle.hub_core.specs.ActiveQueries.{KeepsQueries};
 ghost use Rattle.hub_core.specs.HubState.{HaveGoneOn};
-ghost use Rattle.hub_core.specs.Invalidations.{key_of, is_key, altered_key, is_after, is_invalidation, invalidates, AreInvalidationsOf, AreRecordInvalidationsOf, invalidated_until};
+ghost use Rattle.hub_core.specs.Invalidations.{key_of, is_key, altered_key, is_after, is_invalidation, invalidates, lists_after, AreInvalidationsOf, AreRecordInvalidationsOf, invalidated_until};
 
 use crate::copies::Copies;
 use active_queries::ActiveQueries;
@@ -102,7 +102,8 @@ fn push_invalidation(
     Ok(())
 }
 
-/// Adds the invalidations by the changes that the queries list, of the commits after one, up to another.
+/// Adds the invalidations by the changes that the queries list, of the commits after one, up to another. It
+/// looks at the queries alone that list any.
 fn push_query_invalidations(
     copies: &mut Copies,
     queries: &ActiveQueries,
@@ -115,29 +116,32 @@ fn push_query_invalidations(
     ensures within { OnOk result (All (λ m. m.commit ≤ to) invalidations.old.items → All (λ m. m.commit ≤ to) invalidations.new.items) }
     ensures rest { copies.new ≡ record copies.old { invalidatable = copies.new.invalidatable } }
 {
-    for index in 0..queries.len() {
-        push_changes_at(copies, queries, index, front, to, invalidations)?;
+    if queries.len() == 0 {
+        return Ok(());
+    }
+    let listed = queries.listed();
+    for index in 0..listed.len() {
+        push_changes_of(copies, queries, &listed[index], front, to, invalidations)?;
     }
     Ok(())
 }
 
-/// Adds the invalidations by the changes that the query at an index lists.
-fn push_changes_at(
+/// Adds the invalidations by the changes that the query of a key lists.
+fn push_changes_of(
     copies: &mut Copies,
     queries: &ActiveQueries,
-    index: usize,
+    key: &Key,
     front: Commit,
     to: Commit,
     invalidations: &mut Vec<Invalidation>,
 ) -> Result<(), Memory>
-    requires { index < length queries.now.entries }
-    ensures invalidations { OnOk result ((entry : AKey × AFollowing) (key : AKey) (n : ℕ) → slice_get queries.now.entries index ≡ Some entry → list_any (is_invalidation key n) invalidations.new.items ≡ (list_any (is_invalidation key n) invalidations.old.items || invalidates front to key n entry)) }
+    ensures invalidations { OnOk result ((other : AKey) (n : ℕ) → list_any (is_invalidation other n) invalidations.new.items ≡ (list_any (is_invalidation other n) invalidations.old.items || (same_key other key.now && lists_after front to n (lookup (same_key key.now) queries.now.entries)))) }
     ensures reserved { OnOk result (All (λ m. IsInvalidationReserved copies.old m.key) invalidations.old.items → All (λ m. IsInvalidationReserved copies.new m.key) invalidations.new.items) }
     ensures within { OnOk result (All (λ m. m.commit ≤ to) invalidations.old.items → All (λ m. m.commit ≤ to) invalidations.new.items) }
     ensures rest { copies.new ≡ record copies.old { invalidatable = copies.new.invalidatable } }
 {
-    match queries.at(index) {
-        Some((key, query)) => push_changes(copies, key, query.changed(), front, to, invalidations),
+    match queries.get(key) {
+        Some(query) => push_changes(copies, key, query.changed(), front, to, invalidations),
         None => Ok(()),
     }
 }

@@ -1,7 +1,7 @@
 //! The buffer for a page.
 ghost use Rattle.std.specs.Prelude.{◌≡◌, ◌*◌, ◌^◌, length, IfOk, Some, None, option_map, unwrap_or, []};
 ghost use Rattle.flat_snapshot.specs.PageText.{page_text, page_with};
-ghost use Rattle.hub_core.specs.PageRoom.{IsRoomFor, all_set, moment_in};
+ghost use Rattle.hub_core.specs.PageRoom.{IsRoomFor, all_set, moment_in, set_below};
 
 use crate::config::Config;
 use flat_snapshot::write_page;
@@ -91,6 +91,16 @@ impl PageRoom {
         ensures { self.new ≡ record self.old { page = option_map all_set self.old.page } }
     {
         self.bytes[HEAD_BYTES..].fill(ALL_SET);
+    }
+
+    /// Sets every bit of the last fetched page where its moment is below this second.
+    pub(crate) fn set_below(&mut self, guard: u64)
+        ensures { self.new ≡ record self.old { page = option_map (set_below guard) self.old.page } }
+    {
+        let moment = self.moment().seconds();
+        if moment < guard {
+            self.set_all();
+        }
     }
 
     /// Writes a page with these bits.

@@ -1,5 +1,5 @@
 //! A read: its outcome, and the copy that it issues.
-ghost use Rattle.std.specs.Prelude.{◌≡◌, ◌≤◌, ◌<◌, ◌+◌, ℕ, max, true, List, [], ◌∷◌, length, false, ◌&&◌, if◌then◌else◌, nat_lt, IfOk, OnOk, OnErr, IsTrue, IfSome, None, option_copied};
+ghost use Rattle.std.specs.Prelude.{◌≡◌, ◌≤◌, ◌<◌, ◌+◌, ℕ, max, true, List, [], ◌∷◌, length, false, ◌&&◌, if◌then◌else◌, nat_lt, IfOk, OnOk, OnErr, IsTrue, IfSome, None};
 ghost use Rattle.std.specs.Map.{lookup};
 ghost use Rattle.query_core.specs.Limits.{IsQuery};
 ghost use Rattle.query_core.specs.Window.{window};
@@ -20,7 +20,7 @@ ghost use Rattle.hub_model.specs.State.{State, at_moment};
 ghost use Rattle.hub_model.specs.Step.{has_read};
 ghost use Rattle.active_queries.specs.Following.{Follows, AreFollowing};
 ghost use Rattle.active_queries.specs.Queries.{HaveSeen};
-ghost use Rattle.hub_core.specs.ActiveQueries.{is_query, IsAtHand, IsStarted, KeepsQueries, query_at_hand, with_started};
+ghost use Rattle.hub_core.specs.ActiveQueries.{is_query, CanBeAdded, IsAtHand, IsStarted, KeepsQueries, query_at_hand, with_started};
 ghost use Rattle.hub_core.specs.CopiesView.{IsReadyFor, Passes};
 ghost use Rattle.hub_core.specs.HubState.{HaveGoneOn, IsAt, hub_of};
 ghost use Rattle.hub_core.specs.Lifetimes.{KeepsLifetimes, ids_at};
@@ -31,7 +31,7 @@ use crate::lifetimes::{Lifetimes, note_read};
 use crate::passing::drop_idle;
 use crate::query_outcome::query_outcome;
 use active_queries::laws::rows_are_those_of_the_last_commit_seen;
-use active_queries::{ActiveQueries, ActiveQuery};
+use active_queries::{ActiveQueries, ActiveQuery, Followed};
 use commit_book::Book;
 use hub_model::{Outcome, Tags};
 use issued_expiries::Expiries;
@@ -86,7 +86,7 @@ fn start(
     ensures entries { queries.new.entries ≡ queries.old.entries }
 {
     let query = ActiveQuery::start(alloc, book, kind, query, book.count())?;
-    queries.reserve()?;
+    queries.reserve(key)?;
     Ok((key.clone()?, query))
 }
 
@@ -110,7 +110,7 @@ pub fn outcome_at(
             record_outcome(book, book.count(), collection, id, tags)
         }
         KeyShape::Query { kind, normal } => match query_at_hand(queries, started, key) {
-            Some(query) => active_outcome(alloc, book, query, *kind, normal.query(), tags),
+            Some(query) => active_outcome(alloc, book, &query, *kind, normal.query(), tags),
             None => unreachable!(),
         },
     }
@@ -121,11 +121,11 @@ fn query_at_hand<'a>(
     queries: &'a ActiveQueries,
     started: &'a Option<(Key, ActiveQuery)>,
     key: &Key,
-) -> Option<&'a ActiveQuery>
-    ensures { option_copied result ≡ query_at_hand key.now started.now queries.now }
+) -> Option<Followed<'a>>
+    ensures { result ≡ query_at_hand key.now started.now queries.now }
 {
     match started {
-        Some(new) => Some(&new.1),
+        Some(new) => Some(new.1.followed()),
         None => queries.get(key),
     }
 }
@@ -135,7 +135,7 @@ fn query_at_hand<'a>(
 fn active_outcome(
     alloc: Global,
     book: &Book,
-    active: &ActiveQuery,
+    active: &Followed<'_>,
     kind: Kind,
     query: &Query,
     tags: &Tags,
@@ -369,7 +369,7 @@ fn lifetime(
         KeyShape::Record { .. } => estimator.ttl(key, &[], clock, active, count),
         KeyShape::Query { kind, normal } => match query_at_hand(queries, started, key) {
             Some(query) => {
-                let rows = last_rows(book, query, *kind, normal.query());
+                let rows = last_rows(book, &query, *kind, normal.query());
                 estimator.ttl(key, rows, clock, active, count)
             }
             None => unreachable!(),
@@ -378,7 +378,7 @@ fn lifetime(
 }
 
 /// The rows of a query that has seen the last commit.
-fn last_rows<'a>(book: &Book, active: &'a ActiveQuery, kind: Kind, query: &Query) -> &'a [Row]
+fn last_rows<'a>(book: &Book, active: &Followed<'a>, kind: Kind, query: &Query) -> &'a [Row]
     requires follows { Follows kind query.now active.now book.now.journal }
     requires seen { active.now.seen ≡ length book.now.journal }
     ensures { result.now ≡ window query.now (docs book.now.journal (length book.now.journal) query.now.collection) }
@@ -389,7 +389,7 @@ fn last_rows<'a>(book: &Book, active: &'a ActiveQuery, kind: Kind, query: &Query
 
 /// Adds the query that a read started, where a copy of its result may be kept.
 fn add_started(queries: &mut ActiveQueries, started: Option<(Key, ActiveQuery)>, ttl: u32)
-    requires { IfSome started (λ new. (0 < queries.old.spare) × (lookup (same_key new.0) queries.old.entries ≡ None)) }
+    requires { IfSome started (λ new. CanBeAdded new queries.old) }
     ensures { queries.new.entries ≡ with_started started ttl queries.old.entries }
 {
     if ttl == 0 {

@@ -1,6 +1,8 @@
 -- What the calls of a hub add to a history, as the value of a turnstile, and what a desk at a seat makes of it.
-use Rattle.std.proofs.Common.{◌≡◌, ℕ, ◌+◌, ◌<◌, ◌≤◌, List, [], ◌++◌, length, sym, ap, ◌∙◌, append-nil, length-append, arith, subst, Result, Ok, Err, OnErr}
+use Rattle.std.proofs.Common.{◌≡◌, ℕ, ◌+◌, ◌<◌, ◌≤◌, ◌⊎◌, true, inr, List, [], ◌++◌, length, sym, ap, ◌∙◌, append-nil, length-append, arith, subst, Result, Ok, Err, OnErr}
+use Rattle.commit_book.specs.declared.change.Change.{Change}
 use Rattle.hub_core.specs.HubState.{HubView, IsAt}
+use Rattle.hub_model.specs.declared.entry.Condition.{Condition}
 use Rattle.hub_model.specs.declared.entry.Entry.{Entry}
 use Rattle.hub_model.specs.declared.entry.Entry.TheVariants.{Match, Tick}
 use Rattle.hub_model.specs.Helps.{helps_of}
@@ -10,7 +12,7 @@ use Rattle.hub_model.specs.Legal.{Admits, IsLegal}
 use Rattle.hub_model.specs.Reply.{Replied, reply_in}
 use Rattle.hub_model.specs.Setting.{Setting}
 use Rattle.hub_model.specs.State.{State}
-use Rattle.hub_model.specs.Step.{after_all, state_of}
+use Rattle.hub_model.specs.Step.{after_all, is_accepted, state_of}
 use Rattle.hub_desk.specs.Calls.{EntriesAreRepresented, RepliesAreBehind}
 use Rattle.hub_desk.specs.Desk.{matching}
 use Rattle.hub_desk.proofs.HistoryLemmas.{match_is, represents-still, tick_is}
@@ -19,6 +21,22 @@ use Rattle.hub_desk.specs.HubValue.{HubValueView, hub_setting, StandsFor, entrie
 -- a hub and a number of entries
 abbrev valued : HubView → ℕ → HubValueView
 valued hub count = record { hub = hub; count = count }
+
+-- a value that stands for a history has as many commits as that
+pub counted : (value : HubValueView) (history : List Entry) (g : Setting) → StandsFor value history → hub_setting value ≡ g → value.hub.commits ≡ length (state_of g history).journal
+counted value history g stands same = stands.represents.state.book.commits ∙ ap (λ (x : Setting). length (state_of x history).journal) same
+
+-- so has what a seat has seen once the turn was given back
+pub counted_again : (g later : Setting) (history seen : List Entry) (commits : ℕ) → commits ≡ length (state_of g history).journal → g ≡ later → seen ≡ history → commits ≡ length (state_of later seen).journal
+counted_again g later history seen commits is same seen_is =
+    is ∙ ap (λ (x : Setting). length (state_of x history).journal) same ∙ ap (λ (l : List Entry). length (state_of later l).journal) (sym seen_is)
+
+-- a write that a value would accept is accepted in what the seat has seen
+pub accepted_again : (value later : Setting) (history seen : List Entry) (change : Change) (condition : Condition) → value ≡ later → seen ≡ history → is_accepted value (state_of value history) change condition ≡ true
+    → (later.keeps ≡ true) ⊎ (is_accepted later (state_of later seen) change condition ≡ true)
+accepted_again value later history seen change condition same seen_is accepted =
+    let here : is_accepted later (state_of later history) change condition ≡ true = subst (λ (x : Setting). is_accepted x (state_of x history) change condition ≡ true) same accepted in
+    inr (subst (λ (l : List Entry). is_accepted later (state_of later l) change condition ≡ true) (sym seen_is) here)
 
 -- of a value with this hub, which stands for a history
 module _ (h : HubView) (inside old : HubValueView) (hub_is : h ≡ inside.hub) (view_is : inside ≡ old) (history : List Entry) (stands : StandsFor old history) where

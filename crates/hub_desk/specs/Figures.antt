@@ -1,4 +1,4 @@
--- Internal. What the figures of a store are in a state.
+-- Believed. What the figures of a store are in a state.
 use Rattle.std.specs.Prelude.{◌≡◌, length}
 use Rattle.commit_book.specs.Journal.{kept as kept_bytes}
 use Rattle.hub_desk.specs.declared.figures.Figures.{Figures}

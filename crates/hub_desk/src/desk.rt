@@ -1,5 +1,5 @@
 //! The store as a connection sees it: calls that make entries of one history.
-ghost use Rattle.std.specs.Prelude.{◌≡◌, ℕ, ◌≤◌, Bool, true, List, length, IfOk, OnOk, OnErr};
+ghost use Rattle.std.specs.Prelude.{◌≡◌, ◌⊎◌, ℕ, ◌≤◌, Bool, true, List, length, IfOk, IfSome, OnOk, OnErr};
 ghost use Rattle.hub_core.specs.PageRoom.{IsRoomFor};
 ghost use Rattle.hub_model.specs.declared.entry.Entry.{Entry as AnEntry};
 ghost use Rattle.hub_model.specs.declared.entry.Entry.TheVariants.{Write, Read, Purges, Tick};
@@ -14,8 +14,13 @@ use crate::figures::Figures;
 use crate::trim::Trim;
 use hub_core::PageRoom;
 use hub_model::{Answer, Change, Condition, Dropped, Matched, PurgeReply, Stats, Tags, Written};
-use q_base::{Memory, Moment};
+use q_base::{Commit, Memory, Moment};
 use query_normal::Key;
+
+/// What a desk has seen cannot be kept: a disk failed, or a commit found no memory for its record. The
+/// entries that were made stay made, and no later call does better.
+#[derive(Clone, Copy, Debug, PartialEq, Eq)]
+pub struct Unkept;
 
 /// What a connection asks of the store. A desk knows a history, which others may make longer, and
 /// its own entries with their places there. A call that answers Memory makes no entry, and
@@ -46,6 +51,10 @@ pub trait Desk {
     /// its entries, and not at one whose entries need none.
     ghost may_be_unready: { Bool };
 
+    /// No crash takes back a commit of the history that the desk knows. So a desk that is to keep
+    /// commits says; one that keeps none says nothing.
+    ghost is_kept: { Self → Type 0 };
+
     /// Reserves memory for the entries of one request: its own, and what comes ahead of it.
     fn ready(&mut self) -> Result<(), Memory>
         ensures ready { OnOk result (is_ready self.new) }
@@ -55,7 +64,8 @@ pub trait Desk {
         ensures setting { setting self.new ≡ setting self.old };
 
     /// Writes: one entry, behind those that have to come ahead of it. It answers Memory only for a
-    /// write that would be accepted: a refusal needs no memory.
+    /// write that would be accepted: a refusal needs no memory. A desk that is to keep commits needs some
+    /// for each write.
     fn write(
         &mut self,
         moment: Moment,
@@ -65,7 +75,7 @@ pub trait Desk {
         requires { is_ready self.old }
         ensures made { IfOk result (λ w. Makes (setting self.old) (seen self.old) (seen self.new) (mine self.old) (mine self.new) (Write moment change condition) (wrote w)) }
         ensures memory { OnErr result (Learns (setting self.old) (seen self.old) (seen self.new) (mine self.old) (mine self.new)) }
-        ensures accepted { OnErr result (is_accepted (setting self.old) (state_of (setting self.old) (seen self.new)) change condition ≡ true) }
+        ensures accepted { OnErr result (((setting self.old).keeps ≡ true) ⊎ (is_accepted (setting self.old) (state_of (setting self.old) (seen self.new)) change condition ≡ true)) }
         ensures again { OnErr result (is_ready self.new) }
         ensures anchor { anchor self.new ≡ anchor self.old }
         ensures setting { setting self.new ≡ setting self.old };
@@ -122,6 +132,21 @@ pub trait Desk {
     fn tick(&mut self, moment: Moment) -> Stats
         requires { is_ready self.old }
         ensures made { Makes (setting self.old) (seen self.old) (seen self.new) (mine self.old) (mine self.new) (Tick moment) (counted result) }
+        ensures anchor { anchor self.new ≡ anchor self.old }
+        ensures setting { setting self.new ≡ setting self.old };
+
+    /// The number of commits of the history that the desk knows. A desk may not know it before its first
+    /// call, nor behind one that answered Memory.
+    fn commits(&self) -> Option<Commit>
+        ensures { IfSome result (λ n. n ≡ length (state_of (setting self.now) (seen self.now)).journal) };
+
+    /// Waits until all commits that the desk has seen are kept, where they are to be. What a call answered
+    /// is shown to nobody before this call is done. It makes no entry, and sees none.
+    fn keep(&mut self) -> Result<(), Unkept>
+        ensures kept { OnOk result (is_kept self.new) }
+        ensures unkept { OnErr result ((setting self.old).keeps ≡ true) }
+        ensures seen { seen self.new ≡ seen self.old }
+        ensures mine { mine self.new ≡ mine self.old }
         ensures anchor { anchor self.new ≡ anchor self.old }
         ensures setting { setting self.new ≡ setting self.old };
 

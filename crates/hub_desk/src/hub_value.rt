@@ -134,11 +134,11 @@ impl HubValue {
         }
     }
 
-    /// Whether writers should rest before their next turn.
-    pub(crate) fn is_behind(&self) -> bool {
+    /// Whether a writer should rest before its next turn, where it rests at all.
+    pub(crate) fn is_behind(&self, is_paced: bool) -> bool {
         match self.pace {
-            Some(trim) => is_far_behind(self.hub(), trim),
-            None => false,
+            Some(trim) if is_paced => is_far_behind(self.hub(), trim),
+            _ => false,
         }
     }
 

@@ -10,7 +10,7 @@ mod seated;
 mod trim;
 mod turn_time;
 
-pub use desk::Desk;
+pub use desk::{Desk, Unkept};
 pub use figures::Figures;
 pub use hub_core::{Config, ConfigRefusal, Hub, PageRoom};
 pub use hub_model::{

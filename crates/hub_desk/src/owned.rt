@@ -5,7 +5,7 @@ ghost use Rattle.hub_core.specs.HubState.{Represents};
 ghost use Rattle.hub_model.specs.Helps.{match_between};
 ghost use Rattle.hub_desk.specs.Desk.{most_entries};
 
-use crate::desk::Desk;
+use crate::desk::{Desk, Unkept};
 use crate::figures::{Figures, figures_of};
 use crate::laws::calls_make_entries;
 use crate::trim::{Trim, target_of};
@@ -114,6 +114,8 @@ impl Desk for Owned {
 
     ghost may_be_unready = { true };
 
+    ghost is_kept = { λ _. Unit {0} };
+
     fn ready(&mut self) -> Result<(), Memory> {
         self.entries.reserve(MOST_ENTRIES)?;
         Ok(())
@@ -214,6 +216,14 @@ impl Desk for Owned {
         let stats = self.hub.tick(moment);
         note(&mut self.entries, Entry::Tick { moment });
         stats
+    }
+
+    fn commits(&self) -> Option<Commit> {
+        Some(self.hub.commits())
+    }
+
+    fn keep(&mut self) -> Result<(), Unkept> {
+        Ok(())
     }
 
     /// It has one owner, and no turns.

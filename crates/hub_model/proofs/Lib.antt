@@ -1,5 +1,5 @@
 mod Accepted
-mod Bits
+pub mod Bits
 pub mod Changes
 mod Copies
 pub mod Covered

@@ -1,5 +1,5 @@
 -- Believed. The record: the keys of which an outdated copy may still be kept. And its page.
-use Rattle.std.specs.Prelude.{◌≡◌, ◌<◌, Contains, ℕ, ◌^◌, ◌==◌, Bool, nat_lt, List, filter, map, length, sum_by, count_by}
+use Rattle.std.specs.Prelude.{◌≡◌, ◌<◌, Contains, ℕ, ◌^◌, ◌==◌, Bool, true, if◌then◌else◌, nat_lt, List, filter, map, length, replicate, sum_by, count_by}
 use Rattle.std.specs.List.{range_with_len}
 use Rattle.query_normal.specs.Pages.{Page, positions}
 use Rattle.query_normal.specs.declared.key.KeyShape.{KeyShape}
@@ -41,7 +41,11 @@ count_among keys log2_bits hashes j = sum_by (λ key. count_by (λ p. p == j) (p
 abbrev pub bits_of : List KeyShape → ℕ → ℕ → List Bool
 bits_of keys log2_bits hashes = map (λ j. nat_lt 0 (count_among keys log2_bits hashes j)) (range_with_len 0 (2 ^ log2_bits))
 
--- the page of a state: its front, its number of commits, its clock, and the bits of its record, all of one moment
+-- the bits of a page: those of the record; below the guard all, as any copy of before the store was opened may be outdated, and no entry tells of these
+abbrev pub page_bits : Setting → State → List Bool
+page_bits g s = if nat_lt s.clock g.guard then replicate (2 ^ g.log2_bits) true else bits_of (record_of s) g.log2_bits g.hashes
+
+-- the page of a state: its front, its number of commits, its clock, and its bits, all of one moment
 abbrev pub page_of : Setting → State → Page
 page_of g s = record {
   log2_bits = g.log2_bits;
@@ -49,5 +53,5 @@ page_of g s = record {
   front = s.front;
   commits = length s.journal;
   moment = s.clock;
-  bits = bits_of (record_of s) g.log2_bits g.hashes;
+  bits = page_bits g s;
 }

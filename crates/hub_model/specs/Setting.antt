@@ -1,5 +1,5 @@
 -- Believed. The configuration of a hub, and its limits.
-use Rattle.std.specs.Prelude.{ℕ, ◌≤◌, List, []}
+use Rattle.std.specs.Prelude.{ℕ, ◌≤◌, Bool, false, List, []}
 
 -- What a hub is configured with.
 pub record Setting : Type 0 where
@@ -22,6 +22,10 @@ pub record Setting : Type 0 where
   pub ttl_absent : ℕ
   -- for how many seconds shared caches, which are purged, may keep replies; 0 where nothing is said of those
   pub ttl_shared : ℕ
+  -- whether commits are kept on a disk, so that a reply may say that they cannot be; no entry depends on it
+  pub keeps : Bool
+  -- the clock from which on no copy is unexpired that was issued before the store was opened; 0 where there was none
+  pub guard : ℕ
 
 -- each number is within its limits
 pub record IsWithinLimits (g : Setting) : Type 0 where
@@ -51,4 +55,6 @@ default_setting = record {
   hosts = [];
   ttl_absent = 0;
   ttl_shared = 0;
+  keeps = false;
+  guard = 0;
 }

@@ -1,6 +1,6 @@
 //! What follows of histories from the definitions alone. Each function states one law, and does
 //! nothing.
-ghost use Rattle.std.specs.Prelude.{◌≡◌, ◌≢◌, ◌↔◌, ◌+◌, ◌<◌, ◌≤◌, ℕ, Bool, true, false, suc, max, List, [], ◌∷◌, ◌++◌, length, Option, Some, None, IsTrue, Contains, slice_get, is_some, nat_lt, ◌&&◌, ◌||◌, if◌then◌else◌};
+ghost use Rattle.std.specs.Prelude.{◌≡◌, ◌≢◌, ◌↔◌, ◌+◌, ◌^◌, ◌<◌, ◌≤◌, ℕ, Bool, true, false, suc, max, List, [], ◌∷◌, ◌++◌, length, Option, Some, None, IsTrue, Contains, slice_get, is_some, nat_lt, ◌&&◌, ◌||◌, if◌then◌else◌};
 ghost use Rattle.std.specs.Bool.{Decides};
 ghost use Rattle.std.specs.List.{list_any, IsDistinct};
 ghost use Rattle.std.specs.List.Sorted.{IsPermutation};
@@ -88,14 +88,17 @@ pub fn recorded_keys_are_listed()
     ensures once { (s : State) → IsDistinct same_key (record_of s) }
 {}
 
-/// A bit of the page is set exactly where it is at a position of a key in the record.
+/// From the guard on a bit of the page is set exactly where it is at a position of a key in the record.
+/// Below it each is set.
 pub fn bits_are_of_recorded_keys()
-    ensures { (g : Setting) (s : State) (j : ℕ) → IsTrue (is_set (page_of g s) j) ↔ ((key : KeyShape) × IsRecorded s key × Contains (positions key g.log2_bits g.hashes) j) }
+    ensures recorded { (g : Setting) (s : State) (j : ℕ) → g.guard ≤ s.clock → IsTrue (is_set (page_of g s) j) ↔ ((key : KeyShape) × IsRecorded s key × Contains (positions key g.log2_bits g.hashes) j) }
+    ensures guarded { (g : Setting) (s : State) (j : ℕ) → s.clock < g.guard → IsTrue (is_set (page_of g s) j) ↔ (j < 2 ^ g.log2_bits) }
 {}
 
-/// The page holds each key in the record.
+/// The page holds each key in the record, and below the guard each key.
 pub fn page_holds_recorded_keys()
-    ensures { (g : Setting) (s : State) (key : KeyShape) → IsRecorded s key → IsTrue (page_holds (page_of g s) key) }
+    ensures recorded { (g : Setting) (s : State) (key : KeyShape) → IsRecorded s key → IsTrue (page_holds (page_of g s) key) }
+    ensures guarded { (g : Setting) (s : State) (key : KeyShape) → s.clock < g.guard → IsTrue (page_holds (page_of g s) key) }
 {}
 
 // What holds of queries.

@@ -6,6 +6,8 @@ mod acts;
 #[cfg(test)]
 mod drops;
 #[cfg(test)]
+mod guards;
+#[cfg(test)]
 mod hubs;
 #[cfg(test)]
 mod lives;

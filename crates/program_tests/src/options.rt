@@ -91,13 +91,42 @@ fn watching_is_taken_or_refused(rt: HostRuntime) -> Result<(), Fail> {
     Ok(())
 }
 
+/// A store may be kept in a file; what a sync waits for needs one, and is nothing or a second at most.
+#[test]
+fn files_are_taken_or_refused(rt: HostRuntime) -> Result<(), Fail> {
+    let rows: [(&[&str], &str, bool); 12] = [
+        (&["serve", "here", "--data"], "store.qsj", true),
+        (&["pipe", "--data"], "store.qsj", true),
+        (&["pipe", "--data", "store.qsj", "--sync"], "always", true),
+        (&["pipe", "--data", "store.qsj", "--sync"], "batch 1", true),
+        (&["pipe", "--sync", "batch 1000"], "--data=s", true),
+        (&["pipe", "--data", "store.qsj", "--sync"], "batch 0", false),
+        (&["pipe", "--data=s", "--sync"], "batch 1001", false),
+        (&["pipe", "--data=s", "--sync"], "batch 05", false),
+        (&["pipe", "--data=s", "--sync"], "batch", false),
+        (&["pipe", "--data=s", "--sync"], "never", false),
+        (&["serve", "here", "--sync"], "always", false),
+        (&["world", "1", "1", "--data"], "store.qsj", false),
+    ];
+    for (words, last, taken) in rows {
+        assert_eq!(rt; is_taken(rt.alloc(), words, last)?, taken, "of '{last}'");
+    }
+    Ok(())
+}
+
 /// The help of a command has each of its options, in lines of 100 columns at most.
 #[test]
 fn help_has_each_option(rt: HostRuntime) -> Result<(), Fail> {
     let rows: [(&str, &[&str]); 2] = [
         (
             "pipe --help",
-            &["--ttl-absent <N>", "--ttl-shared <N>", "--host <NAMES>"],
+            &[
+                "--ttl-absent <N>",
+                "--ttl-shared <N>",
+                "--host <NAMES>",
+                "--data <FILE>",
+                "--sync <WHEN>",
+            ],
         ),
         (
             "serve --help",
@@ -108,6 +137,8 @@ fn help_has_each_option(rt: HostRuntime) -> Result<(), Fail> {
                 "--metrics <ADDRESS>",
                 "--log <FILE>",
                 "--log-json",
+                "--data <FILE>",
+                "--sync <WHEN>",
             ],
         ),
     ];

@@ -7,6 +7,7 @@ mod link;
 mod log_writer;
 mod places;
 mod posts;
+mod store;
 mod watching;
 
 use clock::HostClock;

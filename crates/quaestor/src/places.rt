@@ -5,11 +5,12 @@ use crate::board::{Board, BoardMonitor};
 use crate::link::{TcpLink, connect};
 use crate::log_writer::end_log;
 use crate::posts::Posts;
+use crate::store::{FileKeeper, keeper_of};
 use crate::watching::{Watched, bind_watched};
 use client_session::SessionRefusal;
 use client_wire::WireLink;
 use q_outside::{Failed, Limits, WriteSink};
-use quaestor_prog::{Places, Watching};
+use quaestor_prog::{Data, Places, Watching};
 use std::fs::{File, Files};
 use std::io;
 use std::net::{Net, TcpListener, TcpStream};
@@ -126,6 +127,8 @@ where
 
     type Monitor = BoardMonitor;
 
+    type Keeper = Option<FileKeeper<R>>;
+
     ghost at = { λ p. record { faults = p.faults; kept = p.kept; link = p.link } };
 
     ghost gives = { λ _ _ _ _ _ _. Unit {0} };
@@ -171,6 +174,28 @@ where
             Some(board) => BoardMonitor::new(Arc::try_clone(board).ok()),
             None => BoardMonitor::new(None),
         }
+    }
+
+    fn keeper(
+        &mut self,
+        data: Option<Data<'_>>,
+        longest: u64,
+    ) -> Result<Option<FileKeeper<R>>, Failed> {
+        let Some(data) = data else {
+            return Ok(None);
+        };
+        for _ in self.rt.forever() {
+            match keeper_of(self.rt, data, longest, self.is_watched) {
+                Ok(keeper) => return Ok(Some(keeper)),
+                Err(_) => {
+                    if self.faults < u64::MAX {
+                        self.faults += 1;
+                        return Err(Failed);
+                    }
+                }
+            }
+        }
+        unreachable!()
     }
 
     fn reach(&mut self, address: &str) -> Result<TcpLink, Failed> {

@@ -1,5 +1,5 @@
 -- A run of the program, of what serving its connection did.
-use Rattle.std.proofs.Common.{◌≡◌, ℕ, true, min, List, [], ◌∷◌, Option, Some, refl, sym, ap, ◌∙◌, subst, inl, inr}
+use Rattle.std.proofs.Common.{◌≡◌, ◌⊎◌, ℕ, Bool, true, false, min, List, [], ◌∷◌, ◌++◌, flat_map, is_some, Option, None, Some, refl, sym, ap, ◌∙◌, subst, inl, inr}
 use Rattle.std.specs.List.{enumerate_from}
 use Rattle.dialogue.specs.Dialogue.{Sides}
 use Rattle.hub_model.specs.declared.entry.Entry.{Entry}
@@ -9,20 +9,26 @@ use Rattle.q_base.specs.declared.moment.TheConstants.{GREATEST_SECONDS}
 use Rattle.q_outside.specs.Ends.{End, HasEnded, LastEnd, Ticks}
 use Rattle.q_outside.specs.declared.clocks.FixedClock.{FixedClock}
 use Rattle.q_outside.specs.declared.served.Served.{Served}
-use Rattle.quaestor_prog.specs.Run.{AreAt, AreTimed, GaveCrash, GaveWorld, IsRun}
+use Rattle.commit_book.specs.declared.change.Change.{Change}
+use Rattle.kept_desk.specs.Filling.{Fills, Writes, written_by, writes_in}
+use Rattle.kept_desk.proofs.FillLemmas.{all_filling, numbered_writes}
+use Rattle.quaestor_prog.specs.Run.{AreAt, AreTimed, GaveText, IsRun, IsRunKept, IsRunOver, IsSimulationText}
 use Rattle.quaestor_prog.specs.Status.{status_of}
 use Rattle.clap.specs.Words.{Text}
 use Rattle.q_outside.specs.Doors.{DoorsView}
 use Rattle.q_outside.specs.declared.limits.Limits.{Limits}
-use Rattle.quaestor_prog.specs.Commands.{AskHelp, IsAnswered}
-use Rattle.quaestor_prog.specs.Places.{PlacesView, WatchAsk}
+use Rattle.command_line.specs.Watching.{WatchAsk}
+use Rattle.quaestor_prog.specs.Places.{PlacesView}
 use Rattle.quaestor_prog.specs.Reading.{HasRead}
 use Rattle.quaestor_prog.specs.Serving.{HasServed}
 use Rattle.client_session.specs.Link.{Exchange, LinkView}
-use Rattle.quaestor_prog.specs.Words.{IsCrash, IsPipe, IsRead, IsServe, IsWorld, ReadAsk, ServeAsk}
-use Rattle.quaestor_prog.proofs.CommandLemmas.{nothing_answered, faults_pipe, faults_serve, faults_read, faults_world, faults_crash}
-use Rattle.quaestor_prog.proofs.WordLemmas.{one_pipe, one_ask, one_read, one_world, one_crash}
+use Rattle.command_line.specs.Words.{IsPipe, IsRead, IsServe, IsSimulation, ReadAsk, ServeAsk, ask_of}
+use Rattle.command_line.specs.Data.{asked_data}
+use Rattle.command_line.specs.declared.command_name.Simulation.{Simulation}
+use Rattle.command_line.specs.declared.options.ServeOptions.{ServeOptions}
+use Rattle.command_line.proofs.WordLemmas.{is_data, one_pipe, one_ask, one_read, one_simulation}
 use Rattle.quaestor_prog.specs.declared.status.Status.{Status}
+use Rattle.quaestor_prog.specs.declared.status.Status.TheVariants.{Memory, StoreFault}
 use Rattle.quaestor_server.specs.Conversation.{Conversation}
 
 -- over a desk that was new, the run is the connection, and the sink was ended behind it
@@ -51,6 +57,54 @@ run_weaker g a b ended t u status f (inl p) = inl (record {
 })
 run_weaker g a b ended t u status f (inr n) = inr (record { status_is = n.status_is; source = n.source; sink = n.sink; ticks = f [] n.ticks })
 
+-- over a desk that was filled with what was kept, the run is the connection, and the sink was ended behind it
+pub piped_kept : (kept : List (ℕ × Change) → Type 0) (g k : Setting) (none es es' : List Entry) (a : Sides) (source sink ended : End) (last : LastEnd) (tells : List ℕ → Type 0) (served : Served) (status : Status) → g ≡ k → none ≡ [] → Fills g none es (enumerate_from 0 none) (enumerate_from 0 es)
+    → (changes : List (ℕ × Change)) × kept changes × Writes (enumerate_from 0 none) (enumerate_from 0 es) changes → ended ≡ sink → HasEnded last ended.bytes → IsLegal g es' → Conversation g true tells es es' (enumerate_from 0 es) (enumerate_from 0 es') a (record { source = source; sink = sink }) served → status ≡ status_of served.why → IsRunKept kept k a (record { source = source; sink = ended }) last tells status
+piped_kept kept g k none es es' a source sink ended last tells served status g_is none_is fills found same is_ended legal dialogue status_is =
+    let own : fills.entries ≡ enumerate_from 0 es = sym (fills.mine ∙ ap (λ (l : List Entry). enumerate_from 0 l ++ fills.entries) none_is) in
+    let wrote : flat_map written_by es ≡ found.0 = sym (numbered_writes 0 es) ∙ found.2 ∙ ap (λ (l : List Entry). writes_in (enumerate_from 0 l) ++ found.0) none_is in
+    inl (record {
+      filled = es;
+      filling = all_filling es fills.entries own fills.filling;
+      restored = subst kept (sym wrote) found.1;
+      entries = es';
+      legal = subst (λ (x : Setting). IsLegal x es') g_is legal;
+      served = served;
+      conversation = subst (λ (o : End). Conversation k true tells es es' (enumerate_from 0 es) (enumerate_from 0 es') a (record { source = source; sink = o }) served) (sym same)
+          (subst (λ (x : Setting). Conversation x true tells es es' (enumerate_from 0 es) (enumerate_from 0 es') a (record { source = source; sink = sink }) served) g_is dialogue);
+      status_is = status_is;
+      is_ended = is_ended;
+    })
+
+-- where the store is not filled, nothing was begun: out of memory, or the file's store does not fit
+pub not_begun : (fails : Bool) (g : Setting) (a : Sides) (sink : End) (ended : LastEnd) (tells : List ℕ → Type 0) (status : Status) → fails ≡ false → ((status ≡ StoreFault) × (fails ≡ true)) ⊎ (status ≡ Memory) → sink ≡ a.sink → tells [] → IsRun g a (record { source = a.source; sink = sink }) ended tells status
+not_begun fails g a sink ended tells status never (inl unfilled) same ticks = absurd (let both : true ≡ false = sym unfilled.1 ∙ never in cc (both))
+not_begun fails g a sink ended tells status never (inr memory) same ticks = inr (record { status_is = memory; source = refl; sink = same; ticks = ticks })
+
+pub not_begun_kept : (kept : List (ℕ × Change) → Type 0) (fails : Bool) (g : Setting) (a : Sides) (sink : End) (ended : LastEnd) (tells : List ℕ → Type 0) (status : Status) → ((status ≡ StoreFault) × (fails ≡ true)) ⊎ (status ≡ Memory) → sink ≡ a.sink → HasEnded ended sink.bytes → tells [] → IsRunKept kept g a (record { source = a.source; sink = sink }) ended tells status
+not_begun_kept kept fails g a sink ended tells status (inl unfilled) same is_ended ticks = inr (inl (record { status_is = unfilled.0; source = refl; sink = same; is_ended = is_ended; ticks = ticks }))
+not_begun_kept kept fails g a sink ended tells status (inr memory) same is_ended ticks = inr (inr (record { status_is = memory; source = refl; sink = same; ticks = ticks }))
+
+-- such a run with a weaker statement of its moments
+pub kept_weaker : (kept : List (ℕ × Change) → Type 0) (g : Setting) (a b : Sides) (ended : LastEnd) (t u : List ℕ → Type 0) (status : Status) → ((ms : List ℕ) → t ms → u ms) → IsRunKept kept g a b ended t status → IsRunKept kept g a b ended u status
+kept_weaker kept g a b ended t u status f (inl p) = inl (record {
+  filled = p.filled;
+  filling = p.filling;
+  restored = p.restored;
+  entries = p.entries;
+  legal = p.legal;
+  served = p.served;
+  conversation = record { moments = p.conversation.moments; entered = p.conversation.entered; ticks = f _ p.conversation.ticks; dialogue = p.conversation.dialogue };
+  status_is = p.status_is;
+  is_ended = p.is_ended;
+})
+kept_weaker kept g a b ended t u status f (inr (inl n)) = inr (inl (record { status_is = n.status_is; source = n.source; sink = n.sink; is_ended = n.is_ended; ticks = f [] n.ticks }))
+kept_weaker kept g a b ended t u status f (inr (inr n)) = inr (inr (record { status_is = n.status_is; source = n.source; sink = n.sink; ticks = f [] n.ticks }))
+
+-- and in an equal configuration
+pub kept_as : (kept : List (ℕ × Change) → Type 0) (g h : Setting) (a b : Sides) (ended : LastEnd) (tells : List ℕ → Type 0) (status : Status) → g ≡ h → IsRunKept kept g a b ended tells status → IsRunKept kept h a b ended tells status
+kept_as kept g h a b ended tells status same run = subst (λ (s : Setting). IsRunKept kept s a b ended tells status) same run
+
 -- each moment of a fixed clock is its own
 all_at : (at : ℕ) (old new : FixedClock) (moments : List ℕ) → old.at ≡ min at GREATEST_SECONDS → Ticks (λ c m d. (m ≡ c.at) × (d ≡ c)) old moments new → AreAt at moments
 all_at at old new [] stands ticks = tt
@@ -63,33 +117,43 @@ timed g tells clock at asked old new a b ended status asked_is stands run =
     subst (λ (o : Option ℕ). IsRun g a b ended (AreTimed tells clock clock o) status) (sym asked_is)
     (run_weaker g a b ended (λ ms. Ticks (λ c m d. (m ≡ c.at) × (d ≡ c)) old ms new) (AreTimed tells clock clock (Some at)) status (λ ms t. (all_at at old new ms stands t, refl)) run)
 
+pub timed_kept : {C : Type 0} (kept : List (ℕ × Change) → Type 0) (g : Setting) (tells : C → ℕ → C → Type 0) (clock : C) (at : ℕ) (asked : Option ℕ) (old new : FixedClock) (a b : Sides) (ended : LastEnd) (status : Status) → asked ≡ Some at → old.at ≡ min at GREATEST_SECONDS → IsRunKept kept g a b ended (λ ms. Ticks (λ c m d. (m ≡ c.at) × (d ≡ c)) old ms new) status → IsRunKept kept g a b ended (AreTimed tells clock clock asked) status
+timed_kept kept g tells clock at asked old new a b ended status asked_is stands run =
+    subst (λ (o : Option ℕ). IsRunKept kept g a b ended (AreTimed tells clock clock o) status) (sym asked_is)
+    (kept_weaker kept g a b ended (λ ms. Ticks (λ c m d. (m ≡ c.at) × (d ≡ c)) old ms new) (AreTimed tells clock clock (Some at)) status (λ ms t. (all_at at old new ms stands t, refl)) run)
+
+-- without one they are those of the given clock
+pub untimed : {C : Type 0} (g : Setting) (tells : C → ℕ → C → Type 0) (old new : C) (at : Option ℕ) (a b : Sides) (ended : LastEnd) (status : Status) → at ≡ None → IsRun g a b ended (λ ms. Ticks tells old ms new) status → IsRun g a b ended (AreTimed tells old new at) status
+untimed g tells old new at a b ended status none run = subst (λ (o : Option ℕ). IsRun g a b ended (AreTimed tells old new o) status) (sym none) run
+
+-- no moment was asked for
+pub none_timed : {C : Type 0} (tells : C → ℕ → C → Type 0) (clock : C) (at : Option ℕ) → AreTimed tells clock clock at []
+none_timed tells clock None = refl
+none_timed tells clock (Some at) = (tt, refl)
+
 -- the run of a configuration and a clock that the words ask for
 pub run_of : {C : Type 0} (tells : C → ℕ → C → Type 0) (old new : C) (words : List Text) (g h : Setting) (a b : Option ℕ) (before after : Sides) (ended : LastEnd) (status : Status) → IsPipe words g a → IsPipe words h b → IsRun g before after ended (AreTimed tells old new a) status → IsRun h before after ended (AreTimed tells old new b) status
 run_of tells old new words g h a b before after ended status p q run = let one = one_pipe words g h a b p q in
     subst (λ (x : Setting). IsRun x before after ended (AreTimed tells old new b) status) one.0 (subst (λ (at : Option ℕ). IsRun g before after ended (AreTimed tells old new at) status) one.1 run)
 
--- no answer of clap is help where clap takes the words
-pub no_help : (words : List Text) (g : Setting) (at : Option ℕ) → IsPipe words g at → AskHelp words → ⊥
-no_help words g at p help = nothing_answered _ p.taken (faults_pipe IsAnswered words p.named help)
+pub run_over_of : {Q C : Type 0} (kept : Q → List (ℕ × Change) → Type 0) (moment : Q → ℕ) (tells : C → ℕ → C → Type 0) (old new : C) (words : List Text) (g h : Setting) (a b : Option ℕ) (before after : Sides) (ended : LastEnd) (status : Status) → IsPipe words g a → IsPipe words h b → IsRunOver kept moment g before after ended (AreTimed tells old new a) status → IsRunOver kept moment h before after ended (AreTimed tells old new b) status
+run_over_of kept moment tells old new words g h a b before after ended status p q run = let one = one_pipe words g h a b p q in
+    subst (λ (x : Setting). IsRunOver kept moment x before after ended (AreTimed tells old new b) status) one.0 (subst (λ (at : Option ℕ). IsRunOver kept moment g before after ended (AreTimed tells old new at) status) one.1 run)
 
-pub no_help_serving : (words : List Text) (ask : ServeAsk) → IsServe words ask → AskHelp words → ⊥
-no_help_serving words ask s help = nothing_answered _ s.taken (faults_serve IsAnswered words s.named help)
+-- whether a file is given, by the configuration
+pub data_of : (words : List Text) (g h : Setting) (a b : Option ℕ) (given wanted : Bool) → g.keeps ≡ given → IsPipe words g a → IsPipe words h b → h.keeps ≡ wanted → given ≡ wanted
+data_of words g h a b given wanted told p q is = sym told ∙ ap (λ (x : Setting). x.keeps) (one_pipe words g h a b p q).0 ∙ is
+
+-- where a file is given commits are to be kept
+pub serve_keeps : (words : List Text) (s : ServeOptions) → IsServe words (ask_of s) → is_some s.store ≡ true → s.config.keeps ≡ true
+serve_keeps words s is given = is.found.setting.keeps ∙ ap (λ (o : Option Text). is_some o) (sym is.found.store.0) ∙ sym (is_data s.store) ∙ given
 
 -- what `serve` did is said of what the words ask it for
-pub served_of : {P D L S K C : Type 0} (source_at : S → End) (sink_at : K → End) (ended_at : K → LastEnd) (tick : C → ℕ → C → Type 0) (may : C → Type 0) (doors_at : D → DoorsView S K) (places_at : P → PlacesView D L) (gives : P → List ℕ → Limits → WatchAsk → D → P → Type 0) (tells : P → List ℕ → Type 0)
+pub served_of : {P Q D L S K C : Type 0} (source_at : S → End) (sink_at : K → End) (ended_at : K → LastEnd) (tick : C → ℕ → C → Type 0) (may : C → Type 0) (doors_at : D → DoorsView S K) (places_at : P → PlacesView D L) (gives : P → List ℕ → Limits → WatchAsk → D → P → Type 0) (tells : P → List ℕ → Type 0) (fails : Q → Bool) (kept : Q → List (ℕ × Change) → Type 0) (moment : Q → ℕ)
     (words : List Text) (a b : ServeAsk) (sink sink' : End) (ended : LastEnd) (places places' : P) (status : Status) → IsServe words a → IsServe words b
-    → HasServed source_at sink_at ended_at tick may doors_at places_at gives tells a sink sink' ended places places' status → HasServed source_at sink_at ended_at tick may doors_at places_at gives tells b sink sink' ended places places' status
-served_of source_at sink_at ended_at tick may doors_at places_at gives tells words a b sink sink' ended places places' status p q served =
-    subst (λ (ask : ServeAsk). HasServed source_at sink_at ended_at tick may doors_at places_at gives tells ask sink sink' ended places places' status) (one_ask words a b p q) served
-
-pub no_help_reading : (words : List Text) (ask : ReadAsk) → IsRead words ask → AskHelp words → ⊥
-no_help_reading words ask r help = nothing_answered _ r.taken (faults_read IsAnswered words r.named help)
-
-pub no_help_world : (words : List Text) (seed steps : ℕ) → IsWorld words seed steps → AskHelp words → ⊥
-no_help_world words seed steps w help = nothing_answered _ w.taken (faults_world IsAnswered words w.named help)
-
-pub no_help_crash : (words : List Text) (seed steps : ℕ) → IsCrash words seed steps → AskHelp words → ⊥
-no_help_crash words seed steps k help = nothing_answered _ k.taken (faults_crash IsAnswered words k.named help)
+    → HasServed source_at sink_at ended_at tick may doors_at places_at gives tells fails kept moment a sink sink' ended places places' status → HasServed source_at sink_at ended_at tick may doors_at places_at gives tells fails kept moment b sink sink' ended places places' status
+served_of source_at sink_at ended_at tick may doors_at places_at gives tells fails kept moment words a b sink sink' ended places places' status p q served =
+    subst (λ (ask : ServeAsk). HasServed source_at sink_at ended_at tick may doors_at places_at gives tells fails kept moment ask sink sink' ended places places' status) (one_ask words a b p q) served
 
 -- what `read` did is said of what the words ask it for
 pub read_of : {P D L : Type 0} (link_at : L → LinkView) (answers : L → Exchange → L → Type 0) (places_at : P → PlacesView D L) (links : P → List ℕ → L → P → Type 0)
@@ -98,12 +162,7 @@ pub read_of : {P D L : Type 0} (link_at : L → LinkView) (answers : L → Excha
 read_of link_at answers places_at links words a b sink sink' ended places places' status p q reads =
     subst (λ (ask : ReadAsk). HasRead link_at answers places_at links ask sink sink' ended places places' status) (one_read words a b p q) reads
 
--- so is what `world` wrote
-pub world_of : (words : List Text) (m n s t : ℕ) (sink sink' : End) (ended : LastEnd) (status : Status) → IsWorld words m s → IsWorld words n t → GaveWorld m s sink sink' ended status → GaveWorld n t sink sink' ended status
-world_of words m n s t sink sink' ended status p q text = let one = one_world words m n s t p q in
-    subst (λ k. GaveWorld k t sink sink' ended status) one.0 (subst (λ k. GaveWorld m k sink sink' ended status) one.1 text)
-
--- and what `crash` wrote
-pub crash_of : (words : List Text) (m n s t : ℕ) (sink sink' : End) (ended : LastEnd) (status : Status) → IsCrash words m s → IsCrash words n t → GaveCrash m s sink sink' ended status → GaveCrash n t sink sink' ended status
-crash_of words m n s t sink sink' ended status p q text = let one = one_crash words m n s t p q in
-    subst (λ k. GaveCrash k t sink sink' ended status) one.0 (subst (λ k. GaveCrash m k sink sink' ended status) one.1 text)
+-- so is what a simulation wrote
+pub simulated_of : (words : List Text) (a b : Simulation) (m n s t : ℕ) (sink sink' : End) (ended : LastEnd) (status : Status) → IsSimulation words a m s → IsSimulation words b n t → GaveText (IsSimulationText a m s) sink sink' ended status → GaveText (IsSimulationText b n t) sink sink' ended status
+simulated_of words a b m n s t sink sink' ended status p q text = let one = one_simulation words a b m n s t p q in
+    subst (λ w. GaveText (IsSimulationText w n t) sink sink' ended status) one.0 (subst (λ k. GaveText (IsSimulationText a k t) sink sink' ended status) one.1 (subst (λ k. GaveText (IsSimulationText a m k) sink sink' ended status) one.2 text))

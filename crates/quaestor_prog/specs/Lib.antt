@@ -1,9 +1,6 @@
-pub mod Commands
-pub mod Help
 pub mod ListPlaces
 pub mod Places
 pub mod Reading
 pub mod Run
 pub mod Serving
 pub mod Status
-pub mod Words

@@ -1,7 +1,7 @@
 -- Internal. Which doors places in memory may give, and what they keep of who watches.
 use Rattle.std.specs.Prelude.{◌≡◌, length, Option, Some, option_map, string_bytes}
 use Rattle.q_outside.specs.declared.list_doors.ListDoors.{ListDoors}
-use Rattle.quaestor_prog.specs.Places.{WatchAsk}
+use Rattle.command_line.specs.Watching.{WatchAsk}
 use Rattle.quaestor_prog.specs.declared.list_places.Watched.{Watched}
 
 -- what they were asked, of what they keep

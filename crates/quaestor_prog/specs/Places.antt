@@ -1,18 +1,7 @@
 -- Believed. What contracts see of places before a call and after it.
-use Rattle.std.specs.Prelude.{◌≡◌, ℕ, ◌<◌, Bool, List, [], Option, None, Result, Ok, Err, IfSome, option_map}
+use Rattle.std.specs.Prelude.{◌≡◌, ℕ, ◌<◌, [], Option, None, Result, Ok, Err, IfSome}
 use Rattle.q_outside.specs.Doors.{DoorsView}
 use Rattle.client_session.specs.Link.{LinkView}
-use Rattle.quaestor_prog.specs.declared.places.Watching.{Watching}
-
--- How a server is to be watched: the address of its metrics, its log, and whether that is JSON.
-pub record WatchAsk : Type 0 where
-  pub metrics : Option (List ℕ)
-  pub log : Option (List ℕ)
-  pub json : Bool
-
--- the same, of what is asked of places
-abbrev pub watch_of : Watching → WatchAsk
-watch_of w = record { metrics = option_map (λ s. s.now) w.metrics; log = option_map (λ s. s.now) w.log; json = w.json }
 
 -- What contracts see of places.
 pub record PlacesView (D L : Type 0) : Type 0 where

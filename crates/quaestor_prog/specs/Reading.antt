@@ -21,7 +21,7 @@ use Rattle.q_outside.specs.Ends.{End, GaveBytes, GavePart, HasEnded, LastEnd}
 use Rattle.quaestor_prog.specs.Places.{IsUnasked, PlacesView}
 use Rattle.quaestor_prog.specs.Serving.{IsUnplaced, IsWithoutMemory}
 use Rattle.quaestor_prog.specs.Status.{status_of_read}
-use Rattle.quaestor_prog.specs.Words.{ReadAsk}
+use Rattle.command_line.specs.Words.{ReadAsk}
 use Rattle.quaestor_prog.specs.declared.reading.ReadEnd.{ReadEnd}
 use Rattle.quaestor_prog.specs.declared.reading.ReadEnd.TheVariants.{Answered, WriteFault, Refused}
 use Rattle.quaestor_prog.specs.declared.status.Status.{Status}

@@ -1,6 +1,7 @@
 -- Believed. What a run of the program does.
-use Rattle.std.specs.Prelude.{◌≡◌, ◌⊎◌, ℕ, true, min, List, [], ◌∷◌, Option, Some, None, codes}
+use Rattle.std.specs.Prelude.{◌≡◌, ◌⊎◌, ℕ, true, min, List, [], ◌∷◌, Option, Some, None, codes, flat_map}
 use Rattle.std.specs.List.{enumerate_from}
+use Rattle.commit_book.specs.declared.change.Change.{Change}
 use Rattle.dialogue.specs.Dialogue.{Sides}
 use Rattle.hub_model.specs.declared.entry.Entry.{Entry}
 use Rattle.hub_model.specs.Legal.{IsLegal}
@@ -9,13 +10,18 @@ use Rattle.q_base.specs.declared.moment.TheConstants.{GREATEST_SECONDS}
 use Rattle.q_outside.specs.Ends.{End, GaveBytes, GavePart, HasEnded, LastEnd, Ticks}
 use Rattle.q_outside.specs.declared.served.Served.{Served}
 use Rattle.clap.specs.Words.{Text}
-use Rattle.quaestor_prog.specs.Help.{IsHelpOf, text_of_help}
-use Rattle.quaestor_prog.specs.declared.help.HelpText.{HelpText}
+use Rattle.kept_desk.specs.Filling.{IsFilling, Writes, written_by}
+use Rattle.command_line.specs.Help.{IsHelpOf, text_of_help}
+use Rattle.command_line.specs.declared.help.HelpText.{HelpText}
+use Rattle.command_line.specs.declared.command_name.Simulation.{Simulation}
+use Rattle.command_line.specs.declared.command_name.Simulation.TheVariants.{World, Crash}
 use Rattle.quaestor_prog.specs.Status.{status_of}
 use Rattle.quaestor_prog.specs.declared.status.Status.{Status}
-use Rattle.quaestor_prog.specs.declared.status.Status.TheVariants.{Done, Words, WriteFault, Memory}
+use Rattle.quaestor_prog.specs.declared.status.Status.TheVariants.{Done, Words, WriteFault, Memory, StoreFault}
+use Rattle.quaestor_prog.specs.Serving.{guarded}
 use Rattle.quaestor_server.specs.Conversation.{Conversation}
 use Rattle.crash_core.specs.Told.{IsCrashText}
+use Rattle.turnstile.specs.Places.{AllOf}
 use Rattle.world_core.specs.Text.{IsWorldText}
 
 -- each of the moments is that of the fixed clock
@@ -80,28 +86,50 @@ pub record IsHelped (words : List Text) (a b : Sides) (ended : LastEnd) (tells :
 abbrev pub IsRun : Setting → Sides → Sides → LastEnd → (List ℕ → Type 0) → Status → Type 0
 IsRun g a b ended tells status = Pipes g a b ended tells status ⊎ IsUnbegun a b tells status
 
--- the text of the world that a seed gives was given, or a beginning of it, and the sink was ended behind that; or there was no memory for it
-abbrev pub GaveWorld : (seed steps : ℕ) → End → End → LastEnd → Status → Type 0
-GaveWorld seed steps before after ended Done = (text : List ℕ) × IsWorldText seed steps text × GaveBytes before after text × HasEnded ended after.bytes
-GaveWorld seed steps before after ended WriteFault = (text : List ℕ) × IsWorldText seed steps text × GavePart before after text × HasEnded ended after.bytes
-GaveWorld seed steps before after ended Memory = after ≡ before
-GaveWorld seed steps before after ended _ = ⊥
+-- a desk has written what was kept
+abbrev pub HasWritten : (List (ℕ × Change) → Type 0) → (mine mine' : List (ℕ × Entry)) → Type 0
+HasWritten kept mine mine' = (changes : List (ℕ × Change)) × kept changes × Writes mine mine' changes
 
--- The words ask for a world: its text was given, and nothing else was done.
-pub record HasWorld (seed steps : ℕ) (a b : Sides) (ended : LastEnd) (tells : List ℕ → Type 0) (status : Status) : Type 0 where
-  pub text : GaveWorld seed steps a.sink b.sink ended status
+-- The connection was served over a store that a file keeps: its history begins with entries that write what the file has, and has no others but its own.
+pub record PipesKept (kept : List (ℕ × Change) → Type 0) (g : Setting) (a b : Sides) (ended : LastEnd) (tells : List ℕ → Type 0) (status : Status) : Type 0 where
+  pub filled : List Entry
+  pub filling : AllOf IsFilling filled
+  pub restored : kept (flat_map written_by filled)
+  pub entries : List Entry
+  pub legal : IsLegal g entries
+  pub served : Served
+  pub conversation : Conversation g true tells filled entries (enumerate_from 0 filled) (enumerate_from 0 entries) a b served
+  pub status_is : status ≡ status_of served.why
+  pub is_ended : HasEnded ended b.sink.bytes
+
+-- The file is refused, or its store does not fit: nothing was taken and nothing given, and the sink was ended.
+pub record IsUnkept (a b : Sides) (ended : LastEnd) (tells : List ℕ → Type 0) (status : Status) : Type 0 where
+  pub status_is : status ≡ StoreFault
   pub source : b.source ≡ a.source
+  pub sink : b.sink ≡ a.sink
+  pub is_ended : HasEnded ended b.sink.bytes
   pub ticks : tells []
 
--- the text of the run with crashes that a seed gives was given, or a beginning of it, and the sink was ended behind that; or there was no memory for it
-abbrev pub GaveCrash : (seed steps : ℕ) → End → End → LastEnd → Status → Type 0
-GaveCrash seed steps before after ended Done = (text : List ℕ) × IsCrashText seed steps text × GaveBytes before after text × HasEnded ended after.bytes
-GaveCrash seed steps before after ended WriteFault = (text : List ℕ) × IsCrashText seed steps text × GavePart before after text × HasEnded ended after.bytes
-GaveCrash seed steps before after ended Memory = after ≡ before
-GaveCrash seed steps before after ended _ = ⊥
+-- the connection was served over a store that a file keeps, or nothing was begun
+abbrev pub IsRunKept : (List (ℕ × Change) → Type 0) → Setting → Sides → Sides → LastEnd → (List ℕ → Type 0) → Status → Type 0
+IsRunKept kept g a b ended tells status = PipesKept kept g a b ended tells status ⊎ (IsUnkept a b ended tells status ⊎ IsUnbegun a b tells status)
 
--- The words ask for a run with crashes: its text was given, and nothing else was done.
-pub record HasCrash (seed steps : ℕ) (a b : Sides) (ended : LastEnd) (tells : List ℕ → Type 0) (status : Status) : Type 0 where
-  pub text : GaveCrash seed steps a.sink b.sink ended status
+-- the file is refused; or there was no memory; or the file has a keeper, and what came of the connection over what this one has, with the guard that comes of it
+abbrev pub IsRunOver : {Q : Type 0} → (Q → List (ℕ × Change) → Type 0) → (Q → ℕ) → Setting → Sides → Sides → LastEnd → (List ℕ → Type 0) → Status → Type 0
+IsRunOver {Q} kept moment g a b ended tells status = IsUnkept a b ended tells status ⊎ (IsUnbegun a b tells status ⊎ ((keeper : Q) × IsRunKept (kept keeper) (guarded true g (moment keeper)) a b ended tells status))
+
+-- the text that a seed gives, of a world or of a run with crashes
+abbrev pub IsSimulationText : Simulation → (seed steps : ℕ) → List ℕ → Type 0
+IsSimulationText World seed steps text = IsWorldText seed steps text
+IsSimulationText Crash seed steps text = IsCrashText seed steps text
+
+-- such a text was given, or a beginning of it, and the sink was ended behind that; or there was no memory for it
+abbrev pub GaveText : (List ℕ → Type 0) → End → End → LastEnd → Status → Type 0
+GaveText such before after ended status =
+    ((text : List ℕ) × such text × IsText text before after ended status) ⊎ ((status ≡ Memory) × (after ≡ before))
+
+-- The words ask for a simulation: its text was given, and nothing else was done.
+pub record HasSimulated (which : Simulation) (seed steps : ℕ) (a b : Sides) (ended : LastEnd) (tells : List ℕ → Type 0) (status : Status) : Type 0 where
+  pub text : GaveText (IsSimulationText which seed steps) a.sink b.sink ended status
   pub source : b.source ≡ a.source
   pub ticks : tells []

@@ -7,7 +7,7 @@ use Rattle.q_outside.specs.declared.served.Why.TheVariants as ends
 use Rattle.quaestor_prog.specs.declared.reading.ReadEnd.{ReadEnd}
 use Rattle.quaestor_prog.specs.declared.reading.ReadEnd.TheVariants as reads
 use Rattle.quaestor_prog.specs.declared.status.Status.{Status}
-use Rattle.quaestor_prog.specs.declared.status.Status.TheVariants.{Done, Words, ReadFault, WriteFault, Memory, BadInput, RequestLimit, PlaceFault, LinkFault, Refused}
+use Rattle.quaestor_prog.specs.declared.status.Status.TheVariants.{Done, Words, ReadFault, WriteFault, Memory, BadInput, RequestLimit, PlaceFault, LinkFault, Refused, StoreFault}
 use Rattle.quaestor_serve.specs.declared.serve_end.ServeWhy.{ServeWhy}
 use Rattle.quaestor_serve.specs.declared.serve_end.ServeWhy.TheVariants as causes
 
@@ -23,6 +23,7 @@ code_of RequestLimit = 7
 code_of PlaceFault = 8
 code_of LinkFault = 9
 code_of Refused = 10
+code_of StoreFault = 11
 
 -- the status of a connection that ended for a reason
 abbrev pub status_of : Why → Status
@@ -41,6 +42,7 @@ status_of_server causes.Limit = Done
 status_of_server causes.Closed = Done
 status_of_server causes.DoorFault = PlaceFault
 status_of_server causes.Memory = Memory
+status_of_server causes.Unfilled = StoreFault
 
 -- the status of a session that has no answer
 abbrev pub status_of_refusal : SessionRefusal → Status

@@ -1,11 +1,12 @@
 //! Places with doors and a link in memory.
-ghost use Rattle.std.specs.Prelude.{◌≡◌, ◌<◌, Some, None, IfOk, IfSome, option_map, string_bytes};
+ghost use Rattle.std.specs.Prelude.{◌≡◌, ◌<◌, ◌↔◌, Some, None, IfOk, IfSome, IsTrue, option_map, string_bytes};
+ghost use Rattle.command_line.specs.Watching.{watch_of};
 ghost use Rattle.quaestor_prog.specs.ListPlaces.{AreUnused, AreUnusedIn, watched_of};
-ghost use Rattle.quaestor_prog.specs.Places.{watch_of};
 
-use crate::places::{Places, Watching};
-use crate::words::is_text;
+use crate::places::Places;
 use client_session::{LastReplies, LinkAnswer, ListLink, SessionRefusal};
+use command_line::{Data, Watching};
+use kept_desk::NoKeeper;
 use q_outside::{Failed, Faults, Limits, ListDoors, Sink, Source};
 use quaestor_serve::NoMonitor;
 use std::alloc::{AllocError, Global};
@@ -41,6 +42,13 @@ fn kept_text(alloc: Global, text: Option<&str>) -> Result<Option<String>, AllocE
         Some(text) => Ok(Some(String::from_str(alloc, text)?)),
         None => Ok(None),
     }
+}
+
+/// Whether the address is this one.
+fn is_address(kept: &String, address: &str) -> bool
+    ensures { IsTrue result ↔ (string_bytes kept.now ≡ address.now) }
+{
+    kept.as_str() == address
 }
 
 /// Places that have one address, give its doors and its link once, and otherwise fail. They show all that
@@ -112,6 +120,8 @@ where
 
     type Monitor = NoMonitor;
 
+    type Keeper = NoKeeper;
+
     ghost at = { λ p. record { faults = p.faults; kept = p.kept; link = p.link } };
 
     ghost gives = { λ p address limits watching doors q. (string_bytes p.address ≡ address) × (p.left ≡ Some doors) × (q.limits ≡ Some limits) × (option_map watched_of q.watched ≡ Some watching) × (q.address ≡ p.address) };
@@ -126,7 +136,7 @@ where
         limits: Limits,
         watching: Watching<'_>,
     ) -> Result<ListDoors<S, K, L>, Failed> {
-        if !is_text(&self.address, address) {
+        if !is_address(&self.address, address) {
             self.faults.rise();
             return Err(Failed);
         }
@@ -155,8 +165,17 @@ where
         NoMonitor
     }
 
+    /// They have no files.
+    fn keeper(&mut self, store: Option<Data<'_>>, _longest: u64) -> Result<NoKeeper, Failed> {
+        if store.is_some() {
+            self.faults.rise();
+            return Err(Failed);
+        }
+        Ok(NoKeeper)
+    }
+
     fn reach(&mut self, address: &str) -> Result<ListLink, Failed> {
-        if !is_text(&self.address, address) {
+        if !is_address(&self.address, address) {
             self.faults.rise();
             return Err(Failed);
         }

@@ -1,23 +1,15 @@
 //! Places, where connections are listened for, and which clients reach.
 //!
 //! They have a count of faults that never falls, and fail only where it rose.
-ghost use Rattle.std.specs.Prelude.{◌≡◌, ℕ, List, Some, IfOk};
+ghost use Rattle.std.specs.Prelude.{◌≡◌, true, is_some, ℕ, List, Some, IfOk};
 ghost use Rattle.q_outside.specs.declared.limits.Limits.{Limits as LimitsOf};
-ghost use Rattle.quaestor_prog.specs.Places.{AreNew, HasGiven, IsUnasked, PlacesView, WatchAsk, watch_of};
+ghost use Rattle.command_line.specs.Watching.{WatchAsk, watch_of};
+ghost use Rattle.quaestor_prog.specs.Places.{AreNew, HasGiven, IsUnasked, PlacesView};
 
 use client_session::{Link, SessionRefusal};
+use command_line::{Data, Watching};
+use kept_desk::Keeper;
 use q_outside::{Doors, Failed, Limits};
-
-/// Who watches a server.
-#[derive(Clone, Copy, Debug, PartialEq, Eq)]
-pub struct Watching<'a> {
-    /// The address at which its figures are asked for.
-    pub metrics: Option<&'a str>,
-    /// The file that gets a line for each request; `-` is standard error.
-    pub log: Option<&'a str>,
-    /// Whether these lines are JSON.
-    pub json: bool,
-}
 
 /// Where connections are listened for, and servers are reached, by address.
 pub trait Places {
@@ -27,6 +19,8 @@ pub trait Places {
     type Link: Link;
     /// What hears how the server goes, for who watches it.
     type Monitor: quaestor_serve::Monitor + Clone + Send + Drop + 'static;
+    /// Who keeps the commits of a store in a file.
+    type Keeper: Keeper + Drop;
 
     /// What contracts see of the places: the number of their faults, and the doors and the link last
     /// handed back.
@@ -61,6 +55,13 @@ pub trait Places {
 
     /// What hears how the server of the doors goes that they gave last.
     fn monitor(&self) -> Self::Monitor;
+
+    /// Opens or makes the file of a store, where one is given; without it nothing is kept. Caches may keep
+    /// replies of the store for so many seconds. They fail where it is no store, or another program has it.
+    fn keeper(&mut self, store: Option<Data<'_>>, longest: u64) -> Result<Self::Keeper, Failed>
+        ensures keeps { IfOk result (λ k. Self.Keeper.may_fail k ≡ true → is_some store.entry ≡ true) }
+        ensures lasts { IfOk result (λ k. Self.Keeper.may_fail k ≡ true → Self.Keeper.longest k ≡ longest) }
+        ensures count { HasGiven (at self.old) (at self.new) result };
 
     /// Reaches the server at an address.
     fn reach(&mut self, address: &str) -> Result<Self::Link, Failed>

@@ -1,22 +1,24 @@
 //! The top call.
-ghost use Rattle.std.specs.Prelude.{◌≡◌, ◌⊎◌, ℕ, Option, None, IfOk, IfSome, IfNone, map, string_bytes};
+ghost use Rattle.std.specs.Prelude.{◌≡◌, ◌⊎◌, ℕ, true, false, is_some, Option, None, IfErr, IfOk, map, string_bytes};
+ghost use Rattle.std.specs.List.{enumerate_from};
+ghost use Rattle.command_line.specs.declared.command_name.Simulation.{Simulation as ASimulation};
 ghost use Rattle.hub_model.specs.Setting.{Setting};
+ghost use Rattle.kept_desk.specs.Filling.{Fills};
+ghost use Rattle.quaestor_prog.specs.declared.status.Status.TheVariants.{StoreFault, Memory as OutOfMemory};
 ghost use Rattle.q_outside.specs.Ends.{HasEnded, Ticks};
-ghost use Rattle.quaestor_prog.specs.Commands.{AskHelp};
-ghost use Rattle.quaestor_prog.specs.Help.{text_of_help};
+ghost use Rattle.command_line.specs.Commands.{AskHelp};
 ghost use Rattle.quaestor_prog.specs.Reading.{IsReading};
 ghost use Rattle.quaestor_prog.specs.Serving.{IsServing};
-ghost use Rattle.quaestor_prog.specs.Run.{AreTimed, GaveCrash, GaveWorld, HasCrash, HasWorld, IsHelped, IsRefused, IsRun, IsText, IsUnbegun, IsUsage};
-ghost use Rattle.quaestor_prog.specs.Words.{AreTaken, IsCrash, IsPipe, IsRead, IsReason, IsServe, IsWorld, ReadAsk, ServeAsk};
+ghost use Rattle.quaestor_prog.specs.Run.{AreTimed, GaveText, HasSimulated, HasWritten, IsHelped, IsRefused, IsRun, IsRunKept, IsRunOver, IsSimulationText, IsText, IsUnbegun, IsUsage};
+ghost use Rattle.command_line.specs.Words.{AreTaken, IsPipe, IsRead, IsServe, IsSimulation, ReadAsk, ServeAsk};
 
-use crate::help::HelpText;
 use crate::places::Places;
 use crate::reading::read_at;
-use crate::refusal::Refusal;
-use crate::serving::serve_at;
+use crate::serving::{guarded, longest_of, serve_at};
 use crate::status::Status;
-use crate::words::{CrashOptions, Invocation, WorldOptions, read_words};
+use command_line::{Invocation, PipeOptions, Simulation, SimulationOptions, read_words};
 use crash_core::crash_text;
+use kept_desk::{Keeper, KeptDesk, NoKeeper};
 use q_base::{Memory, Moment};
 use q_outside::{Clock, Failed, FixedClock, Sink, Source, give_all};
 use quaestor_server::{Config, Owned, Room, serve_connection};
@@ -32,11 +34,12 @@ const USAGE: &[u8] = b"usage: quaestor pipe, serve, read or world\n";
 
 /// Does all that the program does with these words, and returns its status.
 ///
-/// `pipe` serves the source and the sink as one connection over a store that begins empty, in the
-/// configuration that its options ask for. It asks the clock; with `--clock N` it does the same with
-/// a clock that stays at N seconds after 1970. `serve` serves the connections that come to an address,
-/// each in a thread of its own, over one store that begins empty; the sink gets a line before the first
-/// and one behind the last. `read` fetches a page and reads a key over a link to the server of an address,
+/// `pipe` serves the source and the sink as one connection over a store that begins empty, or with what a
+/// file keeps, in the configuration that its options ask for. It asks the clock; with `--clock N` it does the
+/// same with a clock that stays at N seconds after 1970. `serve` serves the connections of an address,
+/// each in a thread of its own, over one store that begins empty, or with what a file keeps; the sink gets
+/// a line before the first and one behind the last. With a file no reply is given before all commits that it
+/// shows are kept. `read` fetches a page and reads a key over a link to the server of an address,
 /// and writes the answer; where there is none, the places hear why. `world` runs the steps that a seed gives
 /// over a server, two caches and three clients in memory, and writes what they read. `crash` runs those that
 /// it gives over a store on a disk in memory that crashes, and writes what each opening finds. `--help` and
@@ -53,13 +56,17 @@ pub fn run<S: Source, K: Sink, C, P: Places, R>(
 where
     C: Clock + Clone + Send + Drop + 'static,
     R: Threads + Wait + rt::Clock + Copy + Send + 'static,
-    ensures pipe { (g : Setting) (at : Option ℕ) → IsPipe (map string_bytes words.now) g at
+    ensures pipe { (g : Setting) (at : Option ℕ) → IsPipe (map string_bytes words.now) g at → g.keeps ≡ false
         → IsRun g (record { source = S.at source.old; sink = K.at sink.old })
         (record { source = S.at source.new; sink = K.at sink.new }) (K.ended sink.new)
         (AreTimed C.tick clock.old clock.new at) result
         × (places.new ≡ places.old) }
+    ensures pipe_kept { (g : Setting) (at : Option ℕ) → IsPipe (map string_bytes words.now) g at → g.keeps ≡ true
+        → IsRunOver P.Keeper.kept P.Keeper.moment g (record { source = S.at source.old; sink = K.at sink.old })
+        (record { source = S.at source.new; sink = K.at sink.new }) (K.ended sink.new)
+        (AreTimed C.tick clock.old clock.new at) result }
     ensures serve { (ask : ServeAsk) → IsServe (map string_bytes words.now) ask
-        → IsServing P.Doors.From.at P.Doors.To.at P.Doors.To.ended C.tick (C.is_clone clock.old) P.Doors.at P.at P.gives P.tells ask
+        → IsServing P.Doors.From.at P.Doors.To.at P.Doors.To.ended C.tick (C.is_clone clock.old) P.Doors.at P.at P.gives P.tells P.Keeper.may_fail P.Keeper.kept P.Keeper.moment ask
         (record { source = S.at source.old; sink = K.at sink.old })
         (record { source = S.at source.new; sink = K.at sink.new }) (K.ended sink.new)
         clock.old clock.new places.old places.new result }
@@ -68,13 +75,8 @@ where
         (record { source = S.at source.old; sink = K.at sink.old })
         (record { source = S.at source.new; sink = K.at sink.new }) (K.ended sink.new)
         clock.old clock.new places.old places.new result }
-    ensures world { (seed steps : ℕ) → IsWorld (map string_bytes words.now) seed steps
-        → HasWorld seed steps (record { source = S.at source.old; sink = K.at sink.old })
-        (record { source = S.at source.new; sink = K.at sink.new }) (K.ended sink.new)
-        (AreTimed C.tick clock.old clock.new None) result
-        × (places.new ≡ places.old) }
-    ensures crash { (seed steps : ℕ) → IsCrash (map string_bytes words.now) seed steps
-        → HasCrash seed steps (record { source = S.at source.old; sink = K.at sink.old })
+    ensures simulation { (which : ASimulation) (seed steps : ℕ) → IsSimulation (map string_bytes words.now) which seed steps
+        → HasSimulated which seed steps (record { source = S.at source.old; sink = K.at sink.old })
         (record { source = S.at source.new; sink = K.at sink.new }) (K.ended sink.new)
         (AreTimed C.tick clock.old clock.new None) result
         × (places.new ≡ places.old) }
@@ -96,72 +98,92 @@ where
         × (places.new ≡ places.old) }
 {
     match read_words(alloc, words) {
-        Ok(Invocation::Pipe(options)) => pipe_at(
-            alloc,
-            options.config,
-            options.clock,
-            source,
-            sink,
-            clock,
-        ),
+        Ok(Invocation::Pipe(options)) => pipe_kept(alloc, options, source, sink, clock, places),
         Ok(Invocation::Serve(options)) => serve_at(rt, alloc, options, sink, &*clock, places),
         Ok(Invocation::Read(options)) => read_at(alloc, &options, sink, places),
-        Ok(Invocation::World(options)) => show_world(alloc, options, sink, &*places),
-        Ok(Invocation::Crash(options)) => show_crash(alloc, options, sink),
-        Ok(Invocation::Help(asked)) => show(asked, sink),
+        Ok(Invocation::Simulate(options)) => simulate(alloc, options, sink, &*places),
+        Ok(Invocation::Help(asked)) => give_text(sink, asked.text()),
         Ok(Invocation::Invalid(_)) => refuse(sink),
         Err(_) => Status::Memory,
     }
 }
 
-/// Why no command takes the words, for a message. None where one takes them.
-pub fn refusal_of<'a>(alloc: Global, words: &'a [String]) -> Result<Option<Refusal<'a>>, Memory>
-    ensures some { IfOk result (λ o. IfSome o (λ _. AreTaken (map string_bytes words.entry.now) → ⊥)) }
-    ensures none { IfOk result (λ o. IfNone o (AreTaken (map string_bytes words.entry.now))) }
-    ensures reason { IfOk result (λ o. IfSome o (IsReason (map string_bytes words.entry.now))) }
+/// Serves one connection over a store that a file keeps, where one is given.
+fn pipe_kept<S: Source, K: Sink, C: Clock, P: Places>(
+    alloc: Global,
+    options: PipeOptions<'_>,
+    source: &mut S,
+    sink: &mut K,
+    clock: &mut C,
+    places: &mut P,
+) -> Status
+    ensures run { is_some options.entry.store ≡ false → IsRun options.entry.config (record { source = S.at source.old; sink = K.at sink.old })
+        (record { source = S.at source.new; sink = K.at sink.new }) (K.ended sink.new)
+        (AreTimed C.tick clock.old clock.new options.entry.clock) result }
+    ensures places { is_some options.entry.store ≡ false → places.new ≡ places.old }
+    ensures kept { is_some options.entry.store ≡ true → IsRunOver P.Keeper.kept P.Keeper.moment options.entry.config (record { source = S.at source.old; sink = K.at sink.old })
+        (record { source = S.at source.new; sink = K.at sink.new }) (K.ended sink.new)
+        (AreTimed C.tick clock.old clock.new options.entry.clock) result }
 {
-    match read_words(alloc, words)? {
-        Invocation::Invalid(refusal) => Ok(Some(refusal)),
-        Invocation::Pipe(_) => Ok(None),
-        Invocation::Serve(_) => Ok(None),
-        Invocation::Read(_) => Ok(None),
-        Invocation::World(_) => Ok(None),
-        Invocation::Crash(_) => Ok(None),
-        Invocation::Help(_) => Ok(None),
+    let at = options.clock;
+    let store = options.store;
+    let config = options.config;
+    if store.is_none() {
+        return pipe_at(alloc, config, at, &mut NoKeeper, source, sink, clock);
+    }
+    match places.keeper(store, longest_of(&config)) {
+        Ok(mut keeper) => {
+            let config = guarded(config, store, &keeper);
+            pipe_at(alloc, config, at, &mut keeper, source, sink, clock)
+        }
+        Err(_) => {
+            sink.end();
+            Status::StoreFault
+        }
     }
 }
 
 /// Serves one connection by the given clock, or by one that stays at a moment.
-fn pipe_at<S: Source, K: Sink, C: Clock>(
+fn pipe_at<Q: Keeper, S: Source, K: Sink, C: Clock>(
     alloc: Global,
     config: Config,
     at: Option<u64>,
+    keeper: &mut Q,
     source: &mut S,
     sink: &mut K,
     clock: &mut C,
 ) -> Status
-    ensures { IsRun config (record { source = S.at source.old; sink = K.at sink.old })
+    requires { Q.may_fail keeper.old ≡ true → config.keeps ≡ true }
+    ensures run { Q.may_fail keeper.old ≡ false → IsRun config (record { source = S.at source.old; sink = K.at sink.old })
+        (record { source = S.at source.new; sink = K.at sink.new }) (K.ended sink.new)
+        (AreTimed C.tick clock.old clock.new at) result }
+    ensures kept { IsRunKept (Q.kept keeper.old) config (record { source = S.at source.old; sink = K.at sink.old })
         (record { source = S.at source.new; sink = K.at sink.new }) (K.ended sink.new)
         (AreTimed C.tick clock.old clock.new at) result }
 {
     match at {
         Some(at) => {
             let mut fixed = FixedClock { at: Moment::of(at) };
-            pipe(alloc, config, source, sink, &mut fixed)
+            pipe(alloc, config, keeper, source, sink, &mut fixed)
         }
-        None => pipe(alloc, config, source, sink, clock),
+        None => pipe(alloc, config, keeper, source, sink, clock),
     }
 }
 
-/// Serves one connection over a store that begins empty, and ends the sink.
-fn pipe<S: Source, K: Sink, C: Clock>(
+/// Serves one connection over a store that begins with what is kept, and ends the sink.
+fn pipe<Q: Keeper, S: Source, K: Sink, C: Clock>(
     alloc: Global,
     config: Config,
+    keeper: &mut Q,
     source: &mut S,
     sink: &mut K,
     clock: &mut C,
 ) -> Status
-    ensures { IsRun config (record { source = S.at source.old; sink = K.at sink.old })
+    requires { Q.may_fail keeper.old ≡ true → config.keeps ≡ true }
+    ensures run { Q.may_fail keeper.old ≡ false → IsRun config (record { source = S.at source.old; sink = K.at sink.old })
+        (record { source = S.at source.new; sink = K.at sink.new }) (K.ended sink.new)
+        (λ ms. Ticks C.tick clock.old ms clock.new) result }
+    ensures kept { IsRunKept (Q.kept keeper.old) config (record { source = S.at source.old; sink = K.at sink.old })
         (record { source = S.at source.new; sink = K.at sink.new }) (K.ended sink.new)
         (λ ms. Ticks C.tick clock.old ms clock.new) result }
 {
@@ -173,11 +195,40 @@ fn pipe<S: Source, K: Sink, C: Clock>(
         Ok(desk) => desk,
         Err(_) => return Status::Memory,
     };
-    let served = serve_connection(alloc, &mut desk, source, sink, clock, &mut room);
-    sink.end();
-    // The process ends next, which returns the store's memory at once.
-    let _left = ManuallyDrop::new(desk);
-    Status::of(served.why)
+    match begin(&mut desk, keeper) {
+        Ok(hand) => {
+            let mut kept = KeptDesk::new(desk, hand);
+            let served = serve_connection(alloc, &mut kept, source, sink, clock, &mut room);
+            sink.end();
+            // The process ends next, which returns the store's memory at once.
+            let _left = ManuallyDrop::new(kept);
+            Status::of(served.why)
+        }
+        Err(status) => {
+            sink.end();
+            // So it does here.
+            let _left = ManuallyDrop::new(desk);
+            status
+        }
+    }
+}
+
+/// Fills a new store with what is kept, and gives a hand of who keeps it.
+fn begin<Q: Keeper>(desk: &mut Owned, keeper: &mut Q) -> Result<Q::Hand, Status>
+    ensures setting { desk.new.setting ≡ desk.old.setting }
+    ensures fills { Fills desk.old.setting desk.old.entries desk.new.entries (enumerate_from 0 desk.old.entries) (enumerate_from 0 desk.new.entries) }
+    ensures written { IfOk result (λ _. HasWritten (Q.kept keeper.old) (enumerate_from 0 desk.old.entries) (enumerate_from 0 desk.new.entries)) }
+    ensures none { Q.may_fail keeper.old ≡ false → desk.new.entries ≡ desk.old.entries }
+    ensures hand { IfOk result (λ hand. Q.Hand.may_fail hand ≡ Q.may_fail keeper.old) }
+    ensures unfilled { IfErr result (λ status. ((status ≡ StoreFault) × (Q.may_fail keeper.old ≡ true)) ⊎ (status ≡ OutOfMemory)) }
+{
+    match keeper.fill(desk, Moment::of(0)) {
+        Ok(()) => match keeper.hand() {
+            Ok(hand) => Ok(hand),
+            Err(_) => Err(Status::Memory),
+        },
+        Err(_) => Err(Status::StoreFault),
+    }
 }
 
 /// Lets places hear how far a world has come.
@@ -193,42 +244,39 @@ impl<P: Places> Watch for Listener<'_, P> {
     }
 }
 
-/// Runs a world, writes what its clients read, and ends the sink.
-fn show_world<K: Sink, P: Places>(
+/// Runs a simulation, writes its text, and ends the sink.
+fn simulate<K: Sink, P: Places>(
     alloc: Global,
-    options: WorldOptions,
+    options: SimulationOptions,
     sink: &mut K,
     places: &P,
 ) -> Status
-    ensures { GaveWorld options.seed options.steps (K.at sink.old) (K.at sink.new) (K.ended sink.new) result }
+    ensures { GaveText (IsSimulationText options.which options.seed options.steps) (K.at sink.old) (K.at sink.new) (K.ended sink.new) result }
 {
-    let mut listener = Listener {
-        places,
-        count: options.steps,
-    };
-    let Ok(text) = world_text(alloc, options.seed, options.steps, &mut listener) else {
-        return Status::Memory;
-    };
-    let given = give_all(sink, text.as_slice());
-    sink.end();
-    match given {
-        Ok(()) => Status::Done,
-        Err(Failed) => Status::WriteFault,
+    match simulation_text(alloc, options, places) {
+        Ok(text) => give_text(sink, text.as_slice()),
+        Err(_) => Status::Memory,
     }
 }
 
-/// Runs a store on a disk that crashes, writes what its openings found, and ends the sink.
-fn show_crash<K: Sink>(alloc: Global, options: CrashOptions, sink: &mut K) -> Status
-    ensures { GaveCrash options.seed options.steps (K.at sink.old) (K.at sink.new) (K.ended sink.new) result }
+/// The text of a simulation: what the clients of a world read, or what the openings of a store on a disk that
+/// crashes found.
+fn simulation_text<P: Places>(
+    alloc: Global,
+    options: SimulationOptions,
+    places: &P,
+) -> Result<Vec<u8>, Memory>
+    ensures { IfOk result (λ text. IsSimulationText options.which options.seed options.steps text.items) }
 {
-    let Ok(text) = crash_text(alloc, options.seed, options.steps) else {
-        return Status::Memory;
-    };
-    let given = give_all(sink, text.as_slice());
-    sink.end();
-    match given {
-        Ok(()) => Status::Done,
-        Err(Failed) => Status::WriteFault,
+    match options.which {
+        Simulation::World => {
+            let mut listener = Listener {
+                places,
+                count: options.steps,
+            };
+            world_text(alloc, options.seed, options.steps, &mut listener)
+        }
+        Simulation::Crash => crash_text(alloc, options.seed, options.steps),
     }
 }
 
@@ -245,11 +293,11 @@ fn refuse<K: Sink>(sink: &mut K) -> Status
     }
 }
 
-/// Writes the text of a help or of the version, and ends the sink.
-fn show<K: Sink>(asked: HelpText, sink: &mut K) -> Status
-    ensures { IsText (text_of_help asked) (K.at sink.old) (K.at sink.new) (K.ended sink.new) result }
+/// Writes a text, and ends the sink.
+fn give_text<K: Sink>(sink: &mut K, text: &[u8]) -> Status
+    ensures { IsText text.now (K.at sink.old) (K.at sink.new) (K.ended sink.new) result }
 {
-    let given = give_all(sink, asked.text());
+    let given = give_all(sink, text);
     sink.end();
     match given {
         Ok(()) => Status::Done,

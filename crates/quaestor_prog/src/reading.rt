@@ -2,14 +2,14 @@
 ghost use Rattle.std.specs.Prelude.{◌≡◌, ◌++◌, codes};
 ghost use Rattle.q_outside.specs.Ends.{Gave};
 ghost use Rattle.quaestor_prog.specs.Reading.{EndsRead, HasAnswered, HasRead, IsReadOnce, line_of_read, shown_body, text_of_read, way_word};
-ghost use Rattle.quaestor_prog.specs.Words.{read_ask_of};
+ghost use Rattle.command_line.specs.Words.{read_ask_of};
 
 use crate::places::Places;
 use crate::serving::give_line;
 use crate::status::Status;
-use crate::words::ReadOptions;
 use client_core::{Level, Why};
 use client_session::{Body, Link, ReadOut, Session, SessionRefusal, Way};
+use command_line::ReadOptions;
 use itoa::Buffer;
 use q_outside::{Failed, Sink, give_all, give_both};
 use query_normal::Key;

@@ -34,6 +34,8 @@ pub enum Status {
     /// What the server answered to a read was refused: its bytes are not of the format, its status is not
     /// that of a read, or its commit is below the page's.
     Refused,
+    /// The file of a store cannot be opened, or is no store, or its store does not fit.
+    StoreFault,
 }
 
 impl Status {
@@ -52,6 +54,7 @@ impl Status {
             Status::PlaceFault => 8,
             Status::LinkFault => 9,
             Status::Refused => 10,
+            Status::StoreFault => 11,
         }
     }
 
@@ -76,6 +79,7 @@ impl Status {
             ServeWhy::Limit | ServeWhy::Closed => Status::Done,
             ServeWhy::DoorFault => Status::PlaceFault,
             ServeWhy::Memory => Status::Memory,
+            ServeWhy::Unfilled => Status::StoreFault,
         }
     }
 

@@ -10,11 +10,13 @@ use denote.Param.SendFields.{as_row_send, declared_send, declared_sync}
 use denote.Struct.Field.{row_field}
 use denote.Struct.Tuple.{TupleAt}
 use Rattle.std.proofs.Crossing.{crosses}
+use Rattle.std.proofs.MapsCrossing as maps
 use Rattle.std.specs.contracts.alloc.Global as Global
 use Rattle.std.specs.contracts.impls.GlobalAllocator.TheImpl as TheGlobal
 use Rattle.std.specs.contracts.option.Option as Option
 use Rattle.std.specs.contracts.sync.Arc as Arc
 use Rattle.indexmap.proofs.map.IndexMap.TheSendSync as TheMap
+use Rattle.indexmap.proofs.set.IndexSet.TheSendSync as TheSet
 use Rattle.slab.proofs.Slab.TheSendSync as TheSlab
 use Rattle.matchit.proofs.route.Route.TheSendSync as TheRoute
 use Rattle.matchit.proofs.tree.Node.TheLaws.TheKnot as TheTree
@@ -70,9 +72,15 @@ use Rattle.commit_book.specs.contracts.row.Reserved as Reserved
 use Rattle.commit_book.specs.contracts.row.Row as Row
 use Rattle.match_sets.specs.contracts.set.MatchSet as MatchSet
 use Rattle.match_sets.specs.contracts.set.MatchSet.TheInside as SetInside
+use Rattle.match_index.specs.contracts.index.Index as Index
+use Rattle.match_index.specs.contracts.index.Index.TheInside as IndexInside
+use Rattle.match_index.specs.contracts.places.Places as Places
+use Rattle.active_queries.specs.contracts.followers.Followers as Followers
+use Rattle.active_queries.specs.contracts.followers.Followers.TheInside as FollowersInside
 use Rattle.active_queries.specs.contracts.query.ActiveQuery as ActiveQuery
 use Rattle.active_queries.specs.contracts.query.ActiveQuery.TheInside as FollowedInside
 use Rattle.active_queries.specs.contracts.queries.ActiveQueries as ActiveQueries
+use Rattle.active_queries.specs.contracts.queries.ActiveQueries.TheInside as QueriesInside
 use Rattle.hub_core.proofs.page_room.PageRoom.TheSendSync as ThePages
 use Rattle.hub_core.specs.contracts.config.Config as Config
 use Rattle.hub_core.specs.contracts.copies.Copies as Copies
@@ -199,8 +207,30 @@ followed_inside_send = declared_send FollowedInside.the_type (search (crosses, s
 pub followed_send : IsSend ActiveQuery.the_row
 followed_send = search (followed_inside_send, crosses, sendable) depth 60 fits 20000
 
+pub followers_inside_send : IsSend FollowersInside.the_row
+followers_inside_send = search (key_send, followed_send, TheMap.the_send, TheSet.the_send, crosses, sendable) depth 60 fits 20000
+
+pub followers_send : IsSend Followers.the_row
+followers_send = search (followers_inside_send, crosses, sendable) depth 60 fits 20000
+
+-- their keys by what a commit changes: in each collection by a path and a value there
+pub node_send : IsSend Node.the_row
+node_send = search (TheDocument.crosses, crosses, sendable) depth 60 fits 20000
+
+pub places_send : IsSend Places.the_row
+places_send = search (key_send, node_send, ThePath.the_send, TheSet.the_send, maps.crosses, crosses, sendable) depth 60 fits 20000
+
+pub index_inside_send : IsSend IndexInside.the_row
+index_inside_send = search (key_send, places_send, TheName.the_send, TheSet.the_send, maps.crosses, crosses, sendable) depth 60 fits 20000
+
+pub index_send : IsSend Index.the_row
+index_send = search (index_inside_send, crosses, sendable) depth 60 fits 20000
+
+pub queries_inside_send : IsSend QueriesInside.the_row
+queries_inside_send = search (followers_send, index_send, key_send, crosses, sendable) depth 60 fits 20000
+
 pub queries_send : IsSend ActiveQueries.the_row
-queries_send = search (key_send, followed_send, TheMap.the_send, crosses, sendable) depth 60 fits 20000
+queries_send = search (queries_inside_send, crosses, sendable) depth 60 fits 20000
 
 -- what it keeps for the lifetimes of replies and for purges
 pub estimates_send : IsSend Estimates.the_row
@@ -286,8 +316,8 @@ done_send S K source sink = declared_send (Done.the_type S K) (seat_send, (as_ro
 pub matcher_send : (name : Sym) (R C M : RattleType) → IsSend R → IsSend C → IsSend M → IsSend (TupleAt name (R ∷ SharedRow TurnstileRow ∷ SeatRow ∷ C ∷ Trim.the_row ∷ SharedRow Stop.the_row ∷ M ∷ []))
 matcher_send name R C M handle clock monitor = search (shared_turnstile_send, seat_send, TheTrim.the_send, shared_stop_send, crosses, sendable) depth 60 fits 20000
 
-pub connection_send : (name : Sym) (R G S K C : RattleType) → IsSend R → IsSend G → IsSend S → IsSend K → IsSend C → IsSend (TupleAt name (R ∷ Global.the_row ∷ SharedRow TurnstileRow ∷ SharedRow Endings.the_row ∷ G ∷ UInt w32 ∷ SeatRow ∷ S ∷ K ∷ C ∷ SharedRow Pool.the_row ∷ []))
-connection_send name R G S K C handle gate source sink clock = search (shared_turnstile_send, shared_endings_send, shared_pool_send, seat_send, crosses, sendable) depth 60 fits 20000
+pub connection_send : (name : Sym) (R G H S K C : RattleType) → IsSend R → IsSend G → IsSend H → IsSend S → IsSend K → IsSend C → IsSend (TupleAt name (R ∷ Global.the_row ∷ SharedRow TurnstileRow ∷ SharedRow Endings.the_row ∷ G ∷ UInt w32 ∷ SeatRow ∷ H ∷ S ∷ K ∷ C ∷ SharedRow Pool.the_row ∷ []))
+connection_send name R G H S K C handle gate hand source sink clock = search (shared_turnstile_send, shared_endings_send, shared_pool_send, seat_send, crosses, sendable) depth 60 fits 20000
 
 -- what is let go of as a parameter, of a type that may cross threads, leaves nothing that may not
 pub leaves : (i : ℕ) (R : RattleType) → IsSend R → (k : Kept) → Quiet (if_kept (k (of_param i)) (R.exit no) unseen)

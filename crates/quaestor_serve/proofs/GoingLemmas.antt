@@ -1,5 +1,5 @@
 -- What a server has done after one step more.
-use Rattle.std.proofs.Common.{◌≡◌, ℕ, ◌+◌, ◌<◌, ◌≤◌, List, [], ◌∷◌, ◌++◌, map, length, Option, Some, None, IfSome, refl, sym, ap, ◌∙◌, subst, arith, append-nil, length-append}
+use Rattle.std.proofs.Common.{◌≡◌, ℕ, ◌+◌, ◌<◌, ◌≤◌, List, [], ◌∷◌, ◌++◌, map, length, Option, Some, None, IfSome, refl, sym, ap, ◌∙◌, subst, arith, append-nil, append_assoc, length-append}
 use Rattle.std.specs.Arc.{arc_value}
 use Rattle.std.specs.List.{enumerate_from, flat_map}
 use Rattle.std.specs.List.Sorted.{IsPermutation}
@@ -59,9 +59,9 @@ module _ {S K C : Type 0} where
       let longer : length new ≡ length old + 1 = ap length more ∙ length-append old (r ∷ []) in
       some_least away (length old + 1) (length new + 0) (omega (arith, longer)) room
 
-module _ {S K C : Type 0} (source_at : S → End) (sink_at : K → End) (ended_at : K → LastEnd) (tick : C → ℕ → C → Type 0) (may : C → Type 0) where
+module _ {S K C : Type 0} (source_at : S → End) (sink_at : K → End) (ended_at : K → LastEnd) (tick : C → ℕ → C → Type 0) (may : C → Type 0) (base : List (ℕ × Entry)) where
   -- a connection was handed back
-  pub goes_back : (first old new : DoorsView S K) (h l : Hall S K C) (waiting : List (Begun S K C)) (count closed : ℕ) (source : S) (sink : K) (served : Served) → Stays h l → Releases source_at sink_at ended_at tick h l source sink served → TookBack old new source sink (Some served) → Going source_at sink_at ended_at tick may first old h waiting count closed → Going source_at sink_at ended_at tick may first new l waiting count closed
+  pub goes_back : (first old new : DoorsView S K) (h l : Hall S K C) (waiting : List (Begun S K C)) (count closed : ℕ) (source : S) (sink : K) (served : Served) → Stays h l → Releases source_at sink_at ended_at tick h l source sink served → TookBack old new source sink (Some served) → Going source_at sink_at ended_at tick may base first old h waiting count closed → Going source_at sink_at ended_at tick may base first new l waiting count closed
   goes_back first old new h l waiting count closed source sink served same r took going =
       let start = given_at first in
       let visit : Visit S K = record { number = r.begun.number.value; source = r.begun.source.value; sink = r.begun.sink.value; source_left = source; sink_left = sink; served = served; own = r.own; after = start + count; began = seen r.begun.seat.value; ended = r.ended } in
@@ -98,14 +98,15 @@ module _ {S K C : Type 0} (source_at : S → End) (sink_at : K → End) (ended_a
         met =
             let all : flat_map own_of (going.visits ++ visit ∷ []) ≡ flat_map own_of going.visits ++ (r.own ++ []) = flat_map-append own_of going.visits (visit ∷ []) in
             let own : r.own ++ [] ≡ r.own = append-nil r.own in
-            r.met ∙ ap (λ (xs : List (ℕ × Entry)). xs ++ r.own) going.met ∙ ap (λ (xs : List (ℕ × Entry)). flat_map own_of going.visits ++ xs) (sym own) ∙ sym all;
+            r.met ∙ ap (λ (xs : List (ℕ × Entry)). xs ++ r.own) going.met ∙ append_assoc base (flat_map own_of going.visits) r.own
+            ∙ ap (λ (xs : List (ℕ × Entry)). base ++ xs) (ap (λ (xs : List (ℕ × Entry)). flat_map own_of going.visits ++ xs) (sym own) ∙ sym all);
         once = r.once;
         count_is = going.count_is;
         clocks = allowed.1;
       }
 
   -- the doors gave no connection
-  pub goes_on : (first old new : DoorsView S K) (h : Hall S K C) (waiting : List (Begun S K C)) (count closed more : ℕ) → Passes old new [] [] more → Going source_at sink_at ended_at tick may first old h waiting count closed → Going source_at sink_at ended_at tick may first new h waiting count (closed + more)
+  pub goes_on : (first old new : DoorsView S K) (h : Hall S K C) (waiting : List (Begun S K C)) (count closed more : ℕ) → Passes old new [] [] more → Going source_at sink_at ended_at tick may base first old h waiting count closed → Going source_at sink_at ended_at tick may base first new h waiting count (closed + more)
   goes_on first old new h waiting count closed more passed going =
       let handed = map back_of going.visits in
       let both : Passes first new (going.came ++ []) (handed ++ []) (closed + more) = passed_both first old new going.came [] handed [] closed more going.passed passed in
@@ -124,7 +125,7 @@ module _ {S K C : Type 0} (source_at : S → End) (sink_at : K → End) (ended_a
       }
 
   -- a connection came, with a seat that was split off the main one since, and waits for a thread
-  pub comes : (first old new : DoorsView S K) (h : Hall S K C) (count : ℕ) (b : Begun S K C) (source : S) (sink : K) → Passes old new ((source, sink) ∷ []) [] 0 → b.number.value ≡ count → b.source.value ≡ source → b.sink.value ≡ sink → seen b.seat.value ≡ seen_in h → may b.clock.value → Going source_at sink_at ended_at tick may first old h [] count 0 → Going source_at sink_at ended_at tick may first new h (b ∷ []) (count + 1) 0
+  pub comes : (first old new : DoorsView S K) (h : Hall S K C) (count : ℕ) (b : Begun S K C) (source : S) (sink : K) → Passes old new ((source, sink) ∷ []) [] 0 → b.number.value ≡ count → b.source.value ≡ source → b.sink.value ≡ sink → seen b.seat.value ≡ seen_in h → may b.clock.value → Going source_at sink_at ended_at tick may base first old h [] count 0 → Going source_at sink_at ended_at tick may base first new h (b ∷ []) (count + 1) 0
   comes first old new h count b source sink passed number_is source_is sink_is seen_is allowed going =
       let handed = map back_of going.visits in
       let both : Passes first new (going.came ++ (source, sink) ∷ []) (handed ++ []) (0 + 0) = passed_both first old new going.came ((source, sink) ∷ []) handed [] 0 0 going.passed passed in
@@ -150,7 +151,7 @@ module _ {S K C : Type 0} (source_at : S → End) (sink_at : K → End) (ended_a
       }
 
   -- it has a thread
-  pub goes_in : (first now : DoorsView S K) (h l : Hall S K C) (r : Running S K C) (count : ℕ) → arc_value l.turnstile ≡ arc_value h.turnstile → l.running.items ≡ h.running.items ++ r ∷ [] → seen_in l ≡ seen_in h → met_in l ≡ met_in h → Going source_at sink_at ended_at tick may first now h (begun_of r ∷ []) count 0 → Going source_at sink_at ended_at tick may first now l [] count 0
+  pub goes_in : (first now : DoorsView S K) (h l : Hall S K C) (r : Running S K C) (count : ℕ) → arc_value l.turnstile ≡ arc_value h.turnstile → l.running.items ≡ h.running.items ++ r ∷ [] → seen_in l ≡ seen_in h → met_in l ≡ met_in h → Going source_at sink_at ended_at tick may base first now h (begun_of r ∷ []) count 0 → Going source_at sink_at ended_at tick may base first now l [] count 0
   goes_in first now h l r count same more seen_same met_same going =
       let setting : setting_in l ≡ setting_in h = ap setting_at same in
       let given = map given_of going.visits in
@@ -172,12 +173,12 @@ module _ {S K C : Type 0} (source_at : S → End) (sink_at : K → End) (ended_a
       }
 
   -- the doors failed
-  pub fails : (first old new : DoorsView S K) (h : Hall S K C) (count : ℕ) → Passes old new [] [] 0 → old.faults < new.faults → Going source_at sink_at ended_at tick may first old h [] count 0 → Going source_at sink_at ended_at tick may first new h [] count 0 × (first.faults < new.faults)
+  pub fails : (first old new : DoorsView S K) (h : Hall S K C) (count : ℕ) → Passes old new [] [] 0 → old.faults < new.faults → Going source_at sink_at ended_at tick may base first old h [] count 0 → Going source_at sink_at ended_at tick may base first new h [] count 0 × (first.faults < new.faults)
   fails first old new h count passed rose going = (goes_on first old new h [] count 0 0 passed going, (let before = going.passed.count in omega (arith, before, rose)))
 
-  -- nothing was done yet
-  pub going_begins : (first : DoorsView S K) (h : Hall S K C) → h.running.items ≡ [] → met_in h ≡ [] → Going source_at sink_at ended_at tick may first first h [] 0 0
-  going_begins first h none met_none =
+  -- no connection came yet
+  pub going_begins : (first : DoorsView S K) (h : Hall S K C) → h.running.items ≡ [] → met_in h ≡ base → Distinct base → Going source_at sink_at ended_at tick may base first first h [] 0 0
+  going_begins first h none met_is once =
       let nobody : begun_in h ≡ [] = ap (λ (rs : List (Running S K C)). map begun_of rs) none in
       record {
         came = [];
@@ -187,14 +188,14 @@ module _ {S K C : Type 0} (source_at : S → End) (sink_at : K → End) (ended_a
         each = tt;
         ordered = tt;
         later = tt;
-        met = met_none;
-        once = subst (λ (ps : List (ℕ × Entry)). Distinct ps) (sym met_none) tt;
+        met = met_is ∙ sym (append-nil base);
+        once = subst (λ (ps : List (ℕ × Entry)). Distinct ps) (sym met_is) once;
         count_is = refl;
         clocks = subst (λ (bs : List (Begun S K C)). AllOf (λ b. may b.clock.value) bs) (sym nobody) tt;
       }
 
   -- the hall is the same to connections
-  pub going_same : (first now : DoorsView S K) (h l : Hall S K C) (waiting : List (Begun S K C)) (count closed : ℕ) → IsAsBefore h l → Going source_at sink_at ended_at tick may first now h waiting count closed → Going source_at sink_at ended_at tick may first now l waiting count closed
+  pub going_same : (first now : DoorsView S K) (h l : Hall S K C) (waiting : List (Begun S K C)) (count closed : ℕ) → IsAsBefore h l → Going source_at sink_at ended_at tick may base first now h waiting count closed → Going source_at sink_at ended_at tick may base first now l waiting count closed
   going_same first now h l waiting count closed same going =
       let begun : begun_in l ≡ begun_in h = ap (λ (rs : List (Running S K C)). map begun_of rs) same.2 in
       let setting : setting_in l ≡ setting_in h = ap setting_at same.0 in
@@ -222,7 +223,7 @@ module _ {S K C : Type 0} (source_at : S → End) (sink_at : K → End) (ended_a
     fewer = omega arith;
     room = λ more room. room;
     faults = omega arith;
-    going = λ clock first waiting count closed going. going;
+    going = λ clock base first waiting count closed going. going;
   }
 
   -- some were, and then others
@@ -234,7 +235,7 @@ module _ {S K C : Type 0} (source_at : S → End) (sink_at : K → End) (ended_a
     fewer = (let p_fewer = p.fewer in let q_fewer = q.fewer in omega (arith, p_fewer, q_fewer));
     room = λ more room. q.room more (p.room more room);
     faults = (let p_faults = p.faults in let q_faults = q.faults in omega (arith, p_faults, q_faults));
-    going = λ clock first waiting count closed going. q.going clock first waiting count closed (p.going clock first waiting count closed going);
+    going = λ clock base first waiting count closed going. q.going clock base first waiting count closed (p.going clock base first waiting count closed going);
   }
 
   -- one was
@@ -248,7 +249,7 @@ module _ {S K C : Type 0} (source_at : S → End) (sink_at : K → End) (ended_a
         fewer = omega (arith, less);
         room = λ more room. away_still old.away new.away 0 1 (length h.running.items + more) (length l.running.items + more) passed.away (omega (arith, less)) room;
         faults = passed.count;
-        going = λ clock first waiting count closed going. goes_back source_at sink_at ended_at tick (is_clone clock) first old new h l waiting count closed source sink served same r took going;
+        going = λ clock base first waiting count closed going. goes_back source_at sink_at ended_at tick (is_clone clock) base first old new h l waiting count closed source sink served same r took going;
       }
 
   -- memory for those that are served is kept where some were handed back

@@ -1,4 +1,5 @@
 mod CrossingLemmas
+mod FilledLemmas
 mod GoingLemmas
 mod HallLemmas
 mod KeptLemmas

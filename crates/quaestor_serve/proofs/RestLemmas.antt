@@ -3,8 +3,6 @@ use Rattle.std.proofs.Common.{◌≡◌, ℕ, List, [], ◌++◌, refl, sym, ap,
 use Rattle.hub_desk.specs.HubValue.{hub_setting}
 use Rattle.hub_desk.specs.declared.trim.Trim.{Trim}
 use Rattle.hub_model.specs.declared.entry.Entry.{Entry}
-use Rattle.hub_model.specs.Setting.{Setting}
-use Rattle.quaestor_serve.specs.declared.matcher.Matcher.{Matcher}
 use Rattle.quaestor_serve.specs.declared.matcher.Matcher.TheVariants.{Here}
 use Rattle.quaestor_serve.specs.declared.matcher.Rested.{Rested}
 use Rattle.quaestor_serve.specs.Kept.{HubTurnstile, HubSeat, IsFreshAt, setting_at}

@@ -1,11 +1,12 @@
 -- What a server has done when it ends.
-use Rattle.std.proofs.Common.{◌≡◌, ℕ, ◌<◌, ◌≤◌, List, [], ◌∷◌, ◌++◌, map, length, refl, sym, ap, ◌∙◌, subst, arith, append-nil, append_assoc}
+use Rattle.std.proofs.Common.{◌≡◌, ℕ, ◌<◌, ◌≤◌, Bool, true, List, [], ◌∷◌, ◌++◌, map, length, Some, slice_get, refl, sym, ap, ◌∙◌, subst, arith, append-nil, append_assoc}
 use Rattle.std.specs.Arc.{arc_value}
 use Rattle.std.specs.List.{enumerate_from, flat_map}
 use Rattle.std.specs.List.Sorted.{IsPermutation}
 use Rattle.std.proofs.lemmas.List.{length-map}
 use Rattle.std.proofs.lemmas.List.FromFn.{length-enumerate_from}
 use Rattle.std.proofs.lemmas.List.Sorted.{IsPermutation-refl, length_permutation}
+use Rattle.commit_book.specs.declared.change.Change.{Change}
 use Rattle.hub_desk.specs.declared.trim.Trim.{Trim}
 use Rattle.hub_model.specs.declared.entry.Entry.{Entry}
 use Rattle.hub_model.specs.Desk.{IsPrefix}
@@ -20,18 +21,20 @@ use Rattle.quaestor_serve.specs.declared.matcher.Matcher.{Matcher}
 use Rattle.quaestor_serve.specs.declared.running.Running.{Running}
 use Rattle.quaestor_serve.specs.declared.serve_end.ServeEnd.{ServeEnd}
 use Rattle.quaestor_serve.specs.declared.serve_end.ServeWhy.{ServeWhy}
-use Rattle.quaestor_serve.specs.declared.serve_end.ServeWhy.TheVariants.{Limit, Closed, DoorFault, Memory}
+use Rattle.quaestor_serve.specs.declared.serve_end.ServeWhy.TheVariants.{Limit, Closed, DoorFault, Memory, Unfilled}
+use Rattle.quaestor_serve.specs.Filled.{AreFilled}
 use Rattle.quaestor_serve.specs.Going.{Going, began_with, open_in}
+use Rattle.quaestor_serve.proofs.FilledLemmas.{at_prefix, never_fails}
 use Rattle.quaestor_serve.specs.Halls.{begun_in, setting_in, seen_in, met_in, IsWholeIn}
 use Rattle.quaestor_serve.specs.Kept.{HubTurnstile, setting_at}
 use Rattle.quaestor_serve.specs.declared.matcher.Matcher.TheVariants.{Thread, Here}
 use Rattle.quaestor_serve.specs.Matches.{IsMatched}
 use Rattle.quaestor_serve.specs.Matchers.{HasRested, WorksAt, WorkIn, Gathers}
 use Rattle.quaestor_serve.specs.Running.{begun_of}
-use Rattle.quaestor_serve.specs.Serves.{closings_by, Ends, EndsBy, IsUnbegun, Serves}
+use Rattle.quaestor_serve.specs.Serves.{closings_by, Ends, EndsBy, IsUnbegun, IsUnfilled, Serves}
 use Rattle.quaestor_serve.specs.Visits.{given_of, own_of, IsWell}
 use Rattle.turnstile.specs.Places.{AllOf, AreAt, Distinct}
-use Rattle.turnstile.proofs.PlaceLemmas.{all_append}
+use Rattle.turnstile.proofs.PlaceLemmas.{all_append, all_left}
 use Rattle.turnstile.proofs.Prefixes.{prefix_self, prefix_trans}
 use Rattle.quaestor_serve.proofs.MatchLemmas.{matched_longer}
 use Rattle.quaestor_serve.proofs.VisitLemmas.{all_stay}
@@ -43,12 +46,19 @@ module _ {S K : Type 0} where
   ends_later Closed first now later came most more ends = ends
   ends_later DoorFault first now later came most more ends = (ends.0, omega (arith, more, ends.1))
   ends_later Memory first now later came most more ends = ends
+  ends_later Unfilled first now later came most more ends = ends
 
   -- a server that did not begin ends out of memory
   pub ends_unbegun : (first : DoorsView S K) (most : ℕ) (end : ServeEnd) → 0 < most → IsUnbegun end → EndsBy end.why first first end.connections most
   ends_unbegun first most end some unbegun =
       let least : EndsBy Memory first first 0 most = some in
       subst (λ (n : ℕ). EndsBy end.why first first n most) (sym unbegun.0) (subst (λ (why : ServeWhy). EndsBy why first first 0 most) (sym unbegun.1) least)
+
+  -- so does one whose store could not be filled
+  pub ends_unfilled : (first : DoorsView S K) (most : ℕ) (end : ServeEnd) → 0 < most → IsUnfilled end → EndsBy end.why first first end.connections most
+  ends_unfilled first most end some unfilled =
+      let least : EndsBy Unfilled first first 0 most = some in
+      subst (λ (n : ℕ). EndsBy end.why first first n most) (sym unfilled.0) (subst (λ (why : ServeWhy). EndsBy why first first 0 most) (sym unfilled.1) least)
 
 -- and the doors were not closed
 pub none_closed : (end : ServeEnd) → IsUnbegun end → closings_by end.why ≡ 0
@@ -83,6 +93,10 @@ module _ {S K C : Type 0} (tick : C → ℕ → C → Type 0) (trim : Trim) (may
   work_rest h l old new first left same work =
       let all : AllOf (λ (m : Matcher C). WorksAt tick trim may (arc_value h.turnstile) m) (first ∷ new) = subst (λ (ms : List (Matcher C)). AllOf (λ (m : Matcher C). WorksAt tick trim may (arc_value h.turnstile) m) ms) left work in
       subst (λ (t : HubTurnstile). AllOf (λ (m : Matcher C). WorksAt tick trim may t m) new) (sym same) all.1
+
+  -- where there are none, all do
+  pub work_none : (h : Hall S K C) (matchers : List (Matcher C)) → matchers ≡ [] → WorkIn tick trim may h matchers
+  work_none h matchers none = subst (λ (ms : List (Matcher C)). AllOf (λ (m : Matcher C). WorksAt tick trim may (arc_value h.turnstile) m) ms) (sym none) tt
 
   -- so do all, where the turnstile is the same
   pub work_stays : (h l : Hall S K C) (matchers : List (Matcher C)) → arc_value l.turnstile ≡ arc_value h.turnstile → WorkIn tick trim may h matchers → WorkIn tick trim may l matchers
@@ -127,23 +141,31 @@ module _ {S K C : Type 0} (tick : C → ℕ → C → Type 0) (trim : Trim) (may
 
 module _ {S K C : Type 0} (source_at : S → End) (sink_at : K → End) (ended_at : K → LastEnd) (tick : C → ℕ → C → Type 0) (may : C → Type 0) where
   -- a cause that was found is the cause
-  pub ended_by : (first now : DoorsView S K) (h : Hall S K C) (count most : ℕ) (why found : ServeWhy) → why ≡ found → Going source_at sink_at ended_at tick may first now h [] count (closings_by found) → EndsBy found first now count most → Going source_at sink_at ended_at tick may first now h [] count (closings_by why) × EndsBy why first now count most
-  ended_by first now h count most why found is going ends = (
-    subst (λ (w : ServeWhy). Going source_at sink_at ended_at tick may first now h [] count (closings_by w)) (sym is) going,
+  pub ended_by : (base : List (ℕ × Entry)) (first now : DoorsView S K) (h : Hall S K C) (count most : ℕ) (why found : ServeWhy) → why ≡ found → Going source_at sink_at ended_at tick may base first now h [] count (closings_by found) → EndsBy found first now count most → Going source_at sink_at ended_at tick may base first now h [] count (closings_by why) × EndsBy why first now count most
+  ended_by base first now h count most why found is going ends = (
+    subst (λ (w : ServeWhy). Going source_at sink_at ended_at tick may base first now h [] count (closings_by w)) (sym is) going,
     subst (λ (w : ServeWhy). EndsBy w first now count most) (sym is) ends,
   )
 
-  -- a server that did not begin has ended
-  pub ends_none : (first : DoorsView S K) (h : Hall S K C) (most : ℕ) (end : ServeEnd) → 0 < most → IsUnbegun end → Going source_at sink_at ended_at tick may first first h [] 0 0 → Ends source_at sink_at ended_at tick may first first h most end
-  ends_none first h most end some unbegun going = (
-    subst (λ (n : ℕ). Going source_at sink_at ended_at tick may first first h [] n (closings_by end.why)) (sym unbegun.0) (subst (λ (n : ℕ). Going source_at sink_at ended_at tick may first first h [] 0 n) (sym (none_closed end unbegun)) going),
-    ends_unbegun first most end some unbegun,
+  -- a server that has ended at once did not ask the doors
+  pub ends_at_once : (base : List (ℕ × Entry)) (first : DoorsView S K) (h : Hall S K C) (most : ℕ) (end : ServeEnd) → end.connections ≡ 0 → closings_by end.why ≡ 0 → EndsBy end.why first first end.connections most → Going source_at sink_at ended_at tick may base first first h [] 0 0 → Ends source_at sink_at ended_at tick may base first first h most end
+  ends_at_once base first h most end nobody not_closed ends going = (
+    subst (λ (n : ℕ). Going source_at sink_at ended_at tick may base first first h [] n (closings_by end.why)) (sym nobody) (subst (λ (n : ℕ). Going source_at sink_at ended_at tick may base first first h [] 0 n) (sym not_closed) going),
+    ends,
   )
 
+  -- so has one that had no memory for the first connection
+  pub ends_none : (base : List (ℕ × Entry)) (first : DoorsView S K) (h : Hall S K C) (most : ℕ) (end : ServeEnd) → 0 < most → IsUnbegun end → Going source_at sink_at ended_at tick may base first first h [] 0 0 → Ends source_at sink_at ended_at tick may base first first h most end
+  ends_none base first h most end some unbegun going = ends_at_once base first h most end unbegun.0 (none_closed end unbegun) (ends_unbegun first most end some unbegun) going
+
+  -- and one whose store could not be filled
+  pub ends_empty : (base : List (ℕ × Entry)) (first : DoorsView S K) (h : Hall S K C) (most : ℕ) (end : ServeEnd) → 0 < most → IsUnfilled end → Going source_at sink_at ended_at tick may base first first h [] 0 0 → Ends source_at sink_at ended_at tick may base first first h most end
+  ends_empty base first h most end some unfilled going = ends_at_once base first h most end unfilled.0 (ap closings_by unfilled.1) (ends_unfilled first most end some unfilled) going
+
   -- a server that has ended at once has served no connection
-  pub serves_at_once : (g : Setting) (trim : Trim) (first : DoorsView S K) (most : ℕ) (end : ServeEnd) → end.connections ≡ 0 → closings_by end.why ≡ 0 → EndsBy end.why first first end.connections most → Serves source_at sink_at ended_at tick may g trim first first most end
+  pub serves_at_once : (kept : List (ℕ × Change) → Type 0) (g : Setting) (trim : Trim) (first : DoorsView S K) (most : ℕ) (end : ServeEnd) → end.connections ≡ 0 → closings_by end.why ≡ 0 → EndsBy end.why first first end.connections most → Serves source_at sink_at ended_at tick may kept g trim first first most end
   unfolding IsLegal
-  serves_at_once g trim first most end nobody not_closed ends = record {
+  serves_at_once kept g trim first most end nobody not_closed ends = record {
     history = [];
     legal = tt;
     came = [];
@@ -152,6 +174,11 @@ module _ {S K C : Type 0} (source_at : S → End) (sink_at : K → End) (ended_a
     passed = subst (λ (n : ℕ). Passes first first [] [] n) (sym not_closed) (passed_nothing first);
     each = tt;
     ordered = tt;
+    filled = [];
+    begins = ([], refl);
+    filling = tt;
+    restored = λ some. absurd (omega (arith, some, nobody));
+    none = λ not. refl;
     others = [];
     matching = tt;
     apart = tt;
@@ -162,17 +189,21 @@ module _ {S K C : Type 0} (source_at : S → End) (sink_at : K → End) (ended_a
   }
 
   -- so has one that had no memory for the first connection
-  pub serves_none : (g : Setting) (trim : Trim) (first : DoorsView S K) (most : ℕ) (end : ServeEnd) → 0 < most → IsUnbegun end → Serves source_at sink_at ended_at tick may g trim first first most end
-  serves_none g trim first most end some unbegun = serves_at_once g trim first most end unbegun.0 (none_closed end unbegun) (ends_unbegun first most end some unbegun)
+  pub serves_none : (kept : List (ℕ × Change) → Type 0) (g : Setting) (trim : Trim) (first : DoorsView S K) (most : ℕ) (end : ServeEnd) → 0 < most → IsUnbegun end → Serves source_at sink_at ended_at tick may kept g trim first first most end
+  serves_none kept g trim first most end some unbegun = serves_at_once kept g trim first most end unbegun.0 (none_closed end unbegun) (ends_unbegun first most end some unbegun)
 
   -- once all connections were handed back and the matchers joined, the server has served them
-  pub serves_all : (g : Setting) (trim : Trim) (first last : DoorsView S K) (h l : Hall S K C) (most : ℕ) (end : ServeEnd) → setting_in h ≡ g → h.running.items ≡ [] → IsLegal (setting_in l) (seen_in l) → IsWholeIn l → Gathers tick trim may h l → EndsBy end.why first last end.connections most → Going source_at sink_at ended_at tick may first last h [] end.connections (closings_by end.why) → Serves source_at sink_at ended_at tick may g trim first last most end
-  serves_all g trim first last h l most end setting none legal whole gathers ends going =
+  pub serves_all : (kept : List (ℕ × Change) → Type 0) (fails : Bool) (g : Setting) (trim : Trim) (first last : DoorsView S K) (h l : Hall S K C) (most : ℕ) (end : ServeEnd) (filled : List Entry) → (fails ≡ true → g.keeps ≡ true) → setting_in h ≡ g → h.running.items ≡ [] → IsLegal (setting_in l) (seen_in l) → IsWholeIn l → Gathers tick trim may h l → EndsBy end.why first last end.connections most → AreFilled kept fails filled end.connections
+      → Going source_at sink_at ended_at tick may (enumerate_from 0 filled) first last h [] end.connections (closings_by end.why) → Serves source_at sink_at ended_at tick may kept g trim first last most end
+  serves_all kept fails g trim first last h l most end filled only setting none legal whole gathers ends are going =
       let nobody : begun_in h ≡ [] = ap (λ (rs : List (Running S K C)). map begun_of rs) none in
       let given : map given_of going.visits ++ map began_with (open_in [] h) ≡ map given_of going.visits = ap (λ (bs : List (Begun S K C)). map given_of going.visits ++ map began_with bs) nobody ∙ append-nil (map given_of going.visits) in
       let came_are : IsPermutation (enumerate_from 0 going.came) (map given_of going.visits) = subst (λ (xs : List (ℕ × (S × K))). IsPermutation (enumerate_from 0 going.came) xs) given going.came_are in
       let last_setting : setting_in l ≡ g = ap setting_at gathers.turnstile ∙ setting in
-      let all : met_in l ≡ flat_map own_of going.visits ++ gathers.own = gathers.met ∙ ap (λ (ps : List (ℕ × Entry)). ps ++ gathers.own) going.met in
+      let base : List (ℕ × Entry) = enumerate_from 0 filled in
+      let all : met_in l ≡ base ++ (flat_map own_of going.visits ++ gathers.own) =
+      gathers.met ∙ ap (λ (ps : List (ℕ × Entry)). ps ++ gathers.own) going.met ∙ append_assoc base (flat_map own_of going.visits) gathers.own in
+      let at : AreAt (seen_in l) (base ++ (flat_map own_of going.visits ++ gathers.own)) = subst (λ (ps : List (ℕ × Entry)). AreAt (seen_in l) ps) all whole.1 in
       record {
         history = seen_in l;
         legal = subst (λ (s : Setting). IsLegal s (seen_in l)) last_setting legal;
@@ -182,10 +213,15 @@ module _ {S K C : Type 0} (source_at : S → End) (sink_at : K → End) (ended_a
         passed = going.passed;
         each = all_stay source_at sink_at ended_at tick may g (seen_in h) (seen_in l) going.visits gathers.grew (subst (λ (s : Setting). AllOf (IsWell source_at sink_at ended_at tick may s (seen_in h)) going.visits) setting going.each);
         ordered = going.ordered;
+        filled = filled;
+        begins = at_prefix (seen_in l) filled (all_left (λ (p : ℕ × Entry). slice_get (seen_in l) p.0 ≡ Some p.1) base (flat_map own_of going.visits ++ gathers.own) at);
+        filling = are.filling;
+        restored = are.restored;
+        none = λ not. are.none (never_fails fails g.keeps only not);
         others = gathers.own;
         matching = subst (λ (s : Setting). AllOf (IsMatched tick may s trim (seen_in l)) gathers.own) last_setting gathers.matching;
         apart = subst (λ (ps : List (ℕ × Entry)). Distinct ps) all (gathers.once going.once);
-        at_positions = subst (λ (ps : List (ℕ × Entry)). AreAt (seen_in l) ps) all whole.1;
+        at_positions = at;
         whole = whole.0 ∙ ap length all;
         count_is = sym (length-map going.visits given_of) ∙ length_permutation (enumerate_from 0 going.came) (map given_of going.visits) came_are ∙ length-enumerate_from 0 going.came ∙ going.count_is;
         ends = ends;

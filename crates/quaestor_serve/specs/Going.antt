@@ -2,6 +2,7 @@
 use Rattle.std.specs.Prelude.{◌≡◌, ℕ, ◌+◌, ◌<◌, ◌≤◌, List, [], ◌++◌, map, length, IfSome}
 use Rattle.std.specs.List.{enumerate_from, flat_map}
 use Rattle.std.specs.List.Sorted.{IsPermutation}
+use Rattle.hub_model.specs.declared.entry.Entry.{Entry}
 use Rattle.q_outside.specs.Doors.{DoorsView, Passes}
 use Rattle.q_outside.specs.Ends.{End, LastEnd}
 use Rattle.quaestor_serve.specs.declared.begun.Begun.{Begun}
@@ -26,8 +27,8 @@ module _ {S K C : Type 0} where
   abbrev pub open_in : List (Begun S K C) → Hall S K C → List (Begun S K C)
   open_in waiting h = waiting ++ begun_in h
 
-module _ {S K C : Type 0} (source_at : S → End) (sink_at : K → End) (ended_at : K → LastEnd) (tick : C → ℕ → C → Type 0) (may : C → Type 0) where
-  -- Since the doors were in their first state, `count` connections came and the doors were closed `closed` times. The visits are the connections that were handed back, in that order, well served by entries at positions of their own. The others wait for a thread or are being served. Each connection knew at its beginning all that was known at the end of each that was handed back before it came.
+module _ {S K C : Type 0} (source_at : S → End) (sink_at : K → End) (ended_at : K → LastEnd) (tick : C → ℕ → C → Type 0) (may : C → Type 0) (base : List (ℕ × Entry)) where
+  -- Since the doors were in their first state, `count` connections came and the doors were closed `closed` times. The visits are the connections that were handed back, in that order, well served by entries at positions of their own; `base` are the entries that were made before the first came. The others wait for a thread or are being served. Each connection knew at its beginning all that was known at the end of each that was handed back before it came.
   pub record Going (first now : DoorsView S K) (h : Hall S K C) (waiting : List (Begun S K C)) (count closed : ℕ) : Type 0 where
     pub came : List (S × K)
     pub visits : List (Visit S K)
@@ -36,7 +37,7 @@ module _ {S K C : Type 0} (source_at : S → End) (sink_at : K → End) (ended_a
     pub each : AllOf (IsWell source_at sink_at ended_at tick may (setting_in h) (seen_in h)) visits
     pub ordered : AreOrdered (given_at first) visits
     pub later : AllOf (λ v. AllOf (λ b. IsKnownTo (given_at first) v b.number.value (seen b.seat.value)) (open_in waiting h)) visits
-    pub met : met_in h ≡ flat_map own_of visits
+    pub met : met_in h ≡ base ++ flat_map own_of visits
     pub once : Distinct (met_in h)
     pub count_is : length came ≡ count
     pub clocks : AllOf (λ b. may b.clock.value) (open_in waiting h)
@@ -56,4 +57,4 @@ pub record HandsBack {S K C : Type 0} (source_at : S → End) (sink_at : K → E
   pub fewer : length new.running.items ≤ length old.running.items
   pub room : (more : ℕ) → HaveRoom before old more → HaveRoom after new more
   pub faults : before.faults ≤ after.faults
-  pub going : (clock : C) (first : DoorsView S K) (waiting : List (Begun S K C)) (count closed : ℕ) → Going source_at sink_at ended_at tick (is_clone clock) first before old waiting count closed → Going source_at sink_at ended_at tick (is_clone clock) first after new waiting count closed
+  pub going : (clock : C) (base : List (ℕ × Entry)) (first : DoorsView S K) (waiting : List (Begun S K C)) (count closed : ℕ) → Going source_at sink_at ended_at tick (is_clone clock) base first before old waiting count closed → Going source_at sink_at ended_at tick (is_clone clock) base first after new waiting count closed

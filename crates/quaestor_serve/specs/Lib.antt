@@ -1,3 +1,4 @@
+pub mod Filled
 pub mod Going
 pub mod Halls
 pub mod Kept

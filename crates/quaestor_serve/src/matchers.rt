@@ -1,13 +1,13 @@
 //! The matchers of a server.
-ghost use Rattle.std.specs.Prelude.{◌≡◌, ℕ, ◌+◌, ◌≤◌, [], ◌∷◌, length};
+ghost use Rattle.std.specs.Prelude.{◌≡◌, ℕ, ◌+◌, ◌≤◌, [], length};
 ghost use Rattle.std.specs.Arc.{arc_value};
-ghost use Rattle.std.specs.VecDeque.{deque_len, deque_capacity};
+ghost use Rattle.std.specs.VecDeque.{deque_capacity};
 ghost use Rattle.hub_desk.specs.HubValue.{hub_setting};
 ghost use Rattle.quaestor_serve.specs.Halls.{IsReady, IsWholeIn};
 ghost use Rattle.quaestor_serve.specs.Kept.{IsFreshAt};
 ghost use Rattle.turnstile.specs.Places.{AllOf};
 ghost use Rattle.turnstile.specs.Seats.{IsSeatOf, IsIdle, HasOut};
-ghost use Rattle.quaestor_serve.specs.Matchers.{HasMatched, HasRested, WorksAt, WorkIn, IsAsBefore, Gathers};
+ghost use Rattle.quaestor_serve.specs.Matchers.{HasRested, WorksAt, WorkIn, IsAsBefore, Gathers};
 
 use crate::crew::Crew;
 use crate::hall::Hall;

@@ -1,7 +1,8 @@
 //! The rounds of a server: in each the connections that have ended leave, and then one comes.
-ghost use Rattle.std.specs.Prelude.{◌≡◌, ◌+◌, ◌<◌, ◌≤◌, [], ◌∷◌, vec_len};
+ghost use Rattle.std.specs.Prelude.{◌≡◌, ℕ, ◌+◌, ◌<◌, true, List, [], ◌∷◌, vec_len};
 ghost use Rattle.std.specs.Arc.{arc_value};
 ghost use Rattle.std.specs.VecDeque.{deque_len};
+ghost use Rattle.hub_model.specs.declared.entry.Entry.{Entry};
 ghost use Rattle.q_outside.specs.Doors.{DoorsView, Passes};
 ghost use Rattle.quaestor_serve.specs.declared.begun.Done.{Done};
 ghost use Rattle.quaestor_serve.specs.Halls.{IsReady, Stays, KeepsOut, setting_in};
@@ -16,6 +17,7 @@ use crate::running::Running;
 use crate::threads::{serve_there, try_start};
 use crate::visits::{Leaving, note_position, release};
 use hub_desk::{HubValue, Turnstile};
+use kept_desk::{Keeper, Keeping};
 use q_outside::{Clock, Doors, Gate, Next};
 use std::alloc::Global;
 use std::rt;
@@ -175,7 +177,7 @@ where
 /// Begins to serve a connection that came, at a vacant place. Its seat is split off the main one only
 /// now, so it knows all that those knew that were handed back before it came.
 #[tactic(auto, using(crate::proofs::HallLemmas::ready_split, crate::proofs::HallLemmas::fresh_split))]
-fn admit<P, C, G, R>(
+fn admit<P, C, G, H, R>(
     rt: &R,
     alloc: Global,
     doors: &mut P,
@@ -184,6 +186,7 @@ fn admit<P, C, G, R>(
     endings: Arc<Endings, Global>,
     pool: Arc<Pool, Global>,
     gate: G,
+    hand: H,
     clock: C,
     number: u64,
     source: P::From,
@@ -193,17 +196,19 @@ where
     P: Doors,
     C: Clock + Clone + Send + Drop + 'static,
     G: Gate + Send + Drop + 'static,
+    H: Keeping + Send + Drop + 'static,
     R: Threads + Wait + rt::Clock + Copy + Send + 'static,
     requires vacant { 0 < vec_len hall.old.vacant }
     requires pool { (arc_value pool).config ≡ setting_in hall.old }
     requires ready { IsReady hall.old }
     requires room { HaveRoom (P.at doors.old) hall.old 1 }
     requires turnstile { arc_value turnstile ≡ arc_value hall.old.turnstile }
+    requires keeps { H.may_fail hand ≡ true → (setting_in hall.old).keeps ≡ true }
     ensures stays { Stays hall.old hall.new }
     ensures ready { IsReady hall.new }
     ensures out { KeepsOut hall.old hall.new }
     ensures room { HaveRoom (P.at doors.new) hall.new 0 }
-    ensures going { (given : C) (first before : DoorsView P.From P.To) → C.is_clone given clock → Passes before (P.at doors.old) ((source, sink) ∷ []) [] 0 → Going P.From.at P.To.at P.To.ended C.tick (C.is_clone given) first before hall.old [] number 0 → Going P.From.at P.To.at P.To.ended C.tick (C.is_clone given) first (P.at doors.new) hall.new [] (number + 1) 0 }
+    ensures going { (given : C) (base : List (ℕ × Entry)) (first before : DoorsView P.From P.To) → C.is_clone given clock → Passes before (P.at doors.old) ((source, sink) ∷ []) [] 0 → Going P.From.at P.To.at P.To.ended C.tick (C.is_clone given) base first before hall.old [] number 0 → Going P.From.at P.To.at P.To.ended C.tick (C.is_clone given) base first (P.at doors.new) hall.new [] (number + 1) 0 }
 {
     let Some(place) = hall.vacant.pop() else {
         unreachable!()
@@ -220,7 +225,7 @@ where
     let own = *rt;
     let work = move || {
         serve_there(
-            own, alloc, turnstile, endings, gate, place, seat, source, sink, clock, pool,
+            own, alloc, turnstile, endings, gate, place, seat, hand, source, sink, clock, pool,
         )
     };
     let handle = start(rt, doors, hall, &begun, work);
@@ -231,33 +236,40 @@ where
 /// Waits for a vacant place, takes the memory for one connection, and then waits for one and begins to
 /// serve it. So many came before it.
 #[tactic(auto, using(crate::proofs::GoingLemmas::ringing))]
-pub(crate) fn ring<P, C, G, R>(
+pub(crate) fn ring<P, C, G, Q, R>(
     rt: &R,
     alloc: Global,
     doors: &mut P,
     hall: &mut Hall<P::From, P::To, C>,
     clock: &C,
     gate: &G,
+    keeper: &mut Q,
     number: u64,
 ) -> Round
 where
     P: Doors,
     C: Clock + Clone + Send + Drop + 'static,
     G: Gate + Clone + Send + Drop + 'static,
+    Q: Keeper,
     R: Threads + Wait + rt::Clock + Copy + Send + 'static,
     requires ready { IsReady hall.old }
     requires room { HaveRoom (P.at doors.old) hall.old 0 }
+    requires keeps { Q.may_fail keeper.old ≡ true → (setting_in hall.old).keeps ≡ true }
+    ensures keeper { Q.may_fail keeper.new ≡ Q.may_fail keeper.old }
     ensures stays { Stays hall.old hall.new }
     ensures ready { IsReady hall.new }
     ensures out { KeepsOut hall.old hall.new }
     ensures room { HaveRoom (P.at doors.new) hall.new 0 }
-    ensures going { (first : DoorsView P.From P.To) → Going P.From.at P.To.at P.To.ended C.tick (C.is_clone clock.now) first (P.at doors.old) hall.old [] number 0 → GoesOn P.From.at P.To.at P.To.ended C.tick (C.is_clone clock.now) first (P.at doors.new) hall.new number result }
+    ensures going { (base : List (ℕ × Entry)) (first : DoorsView P.From P.To) → Going P.From.at P.To.at P.To.ended C.tick (C.is_clone clock.now) base first (P.at doors.old) hall.old [] number 0 → GoesOn P.From.at P.To.at P.To.ended C.tick (C.is_clone clock.now) base first (P.at doors.new) hall.new number result }
 {
     wait_for_place(rt, doors, hall);
     let Ok(clock) = clock.clone() else {
         return Round::NoMemory;
     };
     let Ok(gate) = gate.clone() else {
+        return Round::NoMemory;
+    };
+    let Ok(hand) = keeper.hand() else {
         return Round::NoMemory;
     };
     let Ok(turnstile) = Arc::try_clone(&hall.turnstile) else {
@@ -272,7 +284,8 @@ where
     match doors.next() {
         Ok(Next::Connection { source, sink }) => {
             admit(
-                rt, alloc, doors, hall, turnstile, endings, pool, gate, clock, number, source, sink,
+                rt, alloc, doors, hall, turnstile, endings, pool, gate, hand, clock, number,
+                source, sink,
             );
             Round::Came
         }

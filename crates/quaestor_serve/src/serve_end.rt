@@ -11,6 +11,8 @@ pub enum ServeWhy {
     DoorFault,
     /// There was no memory for another connection, which was not asked for.
     Memory,
+    /// The store could not be filled with what was kept, and the doors were not asked.
+    Unfilled,
 }
 
 /// The outcome of a server.

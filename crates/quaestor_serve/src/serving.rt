@@ -1,12 +1,18 @@
 //! A server from its beginning to its end.
-ghost use Rattle.std.specs.Prelude.{◌≡◌, ℕ, ◌+◌, ◌<◌, ◌≤◌, [], length, vec_len, vec_capacity, IfOk};
+ghost use Rattle.std.specs.Prelude.{◌≡◌, ℕ, ◌+◌, ◌<◌, ◌≤◌, true, false, List, [], length, vec_len, vec_capacity, IfOk, OnOk};
+ghost use Rattle.std.specs.List.{enumerate_from, flat_map};
 ghost use Rattle.std.specs.VecDeque.{deque_capacity};
+ghost use Rattle.hub_model.specs.declared.entry.Entry.{Entry};
+ghost use Rattle.kept_desk.specs.Filling.{writes_in, written_by};
 ghost use Rattle.q_outside.specs.Doors.{DoorsView};
-ghost use Rattle.quaestor_serve.specs.Halls.{IsReady, Stays, KeepsOut, met_in, setting_in};
+ghost use Rattle.quaestor_serve.specs.Filled.{AreFilled, HasFilled, HasFilledAt};
+ghost use Rattle.quaestor_serve.specs.Halls.{IsReady, Stays, KeepsOut, met_in, seen_in, setting_in};
 ghost use Rattle.quaestor_serve.specs.Going.{Going, HaveRoom};
+ghost use Rattle.quaestor_serve.specs.Kept.{IsFreshAt};
 ghost use Rattle.quaestor_serve.specs.Matchers.{WorkIn};
-ghost use Rattle.quaestor_serve.specs.Serves.{Ends, IsUnbegun, Serves};
-ghost use Rattle.turnstile.specs.Seats.{HasOut};
+ghost use Rattle.quaestor_serve.specs.Serves.{Ends, IsUnbegun, IsUnfilled, Serves};
+ghost use Rattle.turnstile.specs.Places.{Distinct};
+ghost use Rattle.turnstile.specs.Seats.{HasOut, mine};
 
 use crate::crew::Crew;
 use crate::endings::Endings;
@@ -17,9 +23,10 @@ use crate::monitor::Monitor;
 use crate::pool::Pool;
 use crate::rounds::{Round, drain, ring};
 use crate::serve_end::{ServeEnd, ServeWhy};
-use hub_desk::{Config, HubValue, Trim, Turnstile};
+use hub_desk::{Config, HubValue, Seat, Seated, Trim, Turnstile};
 use hub_model::laws::no_entry_is_legal;
-use q_base::Memory;
+use kept_desk::{Keeper, Unfilled};
+use q_base::{Memory, Moment};
 use q_outside::{Clock, Doors, Gate, Sink, Source};
 use std::alloc::Global;
 use std::collections::VecDeque;
@@ -90,14 +97,76 @@ fn no_memory() -> ServeEnd
     }
 }
 
+/// The end of a server whose store could not be filled with what was kept.
+fn unfilled() -> ServeEnd
+    ensures { IsUnfilled result }
+{
+    ServeEnd {
+        connections: 0,
+        why: ServeWhy::Unfilled,
+    }
+}
+
+/// Fills the store with what was kept, by a desk at a seat, and sees the history as it is then.
+fn fill_at<Q: Keeper, R: Wait + rt::Clock>(
+    rt: &R,
+    turnstile: &Turnstile<HubValue>,
+    seat: Seat<HubValue>,
+    keeper: &mut Q,
+    moment: Moment,
+) -> (Seat<HubValue>, Result<(), Unfilled>)
+    requires { IsFreshAt turnstile.now seat }
+    ensures filled { HasFilledAt turnstile.now result.0 }
+    ensures written { OnOk result.1 (Q.kept keeper.old (writes_in (mine result.0))) }
+    ensures none { Q.may_fail keeper.old ≡ false → mine result.0 ≡ [] }
+    ensures keeper { Q.may_fail keeper.new ≡ Q.may_fail keeper.old }
+{
+    let mut desk = Seated::unpaced(rt, turnstile, seat);
+    let filled = keeper.fill(&mut desk, moment);
+    let mut seat = desk.into_seat();
+    turnstile.settle(&mut seat);
+    (seat, filled)
+}
+
+/// Fills the store with what was kept, by a desk at a seat of its own, before anybody else uses it. The main
+/// seat has met its entries then.
+#[tactic(auto, using(crate::proofs::HallLemmas::fresh_split))]
+fn fill<S, K, C, Q, R>(
+    rt: &R,
+    hall: &mut Hall<S, K, C>,
+    keeper: &mut Q,
+    moment: Moment,
+) -> Result<(), Unfilled>
+where
+    S: Source + Drop,
+    K: Sink + Drop,
+    C: Clock + Drop,
+    Q: Keeper,
+    R: Wait + rt::Clock,
+    requires ready { IsReady hall.old }
+    requires empty { met_in hall.old ≡ [] }
+    requires alone { HasOut 0 hall.old.seat }
+    ensures ready { IsReady hall.new }
+    ensures filled { HasFilled hall.old hall.new }
+    ensures written { OnOk result (Q.kept keeper.old (flat_map written_by (seen_in hall.new))) }
+    ensures none { Q.may_fail keeper.old ≡ false → seen_in hall.new ≡ [] }
+    ensures keeper { Q.may_fail keeper.new ≡ Q.may_fail keeper.old }
+{
+    let seat = hall.turnstile.split(&mut hall.seat);
+    let (seat, filled) = fill_at(rt, &hall.turnstile, seat, keeper, moment);
+    hall.turnstile.join(&mut hall.seat, seat);
+    filled
+}
+
 /// Serves connections as they come, until as many came as are to come, or no further one does.
-fn ring_all<P, C, G, R, M>(
+fn ring_all<P, C, G, Q, R, M>(
     rt: &R,
     alloc: Global,
     doors: &mut P,
     hall: &mut Hall<P::From, P::To, C>,
     clock: &C,
     gate: &G,
+    keeper: &mut Q,
     monitor: &M,
     matchers: &mut VecDeque<Matcher<C>>,
     trim: Trim,
@@ -107,9 +176,11 @@ where
     P: Doors,
     C: Clock + Clone + Send + Drop + 'static,
     G: Gate + Clone + Send + Drop + 'static,
+    Q: Keeper,
     R: Threads + Wait + rt::Clock + Copy + Send + 'static,
     M: Monitor + Clone + Send + Drop + 'static,
     requires ready { IsReady hall.old }
+    requires keeps { Q.may_fail keeper.old ≡ true → (setting_in hall.old).keeps ≡ true }
     requires room { HaveRoom (P.at doors.old) hall.old 0 }
     requires work { WorkIn C.tick trim (C.is_clone clock.now) hall.old matchers.old.items }
     ensures stays { Stays hall.old hall.new }
@@ -118,10 +189,10 @@ where
     ensures out { KeepsOut hall.old hall.new }
     ensures count { length matchers.new.items ≡ length matchers.old.items }
     ensures work { WorkIn C.tick trim (C.is_clone clock.now) hall.new matchers.new.items }
-    ensures ends { (first : DoorsView P.From P.To) → Going P.From.at P.To.at P.To.ended C.tick (C.is_clone clock.now) first (P.at doors.old) hall.old [] 0 0 → Ends P.From.at P.To.at P.To.ended C.tick (C.is_clone clock.now) first (P.at doors.new) hall.new connections result }
+    ensures ends { (base : List (ℕ × Entry)) (first : DoorsView P.From P.To) → Going P.From.at P.To.at P.To.ended C.tick (C.is_clone clock.now) base first (P.at doors.old) hall.old [] 0 0 → Ends P.From.at P.To.at P.To.ended C.tick (C.is_clone clock.now) base first (P.at doors.new) hall.new connections result }
 {
     for given in 0..connections {
-        let why = match ring(rt, alloc, doors, hall, clock, gate, given) {
+        let why = match ring(rt, alloc, doors, hall, clock, gate, keeper, given) {
             Round::Came => {
                 step_all(rt, &hall.turnstile, trim, matchers, clock, monitor);
                 continue;
@@ -142,13 +213,14 @@ where
 }
 
 /// Starts the matchers, and then serves connections as they come.
-fn serve_all<P, C, G, R, M>(
+fn serve_filled<P, C, G, Q, R, M>(
     rt: &R,
     alloc: Global,
     doors: &mut P,
     hall: &mut Hall<P::From, P::To, C>,
     clock: &C,
     gate: &G,
+    keeper: &mut Q,
     monitor: &M,
     matchers: &mut VecDeque<Matcher<C>>,
     crew: Crew,
@@ -158,10 +230,12 @@ where
     P: Doors,
     C: Clock + Clone + Send + Drop + 'static,
     G: Gate + Clone + Send + Drop + 'static,
+    Q: Keeper,
     R: Threads + Wait + rt::Clock + Copy + Send + 'static,
     M: Monitor + Clone + Send + Drop + 'static,
     requires ready { IsReady hall.old }
-    requires empty { (hall.old.running.items ≡ []) × (met_in hall.old ≡ []) }
+    requires keeps { Q.may_fail keeper.old ≡ true → (setting_in hall.old).keeps ≡ true }
+    requires empty { hall.old.running.items ≡ [] }
     requires none { matchers.old.items ≡ [] }
     requires capacity { crew.matchers ≤ deque_capacity matchers.old }
     requires some { 0 < connections }
@@ -170,7 +244,7 @@ where
     ensures room { HaveRoom (P.at doors.new) hall.new 0 }
     ensures out { HasOut 0 hall.old.seat → HasOut (length matchers.new.items + length hall.new.running.items) hall.new.seat }
     ensures work { WorkIn C.tick crew.trim (C.is_clone clock.now) hall.new matchers.new.items }
-    ensures ends { Ends P.From.at P.To.at P.To.ended C.tick (C.is_clone clock.now) (P.at doors.old) (P.at doors.new) hall.new connections result }
+    ensures ends { (base : List (ℕ × Entry)) → met_in hall.old ≡ base → Distinct base → Ends P.From.at P.To.at P.To.ended C.tick (C.is_clone clock.now) base (P.at doors.old) (P.at doors.new) hall.new connections result }
 {
     if start_matchers(rt, alloc, hall, matchers, clock, crew, monitor).is_err() {
         return no_memory();
@@ -182,11 +256,66 @@ where
         hall,
         clock,
         gate,
+        keeper,
         monitor,
         matchers,
         crew.trim,
         connections,
     )
+}
+
+/// Fills the store, and then serves connections as they come.
+fn serve_all<P, C, G, Q, R, M>(
+    rt: &R,
+    alloc: Global,
+    doors: &mut P,
+    hall: &mut Hall<P::From, P::To, C>,
+    clock: &C,
+    gate: &G,
+    keeper: &mut Q,
+    monitor: &M,
+    matchers: &mut VecDeque<Matcher<C>>,
+    crew: Crew,
+    connections: u64,
+    moment: Moment,
+) -> ServeEnd
+where
+    P: Doors,
+    C: Clock + Clone + Send + Drop + 'static,
+    G: Gate + Clone + Send + Drop + 'static,
+    Q: Keeper,
+    R: Threads + Wait + rt::Clock + Copy + Send + 'static,
+    M: Monitor + Clone + Send + Drop + 'static,
+    requires ready { IsReady hall.old }
+    requires keeps { Q.may_fail keeper.old ≡ true → (setting_in hall.old).keeps ≡ true }
+    requires empty { (hall.old.running.items ≡ []) × (met_in hall.old ≡ []) }
+    requires alone { HasOut 0 hall.old.seat }
+    requires none { matchers.old.items ≡ [] }
+    requires capacity { crew.matchers ≤ deque_capacity matchers.old }
+    requires some { 0 < connections }
+    ensures setting { setting_in hall.new ≡ setting_in hall.old }
+    ensures ready { IsReady hall.new }
+    ensures room { HaveRoom (P.at doors.new) hall.new 0 }
+    ensures out { HasOut (length matchers.new.items + length hall.new.running.items) hall.new.seat }
+    ensures work { WorkIn C.tick crew.trim (C.is_clone clock.now) hall.new matchers.new.items }
+    ensures ends { (first : List Entry) × AreFilled (Q.kept keeper.old) (Q.may_fail keeper.old) first result.connections × Ends P.From.at P.To.at P.To.ended C.tick (C.is_clone clock.now) (enumerate_from 0 first) (P.at doors.old) (P.at doors.new) hall.new connections result }
+{
+    match fill(rt, hall, keeper, moment) {
+        Ok(()) => serve_filled(
+            rt,
+            alloc,
+            doors,
+            hall,
+            clock,
+            gate,
+            keeper,
+            monitor,
+            matchers,
+            crew,
+            connections,
+        ),
+        Err(_) => unfilled(),
+    }
 }
 
 /// Serves the connections that come through the doors, each at a hub of this configuration, in a thread
@@ -196,14 +325,16 @@ where
 /// connection is taken before the doors are asked for it. Where no thread can be made for one, it waits
 /// until one can. Where none is to come, no memory is taken. The matchers of the crew match all commits and
 /// drop old changes, as far as its trim says. Behind their steps the monitor hears the figures of the store,
-/// where it asks for them, and once that no further connection is taken.
-pub fn serve<P, C, G, R, M>(
+/// where it asks for them, and once that no further connection is taken. Before all this the keeper fills the
+/// store with what it kept, and each connection has a hand of it: no reply shows a commit that is not kept.
+pub fn serve<P, C, G, Q, R, M>(
     rt: &R,
     alloc: Global,
     config: Config,
     doors: &mut P,
     clock: &C,
     gate: &G,
+    keeper: &mut Q,
     monitor: &M,
     crew: Crew,
     connections: u64,
@@ -212,11 +343,13 @@ where
     P: Doors,
     C: Clock + Clone + Send + Drop + 'static,
     G: Gate + Clone + Send + Drop + 'static,
+    Q: Keeper,
     R: Threads + Wait + rt::Clock + Copy + Send + 'static,
     M: Monitor + Clone + Send + Drop + 'static,
     requires places { 0 < crew.places }
     requires workers { 0 < crew.workers }
-    ensures { Serves P.From.at P.To.at P.To.ended C.tick (C.is_clone clock.now) config crew.trim (P.at doors.old) (P.at doors.new) connections result }
+    requires keeps { Q.may_fail keeper.old ≡ true → config.keeps ≡ true }
+    ensures { Serves P.From.at P.To.at P.To.ended C.tick (C.is_clone clock.now) (Q.kept keeper.old) config crew.trim (P.at doors.old) (P.at doors.new) connections result }
 {
     if connections == 0 {
         monitor.end();
@@ -233,6 +366,11 @@ where
         monitor.end();
         return no_memory();
     };
+    let Ok(mut first_clock) = clock.clone() else {
+        monitor.end();
+        return no_memory();
+    };
+    let moment = first_clock.now();
     let end = serve_all(
         rt,
         alloc,
@@ -240,10 +378,12 @@ where
         &mut hall,
         clock,
         gate,
+        keeper,
         monitor,
         &mut matchers,
         crew,
         connections,
+        moment,
     );
     monitor.end();
     drain(rt, doors, &mut hall);

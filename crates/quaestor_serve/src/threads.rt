@@ -1,15 +1,18 @@
 //! A connection in a thread of its own.
-ghost use Rattle.std.specs.Prelude.{◌≡◌, IfOk, IfErr};
+ghost use Rattle.std.specs.Prelude.{◌≡◌, true, IfOk, IfErr};
 ghost use Rattle.std.specs.Arc.{arc_value};
 ghost use Rattle.quaestor_serve.specs.declared.begun.Done.{Done};
 ghost use Rattle.quaestor_serve.specs.Kept.{Kept, KeptOf, MayBegin};
 ghost use Rattle.quaestor_serve.specs.Running.{begun_of};
+ghost use Rattle.hub_desk.specs.HubValue.{hub_setting};
+ghost use Rattle.turnstile.specs.Seats.{setting_of};
 
 use crate::begun::{Beginning, Begun, Done};
 use crate::endings::Endings;
 use crate::pool::{Pool, PoolRooms};
 use crate::running::Running;
 use hub_desk::{HubValue, Seat, Seated, Turnstile};
+use kept_desk::{Keeping, KeptDesk};
 use q_outside::{Clock, Gate, Sink, Source};
 use quaestor_server::serve_visits;
 use std::alloc::Global;
@@ -22,20 +25,23 @@ use std::{rt, thread};
 const STACK: usize = 512 * 1024;
 
 /// Serves a connection at a seat, and ends its sink.
-fn serve_at<R: Wait + rt::Clock, S: Source, K: Sink, C: Clock + Drop>(
+fn serve_at<R: Wait + rt::Clock, S: Source, K: Sink, C: Clock + Drop, H: Keeping + Drop>(
     rt: &R,
     alloc: Global,
     turnstile: &Turnstile<HubValue>,
     seat: Seat<HubValue>,
+    hand: H,
     mut source: S,
     mut sink: K,
     mut clock: C,
     pool: &Pool,
 ) -> Done<S, K>
-    requires { MayBegin turnstile.now seat pool.now }
+    requires begin { MayBegin turnstile.now seat pool.now }
+    requires keeps { H.may_fail hand ≡ true → (setting_of hub_setting turnstile.now).keeps ≡ true }
     ensures { Kept S.at K.at K.ended C.tick turnstile.now seat source sink clock result }
 {
-    let mut desk = Seated::new(rt, turnstile, seat);
+    let seated = Seated::new(rt, turnstile, seat);
+    let mut desk = KeptDesk::new(seated, hand);
     let mut rooms = PoolRooms { rt, pool };
     let served = serve_visits(
         alloc,
@@ -46,8 +52,9 @@ fn serve_at<R: Wait + rt::Clock, S: Source, K: Sink, C: Clock + Drop>(
         &mut rooms,
     );
     sink.end();
+    let (seated, _hand) = desk.into_parts();
     Done {
-        seat: desk.into_seat(),
+        seat: seated.into_seat(),
         source,
         sink,
         served,
@@ -62,6 +69,7 @@ pub(crate) fn serve_there<
     K: Sink,
     C: Clock + Drop,
     G: Gate + Drop,
+    H: Keeping + Drop,
 >(
     rt: R,
     alloc: Global,
@@ -70,16 +78,20 @@ pub(crate) fn serve_there<
     gate: G,
     place: u32,
     seat: Seat<HubValue>,
+    hand: H,
     source: S,
     sink: K,
     clock: C,
     pool: Arc<Pool, Global>,
 ) -> Done<S, K>
-    requires { MayBegin (arc_value turnstile) seat (arc_value pool) }
+    requires begin { MayBegin (arc_value turnstile) seat (arc_value pool) }
+    requires keeps { H.may_fail hand ≡ true → (setting_of hub_setting (arc_value turnstile)).keeps ≡ true }
     ensures { Kept S.at K.at K.ended C.tick (arc_value turnstile) seat source sink clock result }
 {
     gate.pass(place);
-    let done = serve_at(&rt, alloc, &turnstile, seat, source, sink, clock, &pool);
+    let done = serve_at(
+        &rt, alloc, &turnstile, seat, hand, source, sink, clock, &pool,
+    );
     endings.tell(&rt, place);
     done
 }

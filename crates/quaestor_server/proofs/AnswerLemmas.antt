@@ -1,5 +1,5 @@
 -- A desk is made ready, and then answers.
-use Rattle.std.proofs.Common.{◌≡◌, ℕ, Bool, true, false, List, ◌++◌, length, nat_lt, Result, Ok, Err, IfOk, IsOk, refl, sym, ap, ◌∙◌, subst, inl, inr}
+use Rattle.std.proofs.Common.{◌≡◌, ℕ, ◌⊎◌, Bool, true, false, List, ◌++◌, length, nat_lt, Result, Ok, Err, IfOk, IsOk, refl, sym, ap, ◌∙◌, subst, inl, inr}
 use Rattle.std.proofs.lemmas.Bool.{cases_Bool}
 use Rattle.http_front.specs.Hosts.{ask_to, is_early_to}
 use Rattle.http_front.specs.Routes.{all_routes}
@@ -13,6 +13,8 @@ use Rattle.http_message.specs.Message.{Message}
 use Rattle.hub_core.specs.PageRoom.{PageRoomView, IsRoomFor}
 use Rattle.hub_desk.specs.declared.trim.Trim.TheVariants.{All}
 use Rattle.hub_desk.specs.Desk.{matching, MatchesAll, dropping_all, DropsOld, IsWholeDropOf}
+use Rattle.commit_book.specs.declared.change.Change.{Change}
+use Rattle.hub_model.specs.declared.entry.Condition.{Condition}
 use Rattle.hub_model.specs.declared.entry.Dropped.{Dropped}
 use Rattle.hub_model.specs.declared.entry.Entry.{Entry}
 use Rattle.hub_model.specs.declared.entry.Entry.TheVariants.{Purges}
@@ -23,9 +25,9 @@ use Rattle.hub_model.specs.Legal.{IsLegal}
 use Rattle.hub_model.specs.Reply.{purged, told_of}
 use Rattle.hub_model.specs.Setting.{Setting}
 use Rattle.hub_model.specs.State.{State}
-use Rattle.hub_model.specs.Step.{state_of}
+use Rattle.hub_model.specs.Step.{is_accepted, state_of}
 use Rattle.q_base.specs.declared.memory.Memory.{Memory as NoMemory}
-use Rattle.quaestor_server.specs.Answer.{MayFail, unread, not_ready, ran_out, IsAnswer, serves, fails}
+use Rattle.quaestor_server.specs.Answer.{MayFail, unread, not_ready, ran_out, unrecorded, IsAnswer, IsShown, Shows, serves, fails}
 use Rattle.quaestor_server.specs.Ask.{IsFresh}
 use Rattle.quaestor_server.proofs.PrefixLemmas.{learns-makes, learns-learns, fresh_before}
 
@@ -34,6 +36,7 @@ entry_fails : (g : Setting) (unready : Bool) (known : List Entry) (early : Bool)
 entry_fails g unready known early asked (unread never) = absurd (cc)
 entry_fails g unready known early asked (not_ready never) = absurd (cc)
 entry_fails g unready known early asked (ran_out may) = ran_out may
+entry_fails g unready known early asked (unrecorded keeps write) = unrecorded keeps write
 
 -- what a ready desk answered is answered
 answered_ready : (g : Setting) (unready : Bool) (old mid new : List Entry) (mine mine_mid mine_new : List (ℕ × Entry)) (moment : ℕ) (early : Bool) (asked : Result Ask Refused) (told : Told) (page : List ℕ) → Learns g old mid mine mine_mid → IsAnswer g false mid new mine_mid mine_new moment true asked told page → IsAnswer g unready old new mine mine_new moment early asked told page
@@ -56,6 +59,16 @@ answered_then g g' unready old mid new mine mine_mid mine_new moment early read 
     answered_ready g unready old mid new mine mine_mid mine_new moment early asked told page l
     (subst (λ (x : Setting). IsAnswer x false mid new mine_mid mine_new moment true asked told page) same
     (subst (λ (a : Result Ask Refused). IsAnswer g' false mid new mine_mid mine_new moment true a told page) known_is m))
+
+-- what a desk answered is shown by one that has seen no more since
+pub shown_of : (g g' : Setting) (unready : Bool) (old mid new : List Entry) (mine mine_mid mine_new : List (ℕ × Entry)) (moment : ℕ) (early : Bool) (asked : Result Ask Refused) (told shown : Told) (page : List ℕ) → g ≡ g' → new ≡ mid → mine_new ≡ mine_mid
+    → IsAnswer g unready old mid mine mine_mid moment early asked told page → IsShown g' told shown → Shows g unready old new mine mine_new moment early asked shown page
+shown_of g g' unready old mid new mine mine_mid mine_new moment early asked told shown page same seen_is mine_is answer shown_is = record {
+  told = told;
+  answer = subst (λ (l : List Entry). IsAnswer g unready old l mine mine_new moment early asked told page) (sym seen_is)
+      (subst (λ (l : List (ℕ × Entry)). IsAnswer g unready old mid mine l moment early asked told page) (sym mine_is) answer);
+  shown_is = subst (λ (x : Setting). IsShown x told shown) (sym same) shown_is;
+}
 
 -- what could not be read is not known early
 pub not_early : (early : Bool) (read : Result (Result Ask Refused) NoMemory) (lacking : NoMemory) → read ≡ Err lacking → (early ≡ true → IsOk read) → early ≡ false
@@ -138,3 +151,10 @@ made_purges g old new mine mine_new moment from head asked reply page asked_is m
       fresh = tt;
       told_is = (reply, refl, refl);
     }))
+
+-- a desk that had no memory for a write that it would accept, or for the record of one, answered so
+pub lacked_write : (g : Setting) (old new : List Entry) (mine mine_new : List (ℕ × Entry)) (moment : ℕ) (change : Change) (condition : Condition) (asked : Result Ask Refused) (page : List ℕ) → asked ≡ Ok (asks.Write change condition)
+    → (g.keeps ≡ true) ⊎ (is_accepted g (state_of g new) change condition ≡ true) → Learns g old new mine mine_new → IsAnswer g false old new mine mine_new moment true asked answers.Memory page
+lacked_write g old new mine mine_new moment change condition asked page asked_is why l =
+    let lacks : MayFail g false new true (Ok (asks.Write change condition)) = elim why [ inl keeps ↦ unrecorded keeps tt | inr accepted ↦ ran_out accepted ] in
+    subst (λ (a : Result Ask Refused). IsAnswer g false old new mine mine_new moment true a answers.Memory page) (sym asked_is) (fails lacks (record { learns = l; told_is = refl }))

@@ -9,7 +9,7 @@ use Rattle.hub_model.specs.declared.entry.Entry.{Entry}
 use Rattle.hub_model.specs.Setting.{Setting}
 use Rattle.q_outside.specs.Ends.{Ticks, End, Gave}
 use Rattle.q_outside.specs.declared.served.Served.{Served}
-use Rattle.quaestor_server.specs.Answer.{IsAnswer, has_entry}
+use Rattle.quaestor_server.specs.Answer.{Shows, has_entry}
 use Rattle.quaestor_server.specs.Ask.{asked_by, is_known_early, shape_by}
 use Rattle.quaestor_server.specs.Conversation.{RepliesAt, ConnectionState, Replies, AnswersAt, Conversation}
 
@@ -42,7 +42,7 @@ module _ {A D C : Type 0} (desk : A → D) (clock : A → C) (setting : D → Se
       let next = t.0 in
       let r = t.1 in
       let at : RepliesAt g unready (seen (desk first)) (seen (desk next)) (mine (desk first)) (mine (desk next)) r.moment x.item (is_last count x) x.answer = subst (λ (s : Setting). RepliesAt s unready (seen (desk first)) (seen (desk next)) (mine (desk first)) (mine (desk next)) r.moment x.item (is_last count x) x.answer) same r.at in
-      let v = has_entry at.answer in
+      let v = has_entry at.shows.answer in
       let rest : Chained g (count + 1) next last xs (ms ++ r.moment ∷ []) (es ++ v ∷ []) = chain g (count + 1) next last xs (ms ++ r.moment ∷ []) (es ++ v ∷ []) (r.same ∙ same) t.2 in
       let all : (ms ++ r.moment ∷ []) ++ rest.moments ≡ ms ++ (r.moment ∷ rest.moments) = append_assoc ms (r.moment ∷ []) rest.moments in
       let more : (es ++ v ∷ []) ++ rest.entered ≡ es ++ (v ∷ rest.entered) = append_assoc es (v ∷ []) rest.entered in
@@ -73,18 +73,18 @@ module _ {A D C : Type 0} (desk : A → D) (clock : A → C) (setting : D → Se
       }
 
 -- the reply that was given is that of what the desk answered
-pub replies : {D C T E : Type 0} (setting : D → Setting) (unready : Bool) (seen : D → List Entry) (mine : D → List (ℕ × Entry)) (tick : C → ℕ → C → Type 0) (a b : D) (c d : C) (item : Item) (close : Bool) (moment : ℕ) (shape : Shape) (told : Told) (page bytes : List ℕ) (before after : End) (given : Result T E) → setting b ≡ setting a → tick c moment d → shape ≡ shape_by (setting a).origins item → bytes ≡ page → IsAnswer (setting a) unready (seen a) (seen b) (mine a) (mine b) moment (is_known_early (setting a).hosts item) (asked_by (setting a).hosts item) told page → (text : List ℕ) × IsReplyText shape told bytes close text × Gave before after text given → (text : List ℕ) × AnswersAt setting unready seen mine tick a b c d item close text × Gave before after text given
-replies setting unready seen mine tick a b c d item close moment shape told page bytes before after given same ticks shape_is bytes_are answer reply = (
+pub replies : {D C T E : Type 0} (setting : D → Setting) (unready : Bool) (seen : D → List Entry) (mine : D → List (ℕ × Entry)) (tick : C → ℕ → C → Type 0) (a b : D) (c d : C) (item : Item) (close : Bool) (moment : ℕ) (shape : Shape) (shown : Told) (page bytes : List ℕ) (before after : End) (given : Result T E) → setting b ≡ setting a → tick c moment d → shape ≡ shape_by (setting a).origins item → bytes ≡ page → Shows (setting a) unready (seen a) (seen b) (mine a) (mine b) moment (is_known_early (setting a).hosts item) (asked_by (setting a).hosts item) shown page → (text : List ℕ) × IsReplyText shape shown bytes close text × Gave before after text given → (text : List ℕ) × AnswersAt setting unready seen mine tick a b c d item close text × Gave before after text given
+replies setting unready seen mine tick a b c d item close moment shape shown page bytes before after given same ticks shape_is bytes_are shows reply = (
   reply.0,
   record {
     same = same;
     moment = moment;
     ticks = ticks;
     at = record {
-      told = told;
+      shown = shown;
       page = page;
-      answer = answer;
-      text_is = subst (λ (l : List ℕ). IsReplyText (shape_by (setting a).origins item) told l close reply.0) bytes_are (subst (λ (s : Shape). IsReplyText s told bytes close reply.0) shape_is reply.1);
+      shows = shows;
+      text_is = subst (λ (l : List ℕ). IsReplyText (shape_by (setting a).origins item) shown l close reply.0) bytes_are (subst (λ (s : Shape). IsReplyText s shown bytes close reply.0) shape_is reply.1);
     };
   },
   reply.2,

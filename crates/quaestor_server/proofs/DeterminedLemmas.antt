@@ -1,5 +1,5 @@
 -- Two connections over one history of their own, at the same bytes and moments.
-use Rattle.std.proofs.Common.{◌≡◌, ℕ, ◌+◌, ◌≤◌, ◌++◌, Bool, true, false, nat_lt, List, [], ◌∷◌, length, map, Result, Ok, Err, refl, sym, ap, ◌∙◌, subst, arith, append_assoc, append-nil, length-append}
+use Rattle.std.proofs.Common.{◌≡◌, ℕ, ◌+◌, ◌≤◌, ◌++◌, Bool, true, false, nat_lt, List, [], ◌∷◌, length, map, Result, Ok, Err, refl, sym, ap, ◌∙◌, subst, subst₂, inl, inr, arith, append_assoc, append-nil, length-append}
 use Rattle.std.specs.Prelude.{if◌then◌else◌}
 use Rattle.std.specs.List.{enumerate_from}
 use Rattle.std.proofs.lemmas.List.{append_cancel_left}
@@ -27,7 +27,7 @@ use Rattle.hub_model.specs.State.{State, start}
 use Rattle.hub_model.specs.Step.{after, after_all, state_of}
 use Rattle.q_outside.specs.declared.served.Served.{Served}
 use Rattle.query_normal.specs.declared.key.KeyShape.{KeyShape}
-use Rattle.quaestor_server.specs.Answer.{Serves, Fails, IsAnswer, serves, fails, has_entry}
+use Rattle.quaestor_server.specs.Answer.{Serves, Fails, IsAnswer, IsShown, serves, fails, has_entry}
 use Rattle.quaestor_server.specs.Ask.{asked_by, is_known_early, shape_by, IsEntryOf, IsToldOf, IsFresh}
 use Rattle.quaestor_server.specs.Conversation.{RepliesAt, ConnectionState, Replies}
 use Rattle.quaestor_server.specs.TextsAreDetermined.{IsAlone, StopAlike}
@@ -77,7 +77,7 @@ record Grows (a b : ConnectionState) : Type 0 where
   least : length a.seen + length b.mine ≤ length b.seen + length a.mine
 
 replies_grow : (g : Setting) (unready : Bool) (a b : ConnectionState) (item : Item) (close : Bool) (text : List ℕ) → Replies g unready a item close text b → Grows a b
-replies_grow g unready a b item close text r = elim r.at.answer [
+replies_grow g unready a b item close text r = elim r.at.shows.answer [
   | serves s ↦ let m = makes_more g a.seen b.seen a.mine b.mine s.entry s.replied s.made in record { least = omega (arith, m.seen_is, m.mine_is) }
   | fails why f ↦ let m = learns_more g a.seen b.seen a.mine b.mine f.learns in record { least = omega (arith, m.seen_is, m.mine_is) }
 ]
@@ -271,15 +271,27 @@ record IsOneReply (b c : ConnectionState) (text more : List ℕ) : Type 0 where
   mine_is : b.mine ≡ c.mine
   text_is : text ≡ more
 
-same_at : RepliesHaveOneText → (g : Setting) (unready : Bool) (a b c : ConnectionState) (item : Item) (close : Bool) (text more : List ℕ) (m n : ℕ) → m ≡ n → IsAlone a b → IsAlone a c → (x : RepliesAt g unready a.seen b.seen a.mine b.mine m item close text) (y : RepliesAt g unready a.seen c.seen a.mine c.mine n item close more) → has_entry x.answer ≡ has_entry y.answer → IsOneReply b c text more
-same_at texts g unready a b c item close text more m n e alone lone x y h =
-    let P : ℕ → Type 0 = λ k. (z : RepliesAt g unready a.seen c.seen a.mine c.mine k item close more) → has_entry x.answer ≡ has_entry z.answer → IsOneReply b c text more in
+-- where nothing is to be kept, what was told is shown
+shown_told : (g : Setting) → g.keeps ≡ false → (told shown : Told) → IsShown g told shown → shown ≡ told
+shown_told g none told shown (inl same) = same
+shown_told g none told shown (inr lost) = let no : false ≡ true = sym none ∙ lost.0 in absurd (cc)
+
+-- so what is shown is alike where what was told is
+alike_shown : (g : Setting) → g.keeps ≡ false → (told shown again later : Told) (page pages : List ℕ) → IsShown g told shown → IsShown g again later → AreAlike told again page pages → AreAlike shown later page pages
+alike_shown g none told shown again later page pages p q same =
+    let one : shown ≡ told = shown_told g none told shown p in
+    let other : later ≡ again = shown_told g none again later q in
+    subst₂ (λ (x y : Told). AreAlike x y page pages) (sym one) (sym other) same
+
+same_at : RepliesHaveOneText → (g : Setting) → g.keeps ≡ false → (unready : Bool) (a b c : ConnectionState) (item : Item) (close : Bool) (text more : List ℕ) (m n : ℕ) → m ≡ n → IsAlone a b → IsAlone a c → (x : RepliesAt g unready a.seen b.seen a.mine b.mine m item close text) (y : RepliesAt g unready a.seen c.seen a.mine c.mine n item close more) → has_entry x.shows.answer ≡ has_entry y.shows.answer → IsOneReply b c text more
+same_at texts g none unready a b c item close text more m n e alone lone x y h =
+    let P : ℕ → Type 0 = λ k. (z : RepliesAt g unready a.seen c.seen a.mine c.mine k item close more) → has_entry x.shows.answer ≡ has_entry z.shows.answer → IsOneReply b c text more in
     let here : P m = λ z same.
-    let one = same_answer g unready a.seen b.seen c.seen a.mine b.mine c.mine m (is_known_early g.hosts item) (asked_by g.hosts item) x.told z.told x.page z.page alone lone x.answer z.answer same in
+    let one = same_answer g unready a.seen b.seen c.seen a.mine b.mine c.mine m (is_known_early g.hosts item) (asked_by g.hosts item) x.shows.told z.shows.told x.page z.page alone lone x.shows.answer z.shows.answer same in
     record {
       seen_is = one.seen_is;
       mine_is = one.mine_is;
-      text_is = same_text texts (shape_by g.origins item) x.told z.told x.page z.page close text more one.told_alike x.text_is z.text_is;
+      text_is = same_text texts (shape_by g.origins item) x.shown z.shown x.page z.page close text more (alike_shown g none x.shows.told x.shown z.shows.told z.shown x.page z.page x.shows.shown_is z.shows.shown_is one.told_alike) x.text_is z.text_is;
     } in
     (subst P e here) y h
 
@@ -288,9 +300,9 @@ record IsOneStep (b c : ConnectionState) (text more : List ℕ) : Type 0 where
   connection_state : b ≡ c
   text_is : text ≡ more
 
-same_replies : RepliesHaveOneText → (g : Setting) (unready : Bool) (a b c : ConnectionState) (item : Item) (close : Bool) (text more : List ℕ) (p : Replies g unready a item close text b) (q : Replies g unready a item close more c) → IsAlone a b → IsAlone a c → p.moment ≡ q.moment → has_entry p.at.answer ≡ has_entry q.at.answer → IsOneStep b c text more
-same_replies texts g unready a b c item close text more p q alone lone moments entries =
-    let one = same_at texts g unready a b c item close text more p.moment q.moment moments alone lone p.at q.at entries in
+same_replies : RepliesHaveOneText → (g : Setting) → g.keeps ≡ false → (unready : Bool) (a b c : ConnectionState) (item : Item) (close : Bool) (text more : List ℕ) (p : Replies g unready a item close text b) (q : Replies g unready a item close more c) → IsAlone a b → IsAlone a c → p.moment ≡ q.moment → has_entry p.at.shows.answer ≡ has_entry q.at.shows.answer → IsOneStep b c text more
+same_replies texts g none unready a b c item close text more p q alone lone moments entries =
+    let one = same_at texts g none unready a b c item close text more p.moment q.moment moments alone lone p.at q.at entries in
     record {
       connection_state = connection_state_is b c one.seen_is one.mine_is
           (p.moments_are ∙ ap (λ (m : ℕ). a.moments ++ m ∷ []) moments ∙ sym q.moments_are)
@@ -313,8 +325,8 @@ appended g unready count first last (x ∷ xs) t =
     record {
       moments = r.moment ∷ rest.moments;
       moments_are = rest.moments_are ∙ ap (λ (l : List ℕ). l ++ rest.moments) r.moments_are ∙ append_assoc first.moments (r.moment ∷ []) rest.moments;
-      entered = has_entry r.at.answer ∷ rest.entered;
-      entered_are = rest.entered_are ∙ ap (λ (l : List Bool). l ++ rest.entered) r.entered_are ∙ append_assoc first.entered (has_entry r.at.answer ∷ []) rest.entered;
+      entered = has_entry r.at.shows.answer ∷ rest.entered;
+      entered_are = rest.entered_are ∙ ap (λ (l : List Bool). l ++ rest.entered) r.entered_are ∙ append_assoc first.entered (has_entry r.at.shows.answer ∷ []) rest.entered;
     }
 
 -- equal lists have the same element after the same prefix
@@ -330,11 +342,11 @@ record IsSameConversation (last other : ConnectionState) (xs ys : List Exchange)
   connection_state : last ≡ other
   exchanges : xs ≡ ys
 
-one_by : RepliesHaveOneText → (g : Setting) (unready : Bool) (count : ℕ) (first last other : ConnectionState) (xs ys : List Exchange) → Answered (Replies g unready) count first xs last → Answered (Replies g unready) count first ys other → map (λ (x : Exchange). x.piece) xs ≡ map (λ (y : Exchange). y.piece) ys → map (λ (x : Exchange). x.item) xs ≡ map (λ (y : Exchange). y.item) ys → StopAlike xs ys → IsAlone first last → IsAlone first other → last.moments ≡ other.moments → last.entered ≡ other.entered → IsSameConversation last other xs ys
-one_by texts g unready count first last other [] [] t u ps is stop alone lone moments entered = record { connection_state = sym t ∙ u; exchanges = refl }
-one_by texts g unready count first last other [] (y ∷ ys) t u ps is stop alone lone moments entered = absurd (cc)
-one_by texts g unready count first last other (x ∷ xs) [] t u ps is stop alone lone moments entered = absurd (cc)
-one_by texts g unready count first last other (x ∷ xs) (y ∷ ys) t u ps is stop alone lone moments entered =
+one_by : RepliesHaveOneText → (g : Setting) → g.keeps ≡ false → (unready : Bool) (count : ℕ) (first last other : ConnectionState) (xs ys : List Exchange) → Answered (Replies g unready) count first xs last → Answered (Replies g unready) count first ys other → map (λ (x : Exchange). x.piece) xs ≡ map (λ (y : Exchange). y.piece) ys → map (λ (x : Exchange). x.item) xs ≡ map (λ (y : Exchange). y.item) ys → StopAlike xs ys → IsAlone first last → IsAlone first other → last.moments ≡ other.moments → last.entered ≡ other.entered → IsSameConversation last other xs ys
+one_by texts g none unready count first last other [] [] t u ps is stop alone lone moments entered = record { connection_state = sym t ∙ u; exchanges = refl }
+one_by texts g none unready count first last other [] (y ∷ ys) t u ps is stop alone lone moments entered = absurd (cc)
+one_by texts g none unready count first last other (x ∷ xs) [] t u ps is stop alone lone moments entered = absurd (cc)
+one_by texts g none unready count first last other (x ∷ xs) (y ∷ ys) t u ps is stop alone lone moments entered =
     let piece_is : x.piece ≡ y.piece = cc in
     let item_is : x.item ≡ y.item = cc in
     let stops_is : x.stops ≡ y.stops = cc in
@@ -347,15 +359,15 @@ one_by texts g unready count first last other (x ∷ xs) (y ∷ ys) t u ps is st
     let after_p = appended g unready (count + 1) t.0 last xs t.2 in
     let after_q = appended g unready (count + 1) u.0 other ys u.2 in
     let moment : p.moment ≡ q.moment = same_next first.moments p.moment q.moment after_p.moments after_q.moments last.moments other.moments t.0.moments u.0.moments after_p.moments_are p.moments_are after_q.moments_are q.moments_are moments in
-    let entry : has_entry p.at.answer ≡ has_entry q.at.answer = same_next first.entered (has_entry p.at.answer) (has_entry q.at.answer) after_p.entered after_q.entered last.entered other.entered t.0.entered u.0.entered after_p.entered_are p.entered_are after_q.entered_are q.entered_are entered in
+    let entry : has_entry p.at.shows.answer ≡ has_entry q.at.shows.answer = same_next first.entered (has_entry p.at.shows.answer) (has_entry q.at.shows.answer) after_p.entered after_q.entered last.entered other.entered t.0.entered u.0.entered after_p.entered_are p.entered_are after_q.entered_are q.entered_are entered in
     let grows_p = replies_grow g unready first t.0 x.item (is_last count x) x.answer p in
     let grows_q = replies_grow g unready first u.0 x.item (is_last count x) y.answer q in
     let rest_p = answered_grow g unready (count + 1) t.0 last xs t.2 in
     let rest_q = answered_grow g unready (count + 1) u.0 other ys u.2 in
-    let here = same_replies texts g unready first t.0 u.0 x.item (is_last count x) x.answer y.answer p q (omega (arith, alone, grows_p.least, rest_p.least)) (omega (arith, lone, grows_q.least, rest_q.least)) moment entry in
+    let here = same_replies texts g none unready first t.0 u.0 x.item (is_last count x) x.answer y.answer p q (omega (arith, alone, grows_p.least, rest_p.least)) (omega (arith, lone, grows_q.least, rest_q.least)) moment entry in
     let behind_q : Answered (Replies g unready) (count + 1) t.0 ys other = subst (λ (s : ConnectionState). Answered (Replies g unready) (count + 1) s ys other) (sym here.connection_state) u.2 in
     let lone_behind : IsAlone u.0 other = omega (arith, lone, grows_q.least, rest_q.least) in
-    let rest = one_by texts g unready (count + 1) t.0 last other xs ys t.2 behind_q pieces_are items_are stops_are (omega (arith, alone, grows_p.least, rest_p.least)) (subst (λ (s : ConnectionState). IsAlone s other) (sym here.connection_state) lone_behind) moments entered in
+    let rest = one_by texts g none unready (count + 1) t.0 last other xs ys t.2 behind_q pieces_are items_are stops_are (omega (arith, alone, grows_p.least, rest_p.least)) (subst (λ (s : ConnectionState). IsAlone s other) (sym here.connection_state) lone_behind) moments entered in
     let exchange : x ≡ y = exchange_is x y piece_is item_is here.text_is stops_is in
     let exchanges : xs ≡ ys = rest.exchanges in
     record { connection_state = rest.connection_state; exchanges = cc }
@@ -368,15 +380,15 @@ count_moments g unready count first last (x ∷ xs) t =
     omega (arith, here, count_moments g unready (count + 1) t.0 last xs t.2)
 
 -- two connections over one history of their own
-pub texts_are_determined : SameItems → RepliesHaveOneText → (g : Setting) (unready : Bool) (first last other : ConnectionState) (a b c d : Sides) (served again : Served) (p : Dialogue (Replies g unready) first last a b served) (q : Dialogue (Replies g unready) first other c d again) → IsAlone first last → IsAlone first other → pieces p.passed.exchanges ++ p.passed.rest ≡ pieces q.passed.exchanges ++ q.passed.rest → last.moments ≡ other.moments → last.entered ≡ other.entered → StopAlike p.passed.exchanges q.passed.exchanges → (p.passed.exchanges ≡ q.passed.exchanges) × (last.seen ≡ other.seen) × (last.mine ≡ other.mine)
-texts_are_determined items texts g unready first last other a b c d served again p q alone lone bytes moments entered stop =
+pub texts_are_determined : SameItems → RepliesHaveOneText → (g : Setting) (unready : Bool) (first last other : ConnectionState) (a b c d : Sides) (served again : Served) (p : Dialogue (Replies g unready) first last a b served) (q : Dialogue (Replies g unready) first other c d again) → g.keeps ≡ false → IsAlone first last → IsAlone first other → pieces p.passed.exchanges ++ p.passed.rest ≡ pieces q.passed.exchanges ++ q.passed.rest → last.moments ≡ other.moments → last.entered ≡ other.entered → StopAlike p.passed.exchanges q.passed.exchanges → (p.passed.exchanges ≡ q.passed.exchanges) × (last.seen ≡ other.seen) × (last.mine ≡ other.mine)
+texts_are_determined items texts g unready first last other a b c d served again p q none alone lone bytes moments entered stop =
     let xs = p.passed.exchanges in
     let ys = q.passed.exchanges in
     let here = count_moments g unready 0 first last xs p.answered in
     let there = count_moments g unready 0 first other ys q.answered in
     let same : length last.moments ≡ length other.moments = ap (λ (l : List ℕ). length l) moments in
     let shared = items xs ys p.passed.rest q.passed.rest p.passed.progress.items q.passed.progress.items (omega (arith, here, there, same)) bytes in
-    let one = one_by texts g unready 0 first last other xs ys p.answered q.answered shared.0 shared.1 stop alone lone moments entered in
+    let one = one_by texts g none unready 0 first last other xs ys p.answered q.answered shared.0 shared.1 stop alone lone moments entered in
     (one.exchanges, ap (λ (s : ConnectionState). s.seen) one.connection_state, ap (λ (s : ConnectionState). s.mine) one.connection_state)
 
 -- a desk all of whose history is its own is alone

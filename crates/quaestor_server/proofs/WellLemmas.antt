@@ -52,7 +52,7 @@ adds_made g old new mine mine_new e told m all =
 
 -- so it is after each answer
 adds_answer : (g : Setting) (unready : Bool) (a b : ConnectionState) (item : Item) (close : Bool) (text : List ℕ) → Replies g unready a item close text b → All (HasEntryAt a.seen) a.mine → All (HasEntryAt b.seen) b.mine
-adds_answer g unready a b item close text r all = elim r.at.answer [
+adds_answer g unready a b item close text r all = elim r.at.shows.answer [
   | serves s ↦ adds_made g a.seen b.seen a.mine b.mine s.entry s.replied s.made all
   | fails why f ↦ subst (λ (l : List (ℕ × Entry)). All (HasEntryAt b.seen) l) (sym f.learns.mine) (all_still a.seen b.seen a.mine f.learns.grew all)
 ]

@@ -66,6 +66,11 @@ abbrev pub IsFresh : Setting → List Entry → Entry → Type 0
 IsFresh g known (entries.Read moment key tags at) = length (state_of g known).journal ≤ at
 IsFresh g known e = Unit {0}
 
+-- a write is asked for
+abbrev pub IsWrite : Result Ask Refused → Type 0
+IsWrite (Ok (Write change condition)) = Unit {0}
+IsWrite _ = ⊥
+
 -- the entry of this request may run out of memory after a history: that of a write that would be accepted, of a read, of a list of purges, or of a match where there are commits to match, and no other
 abbrev pub MayRunOut : Setting → List Entry → Result Ask Refused → Type 0
 MayRunOut g known (Ok (Write change condition)) = is_accepted g (state_of g known) change condition ≡ true

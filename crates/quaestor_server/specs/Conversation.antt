@@ -7,16 +7,16 @@ use Rattle.http_message.specs.Item.{Item}
 use Rattle.hub_model.specs.declared.entry.Entry.{Entry}
 use Rattle.hub_model.specs.Setting.{Setting}
 use Rattle.q_outside.specs.declared.served.Served.{Served}
-use Rattle.quaestor_server.specs.Answer.{IsAnswer, has_entry}
+use Rattle.quaestor_server.specs.Answer.{Shows, has_entry}
 use Rattle.quaestor_server.specs.Ask.{asked_by, is_known_early, shape_by}
 
--- An item was answered at a moment: its entry was made or memory ran out, and this is the text of the reply.
+-- An item was answered at a moment: its entry was made or memory ran out, and this is the text of the reply. Where commits are to be kept it may say that they cannot be.
 pub record RepliesAt (g : Setting) (unready : Bool) (old new : List Entry) (mine_old mine_new : List (ℕ × Entry)) (moment : ℕ) (item : Item) (close : Bool) (text : List ℕ) : Type 0 where
-  pub told : Told
+  pub shown : Told
   -- the bytes of the page, if the reply is one
   pub page : List ℕ
-  pub answer : IsAnswer g unready old new mine_old mine_new moment (is_known_early g.hosts item) (asked_by g.hosts item) told page
-  pub text_is : IsReplyText (shape_by g.origins item) told page close text
+  pub shows : Shows g unready old new mine_old mine_new moment (is_known_early g.hosts item) (asked_by g.hosts item) shown page
+  pub text_is : IsReplyText (shape_by g.origins item) shown page close text
 
 -- The state of a connection between two items.
 pub record ConnectionState : Type 0 where
@@ -33,7 +33,7 @@ pub record Replies (g : Setting) (unready : Bool) (a : ConnectionState) (item : 
   pub moment : ℕ
   pub at : RepliesAt g unready a.seen b.seen a.mine b.mine moment item close text
   pub moments_are : b.moments ≡ a.moments ++ moment ∷ []
-  pub entered_are : b.entered ≡ a.entered ++ has_entry at.answer ∷ []
+  pub entered_are : b.entered ≡ a.entered ++ has_entry at.shows.answer ∷ []
 
 -- What one call does to a desk and a clock.
 pub record AnswersAt {D C : Type 0} (setting : D → Setting) (unready : Bool) (seen : D → List Entry) (mine : D → List (ℕ × Entry)) (tick : C → ℕ → C → Type 0) (a b : D) (c d : C) (item : Item) (close : Bool) (text : List ℕ) : Type 0 where

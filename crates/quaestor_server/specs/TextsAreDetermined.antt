@@ -1,5 +1,5 @@
 -- Internal. The bytes, the moments and the positions of 503 determine what is written and which entries are made.
-use Rattle.std.specs.Prelude.{◌≡◌, ℕ, ◌+◌, ◌++◌, Bool, List, length, map}
+use Rattle.std.specs.Prelude.{◌≡◌, ℕ, ◌+◌, ◌++◌, Bool, false, List, length, map}
 use Rattle.std.specs.List.{enumerate_from}
 use Rattle.dialogue.specs.Dialogue.{Sides, Exchange, Dialogue, pieces}
 use Rattle.hub_model.specs.declared.entry.Entry.{Entry}
@@ -21,13 +21,13 @@ OwnedIsAlone =
 abbrev pub StopAlike : List Exchange → List Exchange → Type 0
 StopAlike xs ys = map (λ x. x.stops) xs ≡ map (λ y. y.stops) ys
 
--- two connections over one history, at which no others made entries, took the same bytes at the same moments and
+-- two connections over one history, of which nothing is to be kept on a disk, at which no others made entries, took the same bytes at the same moments and
 -- were answered 503 at the same items, and were stopped alike: they had the same exchanges and made the same entries
 abbrev pub TextsAreDetermined : Type 0
 TextsAreDetermined =
     (g : Setting) (unready : Bool) (first last other : ConnectionState) (a b c d : Sides) (served again : Served)
     (p : Dialogue (Replies g unready) first last a b served) (q : Dialogue (Replies g unready) first other c d again)
-    → IsAlone first last → IsAlone first other
+    → g.keeps ≡ false → IsAlone first last → IsAlone first other
     → pieces p.passed.exchanges ++ p.passed.rest ≡ pieces q.passed.exchanges ++ q.passed.rest
     → last.moments ≡ other.moments → last.entered ≡ other.entered
     → StopAlike p.passed.exchanges q.passed.exchanges

@@ -21,8 +21,8 @@ pub fn owned_histories_are_alone()
     ensures { OwnedIsAlone }
 {}
 
-/// Over a history of the connection's own, the bytes, the moments and the positions of 503 determine what is
-/// written, and which entries are made.
+/// Over a history of the connection's own, of which nothing is to be kept on a disk, the bytes, the moments
+/// and the positions of 503 determine what is written, and which entries are made.
 pub fn bytes_and_moments_determine_the_texts()
     ensures { TextsAreDetermined }
 {

@@ -3,6 +3,7 @@ ghost use Rattle.std.specs.Prelude.{◌≡◌, ◌<◌};
 
 use crate::sinks::{GET, KeptSink, connections_of, requests};
 use hub_core::Config;
+use kept_desk::NoKeeper;
 use q_base::{Memory, Moment};
 use q_outside::{FixedClock, ListDoors, OpenGate, PlainSource, Script, Served};
 use quaestor_serve::{Crew, NoMonitor, ServeEnd, ServeWhy, Trim, serve};
@@ -62,6 +63,7 @@ fn serve_counted<L: Ledger, R: Threads + Wait + Clock + Copy + Send + 'static>(
         &mut doors,
         &clock,
         &OpenGate,
+        &mut NoKeeper,
         &NoMonitor,
         case.crew,
         case.most,

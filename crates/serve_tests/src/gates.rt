@@ -3,6 +3,7 @@ ghost use Rattle.std.specs.Prelude.{◌≡◌, ◌<◌};
 
 use crate::sinks::{KeptSink, connection_of, requests};
 use hub_core::Config;
+use kept_desk::NoKeeper;
 use q_base::{Memory, Moment};
 use q_outside::{FixedClock, HoldGate, ListDoors, PlainSource, Script, Served};
 use quaestor_serve::{Crew, NoMonitor, Trim, serve};
@@ -44,6 +45,7 @@ fn hold_counted<L: Ledger, R: Threads + Wait + Clock + Copy + Send + 'static>(
         &mut doors,
         &clock,
         gate,
+        &mut NoKeeper,
         &NoMonitor,
         crew,
         most,

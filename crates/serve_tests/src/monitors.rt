@@ -4,6 +4,7 @@ ghost use Rattle.std.specs.Prelude.{◌≡◌, ◌<◌};
 use crate::order::{GET, PUT};
 use crate::sinks::{KeptSink, connection_from};
 use hub_core::Config;
+use kept_desk::NoKeeper;
 use q_base::{Commit, Memory, Moment};
 use q_outside::{FixedClock, Gate, ListDoors, PlainSource, Script};
 use quaestor_serve::{Crew, Figures, Monitor, Trim, serve};
@@ -131,6 +132,7 @@ fn watch_counted<L: Ledger, R: Threads + Wait + Clock + Copy + Send + 'static>(
         &mut doors,
         &clock,
         monitor,
+        &mut NoKeeper,
         monitor,
         crew,
         2,

@@ -3,6 +3,7 @@ ghost use Rattle.std.specs.Prelude.{◌≡◌, ◌<◌};
 
 use crate::sinks::{KeptSink, connection_from};
 use hub_core::Config;
+use kept_desk::NoKeeper;
 use q_base::{Memory, Moment};
 use q_outside::{FixedClock, ListDoors, OpenGate, PlainSource, Script};
 use quaestor_serve::{Crew, NoMonitor, Trim, serve};
@@ -68,6 +69,7 @@ fn serve_counted<L: Ledger, R: Threads + Wait + Clock + Copy + Send + 'static>(
         &mut doors,
         &clock,
         &OpenGate,
+        &mut NoKeeper,
         &NoMonitor,
         crew,
         most,

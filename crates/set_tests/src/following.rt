@@ -25,28 +25,20 @@ fn key_of(alloc: Global, kind: Kind) -> Result<Key, Fail> {
     Ok(Key::query(alloc, kind, first_two(alloc)?)?)
 }
 
-/// Their query, followed after the last commit.
-fn active(alloc: Global, book: &Book, kind: Kind) -> Result<Box<ActiveQuery>, Fail> {
-    let normal = first_two(alloc)?;
-    active_of(alloc, book, kind, &normal)
-}
-
-/// A query, followed after the last commit.
-fn active_of(
+/// Adds their query, followed after the last commit, if there is none of its key.
+fn add(
     alloc: Global,
     book: &Book,
+    queries: &mut ActiveQueries,
+    key: &Key,
     kind: Kind,
-    normal: &Normal,
-) -> Result<Box<ActiveQuery>, Fail> {
+) -> Result<(), Fail> {
+    let normal = first_two(alloc)?;
+    let copy = key.clone()?;
+    queries.reserve(key)?;
     let query = ActiveQuery::start(alloc, book, kind, normal.query(), book.count())?;
-    Ok(Box::new(alloc, query)?)
-}
-
-/// Adds a query, if there is none of its key.
-fn add(queries: &mut ActiveQueries, key: &Key, query: Box<ActiveQuery>) -> Result<(), Fail> {
-    queries.reserve()?;
     if queries.get(key).is_none() {
-        queries.add(key.clone()?, Box::into_inner(query));
+        queries.add(copy, query);
     }
     Ok(())
 }
@@ -54,7 +46,7 @@ fn add(queries: &mut ActiveQueries, key: &Key, query: Box<ActiveQuery>) -> Resul
 /// Adds the active query of a kind after the last commit. Returns its key.
 fn start(alloc: Global, book: &Book, queries: &mut ActiveQueries, kind: Kind) -> Result<Key, Fail> {
     let key = key_of(alloc, kind)?;
-    add(queries, &key, active(alloc, book, kind)?)?;
+    add(alloc, book, queries, &key, kind)?;
     Ok(key)
 }
 

@@ -10,7 +10,7 @@ ghost use Rattle.shared_log.specs.Shared.{IsSeated, Knows, KnowsStill, KnowsHand
 
 use crate::log_value::LogValue;
 use crate::lost::Lost;
-use crate::shared::{SharedLog, Sync};
+use crate::shared::{SharedLog, SyncPolicy};
 use crate::steps::Found;
 use commit_book::Change;
 use disks::Disk;
@@ -23,7 +23,8 @@ use std::thread;
 use std::time::Duration;
 use turnstile::Seat;
 
-/// How long a kept moment reaches beyond the clock of the read for which it is kept, in seconds.
+/// How long a kept moment reaches beyond the one that a read wants, in seconds: so one record serves for a
+/// minute.
 const AHEAD: u64 = 60;
 
 /// One who hands records to a shared log, at a seat of its own.
@@ -108,23 +109,23 @@ impl<R: Wait + Clock + Copy + Drop, K: Disk + Drop> LogHand<R, K> {
         self.shared.give_up(&self.rt, &mut self.seat);
     }
 
-    /// Hears that a read was answered at this clock, and hands in, where it is to be, that a later moment is
-    /// kept: no reply of a read at this clock or later is shown before it is.
-    pub fn note_read(&mut self, clock: u64)
-        ensures wanted { min clock greatest_moment < self.new.wanted }
+    /// Hears that a copy of a read's reply may be kept until this moment, in seconds since 1970, and hands in,
+    /// where it is to be, that a later moment is kept: `wait_for` ends only once it is.
+    pub fn note_read(&mut self, until: u64)
+        ensures wanted { min until greatest_moment < self.new.wanted }
         ensures more { self.old.wanted ≤ self.new.wanted }
         ensures known { KnowsStill (arc_value self.new.shared).turnstile self.old.seat self.new.seat }
         ensures same { (arc_value self.new.shared).turnstile ≡ (arc_value self.old.shared).turnstile }
         ensures lost { self.old.has_lost ≡ true → self.new.has_lost ≡ true }
     {
-        let clock = clock.min(GREATEST_SECONDS);
-        self.wanted = self.wanted.max(clock + 1);
+        let until = until.min(GREATEST_SECONDS);
+        self.wanted = self.wanted.max(until + 1);
         if self.wanted <= self.moment {
             return;
         }
         let queued = self
             .shared
-            .queue_moment(&self.rt, &mut self.seat, clock, clock + AHEAD);
+            .queue_moment(&self.rt, &mut self.seat, until, until + AHEAD);
         if queued.is_err() {
             self.has_lost = true;
         }
@@ -183,7 +184,7 @@ impl<R: Wait + Clock + Copy + Drop, K: Disk + Drop> LogHand<R, K> {
 
     /// Waits for others who share the next sync.
     fn gather(&self) {
-        if let Sync::Batch { millis } = self.shared.sync {
+        if let SyncPolicy::Batch { millis } = self.shared.sync {
             thread::sleep(&self.rt, Duration::from_millis(millis));
         }
     }

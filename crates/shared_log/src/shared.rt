@@ -25,7 +25,7 @@ const REST_MILLIS: u64 = 100;
 
 /// What a sync waits for.
 #[derive(Clone, Copy, Debug, PartialEq, Eq)]
-pub enum Sync {
+pub enum SyncPolicy {
     /// Nothing: what is queued is stored at once.
     Always,
     /// Others, for so many milliseconds, so that they share it.
@@ -68,7 +68,7 @@ impl Bell {
 #[derive(Drop)]
 pub struct SharedLog<K: Disk + Drop> {
     pub(crate) turnstile: Turnstile<LogValue<K>>,
-    pub(crate) sync: Sync,
+    pub(crate) sync: SyncPolicy,
     /// It rings where records were stored, or the disk failed.
     pub(crate) stored: Bell,
     /// It rings where a commit was queued for which another waits.
@@ -83,7 +83,7 @@ impl<K: Disk + Drop> SharedLog<K> {
         alloc: Global,
         log: Log<K>,
         at: AtOpening,
-        sync: Sync,
+        sync: SyncPolicy,
     ) -> Result<(SharedLog<K>, Seat<LogValue<K>>), Memory>
         requires { IsReady log.history log.gate }
         ensures seat { IfOk result (λ r. IsSeated r.0.turnstile r.1) }

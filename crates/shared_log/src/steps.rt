@@ -8,7 +8,7 @@ ghost use Rattle.shared_log.specs.Notes.{LogNote};
 use crate::gives::{give_queued, give_stored, give_unchanged};
 use crate::log_value::{LogValue, Unqueued, Work};
 use crate::mark::Mark;
-use crate::shared::{SharedLog, Sync};
+use crate::shared::{SharedLog, SyncPolicy};
 use disks::Disk;
 use q_base::Commit;
 use q_outside::Failed;
@@ -165,7 +165,7 @@ impl<K: Disk + Drop> SharedLog<K> {
 #[tactic(auto, using(crate::proofs::StandLemmas::found_stored))]
 fn found_in<K: Disk + Drop>(
     value: &mut LogValue<K>,
-    sync: Sync,
+    sync: SyncPolicy,
     commits: Commit,
     moment: u64,
     has_waited: bool,
@@ -183,7 +183,7 @@ fn found_in<K: Disk + Drop>(
     if !value.has_work() || (value.is_gathering() && !has_waited) {
         return Found::Nothing;
     }
-    if sync != Sync::Always && !has_waited {
+    if sync != SyncPolicy::Always && !has_waited {
         value.gather();
         return Found::Gather;
     }

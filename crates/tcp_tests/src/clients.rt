@@ -1,6 +1,7 @@
 //! A server at a port of its own, and a client of it.
 
 use hub_core::Config;
+use kept_desk::NoKeeper;
 use q_base::Moment;
 use q_outside::{FixedClock, Limits, OpenGate};
 use quaestor_serve::{Crew, NoMonitor, ServeEnd, Trim, serve};
@@ -43,6 +44,7 @@ where
         &mut doors,
         &clock,
         &OpenGate,
+        &mut NoKeeper,
         &NoMonitor,
         crew,
         1,

@@ -14,7 +14,7 @@ use Rattle.http_front.specs.declared.refused.Refused.{Refused}
 use Rattle.http_front.specs.declared.refused.Refused.TheVariants.{Framing, BadHost, Misdirected, BadTarget, NoRoute, BadMethod, NoLength, BadEncoding, BadTag, BadFilter, BadDocument}
 use Rattle.http_front.specs.declared.shape.Shape.{Shape}
 use Rattle.http_front.specs.declared.told.Told.{Told}
-use Rattle.http_front.specs.declared.told.Told.TheVariants.{Write, Read, Match, Dropped, Page, Count, Purges, Refusal, Memory}
+use Rattle.http_front.specs.declared.told.Told.TheVariants.{Write, Read, Match, Dropped, Page, Count, Purges, Refusal, Memory, Unkept}
 use Rattle.client_wire.specs.Numbers.{body_limit}
 use Rattle.wire_law.specs.Printed.{IsPrinted, ReplyIsRead, printed_head, printed_size}
 use Rattle.wire_law.specs.Told.{ToldIsRead}
@@ -68,6 +68,7 @@ told_sized shape (Purges reply) page close quiet limit =
     ap (λ (n : ℕ). Some n) same
 told_sized shape (Refusal refused clock) page close quiet limit = refusal_sized shape refused clock (length (body_of (Refusal refused clock) page)) close quiet
 told_sized shape Memory page close quiet limit = refl
+told_sized shape Unkept page close quiet limit = refl
 
 not_asked : (shape : Shape) (told : Told) → shape.asks ≡ false → is_asked shape told ≡ false
 not_asked shape (Write written) quiet = refl
@@ -79,6 +80,7 @@ not_asked shape (Count stats) quiet = refl
 not_asked shape (Purges reply) quiet = refl
 not_asked shape (Refusal refused clock) quiet = rw quiet refl
 not_asked shape Memory quiet = refl
+not_asked shape Unkept quiet = refl
 
 body_given : (shape : Shape) (told : Told) (body : List ℕ) → shape.head ≡ false → shape.asks ≡ false → given_body shape told body ≡ body
 body_given shape told body get quiet = rw (not_asked shape told quiet, get) refl

@@ -2,7 +2,6 @@
 use Rattle.std.proofs.Common.{◌≡◌, ℕ, Bool, true, false, ◌+◌, List, [], ◌∷◌, ◌++◌, length, refl, sym, ap, ◌∙◌, append-nil, append_assoc, length-append, arith}
 use Rattle.std.specs.Prelude.{◌<◌, ◌≤◌, ◌^◌, ◌⊎◌, ◌↔◌, if◌then◌else◌, All, Option, Some, Result, Ok, Err, IfOk, OnOk, OnErr}
 use Rattle.std.proofs.Common.{subst, ap₂, inl, inr}
-use Rattle.std.proofs.lemmas.List.FromFn.{length-map-range_with_len}
 use Rattle.q_base.specs.Moment.{greatest_moment}
 use Rattle.std.specs.List.{enumerate_from}
 use Rattle.query_normal.specs.Pages.{Page}
@@ -30,9 +29,10 @@ use Rattle.hub_model.specs.Legal.{IsLegal, MayFollow}
 use Rattle.hub_model.specs.Setting.{IsWithinLimits, Setting}
 use Rattle.hub_model.specs.State.{State, at_moment}
 use Rattle.hub_model.specs.Step.{after_all, state_of}
+use Rattle.hub_model.proofs.Bits.{length-page_bits}
 use Rattle.client_model.specs.declared.reply.Reply.{Reply}
 use Rattle.world_core.specs.Replies.{write_reply}
-use Rattle.world_core.specs.Store.{StoreView, HasGrown, IsSoundStore, after_match, after_page, after_purges, after_write, answer_with, commits_in, entry_with, page_now, purges_now, state_in, store_of, with_entries, written_to}
+use Rattle.world_core.specs.Store.{StoreView, HasGrown, IsSoundStore, after_match, after_page, after_purges, after_write, answer_with, commits_in, entry_with, page_now, purges_now, state_in, state_now, store_of, with_entries, written_to}
 
 -- numbers do not change how many there are
 length-enumerate : {X : Type 0} (n : ℕ) (xs : List X) → length (enumerate_from n xs) ≡ length xs
@@ -333,5 +333,5 @@ page_is covered s within legal few early = record {
   covered = covered s.setting s.entries legal;
   commits = few;
   moment = early;
-  bits = length-map-range_with_len _ 0 (2 ^ s.setting.log2_bits);
+  bits = length-page_bits s.setting (state_now s);
 }

@@ -6,7 +6,7 @@ ghost use Rattle.hub_desk.specs.Seated.{turnstile_of, seat_of, anchor_of};
 
 use super::gives::{give_unchanged, give_with};
 use super::{Seated, rest};
-use crate::desk::Desk;
+use crate::desk::{Desk, Unkept};
 use crate::figures::Figures;
 use crate::hub_value::{HubValue, Noted};
 use crate::trim::{Trim, target_of};
@@ -16,7 +16,7 @@ use hub_model::laws::{commits_are_of_entries, longer_histories_are_later};
 use hub_model::{
     Answer, Change, Condition, Dropped, Entry, Matched, PurgeReply, Stats, Tags, Written,
 };
-use q_base::{Memory, Moment};
+use q_base::{Commit, Memory, Moment};
 use query_normal::Key;
 use std::collections::LinkedList;
 use std::rt::Clock;
@@ -56,6 +56,8 @@ impl<R: Wait + Clock> Desk for Seated<'_, R> {
 
     ghost may_be_unready = { false };
 
+    ghost is_kept = { λ _. Unit {0} };
+
     fn ready(&mut self) -> Result<(), Memory> {
         Ok(())
     }
@@ -81,13 +83,13 @@ impl<R: Wait + Clock> Desk for Seated<'_, R> {
                     change,
                     condition,
                 };
-                let is_behind = value.is_behind();
-                give_with(turn, value, entry, time.end(self.rt));
+                let is_behind = value.is_behind(self.is_paced);
+                self.commits = Some(give_with(turn, value, entry, time.end(self.rt)));
                 self.is_behind = is_behind;
                 Ok(written)
             }
             Err(Memory) => {
-                give_unchanged(turn, value, time.end(self.rt));
+                self.commits = Some(give_unchanged(turn, value, time.end(self.rt)));
                 Err(Memory)
             }
         }
@@ -108,11 +110,11 @@ impl<R: Wait + Clock> Desk for Seated<'_, R> {
                     tags,
                     at,
                 };
-                give_with(turn, value, entry, time.end(self.rt));
+                self.commits = Some(give_with(turn, value, entry, time.end(self.rt)));
                 Ok(answer)
             }
             Err(Memory) => {
-                give_unchanged(turn, value, time.end(self.rt));
+                self.commits = Some(give_unchanged(turn, value, time.end(self.rt)));
                 Err(Memory)
             }
         }
@@ -126,17 +128,22 @@ impl<R: Wait + Clock> Desk for Seated<'_, R> {
         if value.hub().front() < to {
             match value.match_to(moment, to) {
                 Ok(matched) => {
-                    give_with(turn, value, Entry::Match { moment, to }, time.end(self.rt));
+                    self.commits = Some(give_with(
+                        turn,
+                        value,
+                        Entry::Match { moment, to },
+                        time.end(self.rt),
+                    ));
                     Ok(matched)
                 }
                 Err(Memory) => {
-                    give_unchanged(turn, value, time.end(self.rt));
+                    self.commits = Some(give_unchanged(turn, value, time.end(self.rt)));
                     Err(Memory)
                 }
             }
         } else {
             let stats = value.tick(moment);
-            give_with(turn, value, Entry::Tick { moment }, time.end(self.rt));
+            self.commits = Some(give_with(turn, value, Entry::Tick { moment }, time.end(self.rt)));
             Ok(Matched {
                 front: stats.front,
                 clock: stats.clock,
@@ -152,16 +159,16 @@ impl<R: Wait + Clock> Desk for Seated<'_, R> {
         let to = target_of(value.hub(), trim);
         if horizon < to {
             let dropped = value.drop_to(moment, to);
-            give_with(
+            self.commits = Some(give_with(
                 turn,
                 value,
                 Entry::Horizon { moment, to },
                 time.end(self.rt),
-            );
+            ));
             dropped
         } else {
             let stats = value.tick(moment);
-            give_with(turn, value, Entry::Tick { moment }, time.end(self.rt));
+            self.commits = Some(give_with(turn, value, Entry::Tick { moment }, time.end(self.rt)));
             Dropped {
                 horizon,
                 clock: stats.clock,
@@ -174,7 +181,7 @@ impl<R: Wait + Clock> Desk for Seated<'_, R> {
         let mut value = turn.value();
         let time = TurnTime::begin(self.rt, value.is_timed());
         value.fetch(moment, room);
-        give_with(turn, value, Entry::Fetch { moment }, time.end(self.rt));
+        self.commits = Some(give_with(turn, value, Entry::Fetch { moment }, time.end(self.rt)));
     }
 
     fn purges(&mut self, moment: Moment, from: u64) -> Result<PurgeReply, Memory> {
@@ -183,16 +190,16 @@ impl<R: Wait + Clock> Desk for Seated<'_, R> {
         let time = TurnTime::begin(self.rt, value.is_timed());
         match value.purges(moment, from) {
             Ok(reply) => {
-                give_with(
+                self.commits = Some(give_with(
                     turn,
                     value,
                     Entry::Purges { moment, from },
                     time.end(self.rt),
-                );
+                ));
                 Ok(reply)
             }
             Err(Memory) => {
-                give_unchanged(turn, value, time.end(self.rt));
+                self.commits = Some(give_unchanged(turn, value, time.end(self.rt)));
                 Err(Memory)
             }
         }
@@ -203,8 +210,16 @@ impl<R: Wait + Clock> Desk for Seated<'_, R> {
         let mut value = turn.value();
         let time = TurnTime::begin(self.rt, value.is_timed());
         let stats = value.tick(moment);
-        give_with(turn, value, Entry::Tick { moment }, time.end(self.rt));
+        self.commits = Some(give_with(turn, value, Entry::Tick { moment }, time.end(self.rt)));
         stats
+    }
+
+    fn commits(&self) -> Option<Commit> {
+        self.commits
+    }
+
+    fn keep(&mut self) -> Result<(), Unkept> {
+        Ok(())
     }
 
     fn figures(&mut self) -> Figures {
@@ -212,7 +227,7 @@ impl<R: Wait + Clock> Desk for Seated<'_, R> {
         let mut value = turn.value();
         let time = TurnTime::begin(self.rt, value.is_timed());
         let figures = value.figures();
-        give_unchanged(turn, value, time.end(self.rt));
+        self.commits = Some(give_unchanged(turn, value, time.end(self.rt)));
         figures
     }
 }

@@ -22,6 +22,30 @@ impl<'g, R: Wait> Seated<'g, R> {
             turnstile,
             seat,
             is_behind: false,
+            is_paced: true,
+            commits: None,
+        }
+    }
+
+    /// The same, but its writers never rest: before others use the hub nobody drops old changes for whom
+    /// they could wait.
+    pub fn unpaced(
+        rt: &'g R,
+        turnstile: &'g Turnstile<HubValue>,
+        seat: Seat<HubValue>,
+    ) -> Seated<'g, R>
+        requires own { IsSeatOf hub_setting turnstile.now seat }
+        requires idle { IsIdle seat }
+        ensures turnstile { turnstile_of result ≡ turnstile.now }
+        ensures seat { seat_of result ≡ seat }
+    {
+        Seated {
+            rt,
+            turnstile,
+            seat,
+            is_behind: false,
+            is_paced: false,
+            commits: None,
         }
     }
 
@@ -36,6 +60,8 @@ impl<'g, R: Wait> Seated<'g, R> {
             turnstile: _,
             seat,
             is_behind: _,
+            is_paced: _,
+            commits: _,
         } = self;
         seat
     }

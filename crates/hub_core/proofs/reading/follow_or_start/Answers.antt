@@ -1,7 +1,7 @@
 -- the query has seen the last commit, and the queries stay kept
-use Rattle.std.proofs.Common.{sym, ◌∙◌}
+use Rattle.std.proofs.Common.{is_some, ap, sym, ◌∙◌}
 use Rattle.hub_core.proofs.KeepLemmas.{keeps-followed}
-use Rattle.hub_core.proofs.ReadLemmas.{seen-all, copied-some}
+use Rattle.hub_core.proofs.ReadLemmas.{seen-all}
 use Rattle.active_queries.proofs.EntryLemmas.{begun-lookup}
 use Rattle.hub_core.proofs.reading.follow_or_start.Goals as goal
 
@@ -17,5 +17,5 @@ pub returns-in_ok-follow-in-Query-clause-at_hand : goal.returns-in_ok-follow-in-
 returns-in_ok-follow-in-Query-clause-at_hand c =
     seen-all c.args.book.now.journal c.args.key.now c.count.result c.follow.new.self c.count.ensures.count
     (begun-lookup c.args.queries.now.entries c.follow.new.self.entries c.follow.ensures.begun c.args.key.now
-    ∙ copied-some _ c.get.result _ c.get.ensures (sym c.is_some.ensures ∙ c.if-is_some.true))
+    ∙ ap is_some (sym c.get.ensures) ∙ sym c.is_some.ensures ∙ c.if-is_some.true)
     c.in_ok-follow-in-Query.ensures.reached

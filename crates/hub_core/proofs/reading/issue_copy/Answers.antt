@@ -20,7 +20,7 @@ use Rattle.hub_core.specs.ActiveQueries.{KeepsQueries}
 use Rattle.hub_core.specs.Lifetimes.{ids_at}
 use Rattle.hub_core.proofs.HubLemmas.{setting-passed, hub-read}
 use Rattle.hub_core.proofs.LifeLemmas.{estimates-read, lifetime-at, lifetimes-absents, lifetimes-read, may-issue, noted-as}
-use Rattle.hub_core.proofs.ReadLemmas.{kept-passed, kept-issued}
+use Rattle.hub_core.proofs.ReadLemmas.{kept-passed, kept-issued, may-be-added}
 use Rattle.hub_core.proofs.StateLemmas.{copies-later}
 use Rattle.hub_core.proofs.reading.issue_copy.Goals as goal
 
@@ -136,3 +136,7 @@ issue-requires-clause-allowed c = λ some.
     may-issue c.advance.new.self c.args.life.now.estimator c.args.key.now (ids_at c.args.key.now c.args.book.now.journal) c.advance.new.self.clock
     (c.requires.limits ∙ ap (λ (h : CopiesView). limits_of h.setting) (sym c.advance.ensures.passes.rest))
     (subst (λ (n : ℕ). 0 < n) (c.lifetime-estimated.ensures ∙ ap (λ (active : Bool). lifetime c.args.life.now.estimator c.args.key.now (ids_at c.args.key.now c.args.book.now.journal) c.advance.new.self.clock active (active_keys c.advance.new.self.copies)) c.is_active-active.ensures) (c.bound-ttl.ensures.some some))
+
+-- all is ready for the query that was started
+pub add_started-requires : goal.add_started-requires
+add_started-requires c = may-be-added c.args.book.now.journal c.args.key.now c.args.started c.args.queries.now c.requires.at_hand

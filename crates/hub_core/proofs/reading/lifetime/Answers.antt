@@ -15,11 +15,11 @@ key_is c = sym c.shape.ensures ∙ c.in-Query.is ∙ ap (Query c.in-Query.kind) 
 
 pub last_rows-rows-requires-clause-follows : goal.last_rows-rows-requires-clause-follows
 last_rows-rows-requires-clause-follows c =
-    (hand-follows c.args.book.now.journal c.args.key.now c.in-Query.kind c.query.result.now (key_is c) c.args.queries.now c.args.started.now c.in-Some.query.now c.requires.at_hand c.requires.following c.in-Some.ensures).0
+    (hand-follows c.args.book.now.journal c.args.key.now c.in-Query.kind c.query.result.now (key_is c) c.args.queries.now c.args.started.now c.in-Some.query c.requires.at_hand c.requires.following c.in-Some.ensures).0
 
 pub last_rows-rows-requires-clause-seen : goal.last_rows-rows-requires-clause-seen
 last_rows-rows-requires-clause-seen c =
-    (hand-follows c.args.book.now.journal c.args.key.now c.in-Query.kind c.query.result.now (key_is c) c.args.queries.now c.args.started.now c.in-Some.query.now c.requires.at_hand c.requires.following c.in-Some.ensures).1
+    (hand-follows c.args.book.now.journal c.args.key.now c.in-Query.kind c.query.result.now (key_is c) c.args.queries.now c.args.started.now c.in-Some.query c.requires.at_hand c.requires.following c.in-Some.ensures).1
 
 pub returns-in-Some : goal.returns-in-Some
 returns-in-Some c =

@@ -10,8 +10,8 @@ key_is c = sym c.shape.ensures ∙ c.in-Query.is ∙ ap (Query c.in-Query.kind) 
 
 pub active_outcome-requires-clause-follows : goal.active_outcome-requires-clause-follows
 active_outcome-requires-clause-follows c =
-    (hand-follows c.args.book.now.journal c.args.key.now c.in-Query.kind c.query.result.now (key_is c) c.args.queries.now c.args.started.now c.in-Some.query.now c.requires.at_hand c.requires.following c.in-Some.ensures).0
+    (hand-follows c.args.book.now.journal c.args.key.now c.in-Query.kind c.query.result.now (key_is c) c.args.queries.now c.args.started.now c.in-Some.query c.requires.at_hand c.requires.following c.in-Some.ensures).0
 
 pub active_outcome-requires-clause-seen : goal.active_outcome-requires-clause-seen
 active_outcome-requires-clause-seen c =
-    (hand-follows c.args.book.now.journal c.args.key.now c.in-Query.kind c.query.result.now (key_is c) c.args.queries.now c.args.started.now c.in-Some.query.now c.requires.at_hand c.requires.following c.in-Some.ensures).1
+    (hand-follows c.args.book.now.journal c.args.key.now c.in-Query.kind c.query.result.now (key_is c) c.args.queries.now c.args.started.now c.in-Some.query c.requires.at_hand c.requires.following c.in-Some.ensures).1

@@ -1,5 +1,5 @@
 -- one matcher more was joined
-use Rattle.std.proofs.Common.{◌+◌, length, rules, ap, arith}
+use Rattle.std.proofs.Common.{◌+◌, length, ap, arith}
 use Rattle.quaestor_serve.proofs.HallLemmas.{one_less_out, none_out}
 use Rattle.quaestor_serve.proofs.ServesLemmas.{gathered_none, gathered_both, work_rest}
 use Rattle.quaestor_serve.proofs.matchers.join_matchers.Goals as goal

@@ -1,6 +1,7 @@
 -- the cause is that of the last round
-use Rattle.std.proofs.Common.{arith, rules, subst, ◌∙◌}
-use Rattle.quaestor_serve.specs.Kept.{HubTurnstile}
+use Rattle.std.proofs.Common.{◌≡◌, true, arith, rules, sym, ap, subst, ◌∙◌}
+use Rattle.hub_model.specs.Setting.{Setting}
+use Rattle.quaestor_serve.specs.Kept.{HubTurnstile, setting_at}
 use Rattle.quaestor_serve.specs.Matchers.{WorksAt}
 use Rattle.turnstile.specs.Places.{AllOf}
 use Rattle.quaestor_serve.specs.declared.serve_end.ServeWhy.TheVariants.{Memory, Closed, DoorFault}
@@ -9,13 +10,13 @@ use Rattle.quaestor_serve.proofs.serving.ring_all.Goals as goal
 use Rattle.quaestor_serve.proofs.serving.ring_all.Goals.{in-NoMemory, in-Closed, in-Fault}
 
 pub returns-in-loop-given-clause-ends : goal.returns-in-loop-given-clause-ends
-returns-in-loop-given-clause-ends g c = λ first going.
-    let before = c.loop-given.invariant.4 first going in
+returns-in-loop-given-clause-ends g c = λ base first going.
+    let before = c.loop-given.invariant.4 base first going in
     let less = c.loop-given-test.true in
     elim c.match-ring.branch [
-      | in-NoMemory w ↦ ended_by g.P.From.Source.at g.P.To.Sink.at g.P.To.Sink.ended g.C.Clock.tick (g.C.Clone.is_clone c.args.clock.now) first _ _ c.loop-given.given c.args.connections c.match-ring.why Memory w.why-is (w.in-NoMemory.ensures.going first before) (omega (arith, less))
-      | in-Closed w ↦ ended_by g.P.From.Source.at g.P.To.Sink.at g.P.To.Sink.ended g.C.Clock.tick (g.C.Clone.is_clone c.args.clock.now) first _ _ c.loop-given.given c.args.connections c.match-ring.why Closed w.why-is (w.in-Closed.ensures.going first before) less
-      | in-Fault w ↦ let failed = w.in-Fault.ensures.going first before in ended_by g.P.From.Source.at g.P.To.Sink.at g.P.To.Sink.ended g.C.Clock.tick (g.C.Clone.is_clone c.args.clock.now) first _ _ c.loop-given.given c.args.connections c.match-ring.why DoorFault w.why-is failed.0 (less, failed.1)
+      | in-NoMemory w ↦ ended_by g.P.From.Source.at g.P.To.Sink.at g.P.To.Sink.ended g.C.Clock.tick (g.C.Clone.is_clone c.args.clock.now) base first _ _ c.loop-given.given c.args.connections c.match-ring.why Memory w.why-is (w.in-NoMemory.ensures.going base first before) (omega (arith, less))
+      | in-Closed w ↦ ended_by g.P.From.Source.at g.P.To.Sink.at g.P.To.Sink.ended g.C.Clock.tick (g.C.Clone.is_clone c.args.clock.now) base first _ _ c.loop-given.given c.args.connections c.match-ring.why Closed w.why-is (w.in-Closed.ensures.going base first before) less
+      | in-Fault w ↦ let failed = w.in-Fault.ensures.going base first before in ended_by g.P.From.Source.at g.P.To.Sink.at g.P.To.Sink.ended g.C.Clock.tick (g.C.Clone.is_clone c.args.clock.now) base first _ _ c.loop-given.given c.args.connections c.match-ring.why DoorFault w.why-is failed.0 (less, failed.1)
     ]
 
 pub loop-given-preserved : goal.loop-given-preserved
@@ -27,7 +28,11 @@ loop-given-preserved g c = (
   search rules,
   λ others was. c.ring.ensures.out others (c.loop-given.invariant.5 others was),
   c.step_all.ensures.count ∙ c.loop-given.invariant.6,
+  c.ring.ensures.keeper ∙ c.loop-given.invariant.7,
 )
 
 pub returns-in-loop-given-clause-out : goal.returns-in-loop-given-clause-out
 returns-in-loop-given-clause-out g c = λ others was. c.ring.ensures.out others (c.loop-given.invariant.5 others was)
+
+pub ring-requires-clause-keeps : goal.ring-requires-clause-keeps
+ring-requires-clause-keeps g c = λ lifetimes outlives fails. subst (λ (s : Setting). s.keeps ≡ true) (sym (ap setting_at c.loop-given.invariant.2.0)) (c.requires.keeps (sym c.loop-given.invariant.7 ∙ fails))

@@ -1,7 +1,8 @@
--- the desk is made ready, and then answers
-use Rattle.quaestor_server.proofs.AnswerLemmas.{answered_then}
+-- the desk answers, and to wait for what is kept changes nothing of it
+use Rattle.std.proofs.Common.{sym}
+use Rattle.quaestor_server.proofs.AnswerLemmas.{shown_of}
 use Rattle.quaestor_server.proofs.answer.answer.Goals as goal
 
-pub returns-in-Ok-ready-clause-answer : goal.returns-in-Ok-ready-clause-answer
-returns-in-Ok-ready-clause-answer g c = λ early asked is_read known.
-    answered_then _ _ _ _ _ _ _ _ _ c.args.moment early c.args.read c.in-Ok.asked asked _ _ c.in-Ok.is known c.in-Ok-ready.ensures.setting c.in-Ok-ready.ensures.none c.make.ensures.answer
+pub returns-clause-answer : goal.returns-clause-answer
+returns-clause-answer g c = λ early asked is_read known.
+    shown_of _ _ _ _ _ _ _ _ _ c.args.moment early asked _ _ _ (sym c.answer_read-told.ensures.setting) c.kept.ensures.seen c.kept.ensures.mine (c.answer_read-told.ensures.answer early asked is_read known) c.kept.ensures.shown

@@ -1,8 +1,8 @@
-use Rattle.std.proofs.Common.{◌∙◌}
-use Rattle.query_normal.specs.Keys.{same_key}
-use Rattle.indexmap.proofs.CallerLemmas.{insert_entry-new}
+use Rattle.active_queries.proofs.IndexedLemmas.{indexed-added}
 use Rattle.active_queries.proofs.queries.ActiveQueries.add.Goals as goal
 
--- a new key goes last
-pub returns : goal.returns
-returns c = rw (← c.self.view_is) (c.in-Ok.ensures.entries ∙ insert_entry-new same_key c.self.inside.held c.args.key c.args.query (rw (← c.self.view_is) at c.requires.absent))
+-- the key that was ready has its query
+pub invariant_of-self : goal.invariant_of-self
+invariant_of-self c = record {
+  indexed = indexed-added c.self.inside.followers.entries c.add.new.self.entries c.args.key c.args.query c.self.inside.ready c.self.inside.index (rw (← c.self.view_is) at c.requires.ready) c.add.ensures c.self.invariant.indexed;
+}

@@ -9,7 +9,7 @@ use Rattle.quaestor_server.proofs.responder.ResponderAnswers.refuse.Goals as goa
 pub returns-clause-can : goal.returns-clause-can
 returns-clause-can g c =
     let answered = c.answer-told.ensures.answer true (asked_by [] (unframed c.args.refused true c.args.head)) (λ known. refl) refl in
-    let still = can_still _ _ _ _ _ _ _ _ _ _ _ _ _ c.answer-told.ensures.setting c.requires.0 answered c.answer-told.ensures.room in
+    let still = can_still _ _ _ _ _ _ _ _ _ _ _ _ _ c.answer-told.ensures.setting c.requires.0 answered.answer c.answer-told.ensures.room in
     (still.0, still.1, c.requires.2, origins_still _ _ _ c.answer-told.ensures.setting c.requires.3, hosts_still _ _ _ c.answer-told.ensures.setting c.requires.4)
 
 pub returns-clause-reply : goal.returns-clause-reply

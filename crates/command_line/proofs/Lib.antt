@@ -1,0 +1,4 @@
+pub mod CommandLemmas
+mod GivenLemmas
+mod Singles
+pub mod WordLemmas

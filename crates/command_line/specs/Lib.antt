@@ -1,0 +1,5 @@
+pub mod Commands
+pub mod Data
+pub mod Help
+pub mod Watching
+pub mod Words

@@ -1,0 +1,10 @@
+pub mod Filling
+pub mod Kept
+pub mod Optional
+pub use Rattle.hub_desk.specs.HubValue
+pub use Rattle.hub_model.specs.Desk
+pub use Rattle.hub_model.specs.Step
+pub use Rattle.record_log.specs.Opened
+pub use Rattle.record_log.specs.Openings
+pub use Rattle.shared_log.specs.Shared
+pub use Rattle.turnstile.specs.Places

@@ -1,6 +1,0 @@
--- the numbers, and then one option after another
-use Rattle.quaestor_prog.proofs.CommandLemmas.{nine}
-use Rattle.quaestor_prog.proofs.commands.with_config.Goals as goal
-
-pub returns : goal.returns
-returns c = nine _ _ _ _ _ c.in_ok-numbers.ensures c.in_ok-absent.ensures c.in_ok-shared.ensures c.in_ok-hosts.ensures

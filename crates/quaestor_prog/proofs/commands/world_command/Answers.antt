@@ -1,6 +1,0 @@
--- one word after the other
-use Rattle.quaestor_prog.proofs.CommandLemmas.{world_is}
-use Rattle.quaestor_prog.proofs.commands.world_command.Goals as goal
-
-pub returns : goal.returns
-returns c = world_is _ _ _ c.in_ok-bare.ensures c.in_ok-seed.ensures c.in_ok-steps.ensures
