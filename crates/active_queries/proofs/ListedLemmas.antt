@@ -1,10 +1,9 @@
 -- The keys of the queries that list changed commits, and those that a commit may concern.
 use Rattle.std.proofs.Common.{◌≡◌, ℕ, zero, suc, ◌+◌, ◌-◌, ◌<◌, ◌≤◌, Bool, true, false, not, ◌&&◌, ◌||◌, if◌then◌else◌, List, [], ◌∷◌, ◌++◌, length, map, filter, take, get_or, slice_get, position, All, Option, Some, None, IfSome, option_map, is_some, max, nat_lt, refl, sym, ap, ap₂, ◌∙◌, subst, inl, inr, arith, add-one}
 use mathlib.Core.Bool.{beq}
-use Rattle.std.specs.List.{list_any, IsDistinct, AllByRecursion}
+use Rattle.std.specs.List.{list_any, IsDistinct}
 use Rattle.std.specs.Map.{lookup, keys_of}
-use Rattle.std.proofs.lemmas.Bool.{cases_Bool, cases_lt, lt-ltb, ltb-true}
-use Rattle.std.proofs.lemmas.Map.Entries.{lookup_head, lookup_tail}
+use Rattle.std.proofs.lemmas.Bool.{cases_Bool, cases_lt, lt-ltb}
 use Rattle.indexmap.specs.IndexMap.{set_value_at}
 use Rattle.commit_book.specs.declared.change.Change.{Change}
 use Rattle.commit_book.specs.declared.change.CommitRow.{CommitRow}
@@ -20,7 +19,7 @@ use Rattle.query_normal.specs.Keys.{same_key}
 use Rattle.query_normal.specs.SameKey.{same_key-Decides}
 use Rattle.match_index.specs.Candidates.{is_query, passes_key}
 use Rattle.match_sets.specs.Follow.{verdict_on}
-use Rattle.active_queries.specs.Following.{Following, Follows, FollowsKey, AreAbove, IsRowAfter, IsRowOf, forgotten, lifted, raised}
+use Rattle.active_queries.specs.Following.{Following, Follows, AreAbove, IsRowAfter, IsRowOf, forgotten, lifted, raised}
 use Rattle.active_queries.specs.Queries.{GoesOn, AllGoOn, HaveSeen, ListAbove, has_any, has_changed, is_ready, AreListed, AreIndexed, all_forgotten, all_lifted, all_raised}
 use Rattle.active_queries.proofs.EntryLemmas.{All-first, All-rest, All-both, begun-lookup, forgotten-above, keys-forgotten, lookup-written, lookup-others}
 use Rattle.active_queries.proofs.FollowLemmas.{AreTested, seen-passing}

@@ -10,7 +10,7 @@
 //! 2. Before a query sees a commit it takes what is common as its own, so that its own numbers are right.
 //!    Where memory runs out among the queries that a commit may concern, those that have seen it are ahead
 //!    of the common number, which stays.
-ghost use Rattle.std.specs.Prelude.{◌≡◌, ◌≤◌, ◌<◌, ◌-◌, ℕ, ◌&&◌, true, false, if◌then◌else◌, List, [], ◌∷◌, ◌++◌, None, Some, IfSome, OnOk, All, Contains, length, position, slice_get, option_map};
+ghost use Rattle.std.specs.Prelude.{◌≡◌, ◌≤◌, ◌<◌, ◌-◌, ◌&&◌, true, false, if◌then◌else◌, List, [], ◌∷◌, ◌++◌, None, Some, IfSome, OnOk, All, Contains, length, position, slice_get, option_map};
 ghost use Rattle.std.specs.List.{IsDistinct, list_any};
 ghost use Rattle.std.specs.Map.{lookup, keys_of};
 ghost use Rattle.indexmap.specs.IndexMap.{spare};

@@ -1,5 +1,5 @@
 //! The active queries by their keys, and those that a commit may concern.
-ghost use Rattle.std.specs.Prelude.{◌≡◌, ◌≤◌, ◌<◌, ◌-◌, ℕ, true, false, List, [], ◌∷◌, ◌++◌, ◌||◌, ◌&&◌, None, Some, IfSome, OnOk, OnErr, Contains, length, slice_get, option_map};
+ghost use Rattle.std.specs.Prelude.{◌≡◌, ◌≤◌, ◌<◌, ◌-◌, ℕ, false, List, [], ◌∷◌, ◌++◌, ◌||◌, ◌&&◌, None, Some, IfSome, OnOk, OnErr, Contains, length, slice_get, option_map};
 ghost use Rattle.std.specs.List.{IsDistinct, list_any};
 ghost use Rattle.std.specs.Map.{lookup, keys_of};
 ghost use Rattle.commit_book.specs.declared.change.Change.{Change as AChange};

@@ -1,5 +1,5 @@
 //! The file of a store, by a command line.
-ghost use Rattle.std.specs.Prelude.{◌≡◌, IfErr, IfNone, IfOk, IfSome};
+ghost use Rattle.std.specs.Prelude.{IfErr, IfNone, IfOk, IfSome};
 ghost use Rattle.clap.specs.Words.{found_of, rows_of};
 ghost use Rattle.command_line.specs.Data.{AreData, DataAsk, IsSyncText, asked_data};
 ghost use Rattle.command_line.specs.Words.{IsBadValue};

@@ -1,4 +1,4 @@
--- Believed. What a log keeps of a store: its commits, and the moment up to which reads were answered.
+-- Internal. What a log keeps of a store: its commits, and the moment up to which reads were answered.
 use Rattle.std.specs.Prelude.{◌≡◌, ℕ, max, min, List, [], ◌∷◌, length, flat_map}
 use Rattle.std.specs.declared.option.Option.{Option}
 use Rattle.commit_book.specs.declared.change.Change.{Change}

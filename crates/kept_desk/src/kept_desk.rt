@@ -4,8 +4,8 @@
 //! a change is made before the write, so that want of memory leaves all as it was, and is handed on once
 //! the write was accepted. `keep` then waits until all commits that the desk has seen are kept, and a moment
 //! behind the end of each copy of a reply that its hand heard of. So a reply that is given behind it shows no
-//! commit that a crash could take back, whoever made it, and a store that is opened behind one knows until when
-//! copies of the reply may be kept.
+//! commit that a crash could take back, whoever made it, and a store that is opened behind a crash knows
+//! until when copies of the reply may be kept.
 ghost use Rattle.std.specs.Prelude.{◌≡◌, ℕ, true, length};
 ghost use Rattle.hub_model.specs.Step.{state_of};
 

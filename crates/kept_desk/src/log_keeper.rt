@@ -66,8 +66,8 @@ pub struct LogKeeper<R: Wait + Clock + Copy + Drop, K: Disk + Drop, N: Notes + D
 
 impl<R: Wait + Clock + Copy + Drop, K: Disk + Drop, N: Notes + Drop> LogKeeper<R, K, N> {
     /// One who keeps them in the log of a disk, which is read to its end, of a store whose replies caches may
-    /// keep for so many seconds. Where there is none a new log is written. A disk that has something else comes
-    /// back, and so does one whose log is not sound.
+    /// keep for so many seconds. Where there is none a new log is written. A disk that has something else
+    /// comes back, and so does one whose log is not sound.
     pub fn begin(
         rt: R,
         alloc: Global,

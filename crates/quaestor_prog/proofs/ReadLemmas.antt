@@ -1,5 +1,5 @@
 -- What a new session reads after its first page.
-use Rattle.std.proofs.Common.{◌≡◌, ◌≤◌, ℕ, Bool, false, true, List, [], ◌∷◌, Option, Some, None, refl, sym, ap, ◌∙◌, subst, arith}
+use Rattle.std.proofs.Common.{◌≡◌, ◌≤◌, Bool, false, true, [], ◌∷◌, Option, Some, None, refl, sym, ap, ◌∙◌, subst}
 use Rattle.std.specs.Prelude.{Result, Ok, Err, IfOk}
 use Rattle.query_normal.specs.Keys.{key_text}
 use Rattle.query_normal.specs.Pages.{Page}
@@ -8,15 +8,14 @@ use Rattle.flat_snapshot.specs.Sight.{sight_of}
 use Rattle.client_core.specs.Choice.{front_of}
 use Rattle.client_core.specs.declared.level.Level.{Level}
 use Rattle.client_core.specs.declared.level.Level.TheVariants as level
-use Rattle.client_session.specs.Link.{Calls, Exchange, LinkView, Makes, Passed, page}
+use Rattle.client_session.specs.Link.{Exchange, LinkView, Makes, page}
 use Rattle.client_session.specs.Read.{Holds, IsReadBy, IsResult, refused_of, sight_by}
 use Rattle.client_session.specs.Session.{Fetches, HasPast, IsKept, IsRefreshedBy, SessionView, floor_with, is_newer, position_of}
-use Rattle.client_session.specs.declared.ask.LinkRefusal.{LinkRefusal}
 use Rattle.client_session.specs.declared.read_out.ReadOut.{ReadOut}
 use Rattle.client_session.specs.declared.read_out.Refreshed.{Refreshed}
 use Rattle.client_session.specs.declared.refusal.SessionRefusal.{SessionRefusal}
 use Rattle.client_session.specs.declared.refusal.SessionRefusal.TheVariants as refusal
-use Rattle.quaestor_prog.specs.Reading.{HasAnswered, first_position, front_in}
+use Rattle.quaestor_prog.specs.Reading.{HasAnswered, first_position}
 
 -- a new session's floor is 0
 no_floor : (l : Level) (s : SessionView) (key : KeyShape) → HasPast s [] → floor_with l s key ≡ 0

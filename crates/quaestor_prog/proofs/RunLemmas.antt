@@ -23,7 +23,6 @@ use Rattle.quaestor_prog.specs.Reading.{HasRead}
 use Rattle.quaestor_prog.specs.Serving.{HasServed}
 use Rattle.client_session.specs.Link.{Exchange, LinkView}
 use Rattle.command_line.specs.Words.{IsPipe, IsRead, IsServe, IsSimulation, ReadAsk, ServeAsk, ask_of}
-use Rattle.command_line.specs.Data.{asked_data}
 use Rattle.command_line.specs.declared.command_name.Simulation.{Simulation}
 use Rattle.command_line.specs.declared.options.ServeOptions.{ServeOptions}
 use Rattle.command_line.proofs.WordLemmas.{is_data, one_pipe, one_ask, one_read, one_simulation}

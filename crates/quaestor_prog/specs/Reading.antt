@@ -1,5 +1,5 @@
 -- Believed. What a run of `read` does.
-use Rattle.std.specs.Prelude.{◌≡◌, ◌⊎◌, ℕ, ◌≤◌, List, [], ◌∷◌, ◌++◌, Option, Some, None, Result, Ok, Err, IfOk, false, codes, decimal}
+use Rattle.std.specs.Prelude.{◌≡◌, ◌⊎◌, ℕ, ◌≤◌, List, [], ◌∷◌, ◌++◌, Some, None, Result, Ok, Err, IfOk, false, codes, decimal}
 use Rattle.dialogue.specs.Dialogue.{Sides}
 use Rattle.query_normal.specs.Pages.{Page}
 use Rattle.query_normal.specs.Keys.{key_text}

@@ -1,5 +1,5 @@
 //! One connection to a desk: each item is answered by one entry of the desk's history.
-ghost use Rattle.std.specs.Prelude.{◌≡◌, ℕ, true, List, IfOk};
+ghost use Rattle.std.specs.Prelude.{◌≡◌, true, IfOk};
 ghost use Rattle.http_front.specs.Routes.{all_routes};
 ghost use Rattle.hub_model.specs.Legal.{IsLegal};
 ghost use Rattle.q_outside.specs.Ends.{Ticks};

@@ -1,5 +1,5 @@
 //! Who answers the items of a connection to a desk.
-ghost use Rattle.std.specs.Prelude.{◌≡◌, ℕ, Bool, List};
+ghost use Rattle.std.specs.Prelude.{◌≡◌, ℕ, List};
 ghost use Rattle.std.proofs.Common.{◌∙◌, refl};
 ghost use Rattle.http_front.specs.ReplyText.{IsReplyText};
 ghost use Rattle.http_front.specs.Routes.{all_routes};

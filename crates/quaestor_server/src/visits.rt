@@ -2,7 +2,7 @@
 //!
 //! A connection that pauses between two requests gives its buffers back before it waits. So many
 //! connections that are mostly idle share few buffers, and each visit may have others.
-ghost use Rattle.std.specs.Prelude.{◌≡◌, ℕ, List};
+ghost use Rattle.std.specs.Prelude.{◌≡◌};
 ghost use Rattle.dialogue.specs.Visit.{MayGoOn, Rests, Visited};
 ghost use Rattle.hub_model.specs.Legal.{IsLegal};
 ghost use Rattle.hub_model.specs.Setting.{Setting};

@@ -109,8 +109,8 @@ impl<R: Wait + Clock + Copy + Drop, K: Disk + Drop> LogHand<R, K> {
         self.shared.give_up(&self.rt, &mut self.seat);
     }
 
-    /// Hears that a copy of a read's reply may be kept until this moment, in seconds since 1970, and hands in,
-    /// where it is to be, that a later moment is kept: `wait_for` ends only once it is.
+    /// Hears that a copy of a read's reply may be kept until this moment, in seconds since 1970, and hands
+    /// in, where it is to be, that a later moment is kept: `wait_for` ends only once it is.
     pub fn note_read(&mut self, until: u64)
         ensures wanted { min until greatest_moment < self.new.wanted }
         ensures more { self.old.wanted ≤ self.new.wanted }

@@ -1,4 +1,4 @@
-use Rattle.std.proofs.Common.{◌≡◌, ℕ, List, ◌++◌, Some, take, drop, map, slice_get, subst, sym, ap, ◌∙◌, add-one, arith}
+use Rattle.std.proofs.Common.{◌≡◌, ℕ, List, ◌++◌, Some, take, drop, map, slice_get, subst, sym, ap, ◌∙◌, add-one}
 use Rattle.indexmap.specs.IndexMap.{set_value_at}
 use Rattle.query_normal.specs.declared.key.KeyShape.{KeyShape}
 use Rattle.active_queries.specs.Following.{Following, lifted}

@@ -1,5 +1,5 @@
 -- the file has a keeper, or it is refused
-use Rattle.std.proofs.Common.{Bool, refl, sym, ap, ◌∙◌, inl, inr}
+use Rattle.std.proofs.Common.{Bool, refl, ap, ◌∙◌, inl, inr}
 use Rattle.hub_model.specs.Setting.{Setting}
 use Rattle.quaestor_prog.specs.Serving.{guarded}
 use Rattle.quaestor_prog.proofs.RunLemmas.{kept_as, none_timed}

@@ -1,5 +1,5 @@
 -- the words ask for one thing, or for none
-use Rattle.std.proofs.Common.{refl, inl, inr, ◌∙◌}
+use Rattle.std.proofs.Common.{refl, inl, inr}
 use Rattle.command_line.proofs.CommandLemmas.{pipe_serve, pipe_read, pipe_simulation, pipe_taken, serve_read, serve_simulation, serve_taken, read_simulation, read_taken, simulation_taken, no_help, help_asked}
 use Rattle.quaestor_prog.proofs.RunLemmas.{run_of, run_over_of, data_of, serve_keeps, none_timed, served_of, read_of, simulated_of}
 use Rattle.quaestor_prog.proofs.program.run.Goals as goal

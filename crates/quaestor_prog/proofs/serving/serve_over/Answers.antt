@@ -1,5 +1,5 @@
 -- the configuration has the guard of what is kept
-use Rattle.std.proofs.Common.{◌≡◌, Bool, ap, ◌∙◌, subst}
+use Rattle.std.proofs.Common.{Bool, ap, ◌∙◌, subst}
 use Rattle.hub_model.specs.Setting.{Setting}
 use Rattle.quaestor_prog.specs.Serving.{guarded}
 use Rattle.quaestor_prog.proofs.ServingLemmas.{guarded_keeps}

@@ -1,4 +1,3 @@
-use Rattle.std.proofs.Common.{ap}
 use Rattle.active_queries.proofs.LiftLemmas.{all-begun, on-following, on-seen, on-above}
 use Rattle.active_queries.proofs.ListedLemmas.{indexed-on}
 use Rattle.active_queries.proofs.queries.ActiveQueries.follow.Goals as goal

@@ -1,4 +1,4 @@
-use Rattle.std.proofs.Common.{Option, None, ap, subst, sym, ◌∙◌}
+use Rattle.std.proofs.Common.{Option, subst}
 use Rattle.query_normal.specs.declared.key.KeyShape.{KeyShape}
 use Rattle.active_queries.specs.Queries.{AreIndexed}
 use Rattle.active_queries.proofs.IndexedLemmas.{indexed-more}
