@@ -12,8 +12,6 @@ pub mod laws;
 mod past;
 mod refusal;
 mod row;
-#[cfg(test)]
-mod tests;
 
 pub use book::Book;
 pub use change::{Change, CommitRow};

@@ -6,6 +6,3 @@ mod filter;
 pub mod laws;
 
 pub use filter::CountingFilter;
-
-#[cfg(test)]
-mod tests;

@@ -10,6 +10,3 @@ mod timed;
 
 pub use map::ExpiringMap;
 pub use timed::Timed;
-
-#[cfg(test)]
-mod tests;

@@ -12,6 +12,3 @@ pub use page::Page;
 pub use read::{PageHead, PageRefusal, head_in};
 pub use sight::{KeyMark, Sight, look_into, sight_at};
 pub use write::{set_bit, write_head, write_page};
-
-#[cfg(test)]
-mod tests;

@@ -12,6 +12,3 @@ pub use commits::Commits;
 pub use entry::{
     Answer, Condition, Dropped, Entry, Found, Matched, Outcome, PurgeReply, Stats, Tags, Written,
 };
-
-#[cfg(test)]
-mod tests;

@@ -13,6 +13,3 @@ pub use laws::{
     calls_leave_the_unexpired_copies, same_copies_answer_alike, same_copies_by_commit,
     same_copies_stay,
 };
-
-#[cfg(test)]
-mod tests;

@@ -9,6 +9,3 @@ mod purges;
 pub use last_changes::LastChanges;
 pub use order::sort_by_text;
 pub use purges::Purges;
-
-#[cfg(test)]
-mod tests;

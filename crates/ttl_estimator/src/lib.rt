@@ -13,6 +13,3 @@ mod records;
 pub use estimator::Estimator;
 pub use laws::{calls_leave_rates_and_estimates, calls_of_a_history_give_its_lifetimes};
 pub use limits::Limits;
-
-#[cfg(test)]
-mod tests;

@@ -1,6 +1,6 @@
 //! What no clause says: that calls succeed where there is memory.
 
-use crate::ExpiringMap;
+use expiring_map::ExpiringMap;
 use q_base::{Moment, Name};
 use query_normal::Key;
 use std::alloc::Global;

@@ -1,6 +1,6 @@
 //! What no clause says: known vectors, and that a page is read where there is memory.
 
-use crate::{Page, PageRefusal, set_bit, write_head};
+use flat_snapshot::{Page, PageRefusal, set_bit, write_head};
 use q_base::{Moment, Name, positions_of};
 use query_normal::Key;
 use std::alloc::Global;

@@ -1,7 +1,7 @@
 //! What no clause says: that calls succeed where there is memory, and a key whose positions repeat.
 ghost use Rattle.std.specs.Prelude.{◌≡◌};
 
-use crate::CountingFilter;
+use expiring_filter::CountingFilter;
 use q_base::{Moment, Name, positions_of};
 use query_normal::Key;
 use std::alloc::Global;

@@ -1,11 +1,11 @@
 //! What no clause says: that calls succeed where there is memory.
 
-use crate::{Estimator, Limits};
 use q_base::{Moment, Name};
 use query_core::{Filter, Form, Kind, Order, Query};
 use query_normal::{Key, normal};
 use std::alloc::Global;
 use std::test::Fail;
+use ttl_estimator::{Estimator, Limits};
 
 fn name(alloc: Global, bytes: &[u8]) -> Result<Name, Fail> {
     Ok(Name::read(alloc, bytes)?)

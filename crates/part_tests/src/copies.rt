@@ -1,6 +1,6 @@
 //! What no clause says: that calls succeed where there is memory.
 
-use crate::Expiries;
+use issued_expiries::Expiries;
 use q_base::{Moment, Name};
 use query_normal::Key;
 use std::alloc::Global;

@@ -2,7 +2,7 @@
 //! and that look-ups take none. A function here takes one step, since the time of its proof grows
 //! faster than its length.
 
-use crate::{Book, BookRefusal, Change};
+use commit_book::{Book, BookRefusal, Change};
 use q_base::{Name, SharedText};
 use q_doc::Doc;
 use std::alloc::Global;

@@ -1,6 +1,6 @@
 //! What no clause says: that calls succeed where there is memory.
 
-use crate::{LastChanges, Purges, sort_by_text};
+use purge_list::{LastChanges, Purges, sort_by_text};
 use q_base::Name;
 use query_normal::Key;
 use std::alloc::Global;

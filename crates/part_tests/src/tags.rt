@@ -1,6 +1,6 @@
 //! What no clause says: that the calls succeed where there is memory.
 
-use crate::{Commits, Condition, Found, Tags};
+use hub_model::{Commits, Condition, Found, Tags};
 use std::test::Fail;
 
 #[test]
