@@ -6,7 +6,6 @@ use Rattle.clap.specs.declared.builder.command.Command.{Command}
 use Rattle.clap.specs.declared.parser.matches.ArgMatches.{ArgMatches}
 use Rattle.clap.specs.declared.error.kind.ErrorKind.{ErrorKind}
 use Rattle.clap.specs.declared.error.kind.ErrorKind.TheVariants as kind
-use Rattle.hub_model.specs.Setting.{Setting}
 use Rattle.command_line.specs.Commands.{flag_rule, option_rule, word_rule, with_data_rules, with_limit_rules, with_number_rules, with_setting_rules, with_watch_rules, versioned, app_named, name_of, pipe_app, serve_app, read_app, simulation_app, program_app, IsNamed, NamesNone, FaultsAre, IsAnswered, AskHelp}
 use Rattle.command_line.specs.Help.{help_of, IsHelpOf, IsShownFor}
 use Rattle.command_line.specs.declared.command_name.CommandName.{CommandName}
@@ -15,7 +14,7 @@ use Rattle.command_line.specs.declared.command_name.Simulation.{Simulation}
 use Rattle.command_line.specs.declared.command_name.Simulation.TheVariants as simulation
 use Rattle.command_line.specs.declared.help.HelpText.{HelpText}
 use Rattle.command_line.specs.declared.help.HelpText.TheVariants as texts
-use Rattle.command_line.specs.Words.{AreAsked, AreGiven, AreOptions, AreRun, AreReadOptions, AreServeOptions, AreSimulationOptions, AreTaken, Asks, IsAnswerOf, IsCommand, IsFound, IsPipe, IsPipeOf, IsRead, IsServe, IsServeOf, IsSimulation, ReadAsk, ServeAsk, ask_of, read_ask_of}
+use Rattle.command_line.specs.Words.{AreAsked, AreGiven, ArePipeOptions, AreRun, AreReadOptions, AreServeOptions, AreSimulationOptions, AreTaken, Asks, IsAnswerOf, IsCommand, IsFound, IsPipe, IsPipeOf, IsRead, IsServe, IsServeOf, IsSimulation, PipeAsk, ReadAsk, ServeAsk, ask_of, pipe_ask_of, read_ask_of}
 use Rattle.command_line.specs.declared.options.Invocation.{Invocation}
 use Rattle.command_line.specs.declared.options.Invocation.TheVariants.{Pipe, Serve, Read, Simulate, Help, Invalid}
 use Rattle.command_line.specs.declared.refusal.Refusal.TheVariants as why
@@ -192,8 +191,8 @@ runs : (command : CommandName) (words : List Text) → IsNamed command words →
 runs command words named (other, is) = subst (λ (c : CommandName). IsCommand c (AreAsked c) words) (one_command other command words is.named named) is
 
 -- words that ask for something are taken
-pub pipe_taken : (words : List Text) (g : Setting) (at : Option ℕ) → IsPipe words g at → AreTaken words
-pipe_taken words g at is = inl (name.Pipe, record { named = is.named; taken = is.taken; found = (g, at, is.found) })
+pub pipe_taken : (words : List Text) (ask : PipeAsk) → IsPipe words ask → AreTaken words
+pipe_taken words ask is = inl (name.Pipe, record { named = is.named; taken = is.taken; found = (ask, is.found) })
 
 pub serve_taken : (words : List Text) (ask : ServeAsk) → IsServe words ask → AreTaken words
 serve_taken words ask is = inl (name.Serve, record { named = is.named; taken = is.taken; found = (ask, is.found) })
@@ -246,7 +245,7 @@ refused command words named taken none (inr help) = nothing_answered _ taken (fa
 
 -- what clap found says what the words of a command ask for
 asks_found : {E : Type 0} (command : CommandName) (words : List Text) (r : Result Invocation E) → IsNamed command words → fault_of (app_named command) words ≡ [] → IfOk r (IsFound command (matches_of (app_named command) words)) → IfOk r (Asks words)
-asks_found command words (Ok (Pipe p)) named taken found = subst (λ (c : CommandName). IsCommand c (λ rows. AreOptions rows p.config p.clock) words) found.0 (record { named = named; taken = taken; found = found.1 })
+asks_found command words (Ok (Pipe p)) named taken found = subst (λ (c : CommandName). IsCommand c (λ rows. ArePipeOptions rows (pipe_ask_of p)) words) found.0 (record { named = named; taken = taken; found = found.1 })
 asks_found command words (Ok (Serve s)) named taken found = subst (λ (c : CommandName). IsCommand c (λ rows. AreServeOptions rows (ask_of s)) words) found.0 (record { named = named; taken = taken; found = found.1 })
 asks_found command words (Ok (Read r)) named taken found = subst (λ (c : CommandName). IsCommand c (λ rows. AreReadOptions rows (read_ask_of r)) words) found.0 (record { named = named; taken = taken; found = found.1 })
 asks_found command words (Ok (Simulate s)) named taken found = subst (λ (c : CommandName). IsCommand c (λ rows. AreSimulationOptions s.which rows s.seed s.steps) words) found.0 (record { named = named; taken = taken; found = found.1 })
@@ -263,14 +262,14 @@ command_found command a words m r named e has none found =
     asks_found command words r named (taken_are a (app_named command) words e (free command) none) (subst (λ rows. IfOk r (IsFound command rows)) (rows_are command a words m e has) found)
 
 -- to serve by these options is what was found for them
-pub pipe_found : {E : Type 0} (found : List Row) (g : Setting) (at : Option ℕ) (r : Result Invocation E) → AreOptions found g at → IfOk r (IsPipeOf g at) → IfOk r (IsFound name.Pipe found)
-pipe_found found g at (Ok (Pipe p)) options is = (refl, subst (λ (k : Setting). AreOptions found k p.clock) (sym is.0) (subst (AreOptions found g) (sym is.1) options))
-pipe_found found g at (Ok (Serve s)) options is = absurd is
-pipe_found found g at (Ok (Read r)) options is = absurd is
-pipe_found found g at (Ok (Simulate s)) options is = absurd is
-pipe_found found g at (Ok (Help t)) options is = absurd is
-pipe_found found g at (Ok (Invalid f)) options is = absurd is
-pipe_found found g at (Err e) options is = tt
+pub pipe_found : {E : Type 0} (found : List Row) (ask : PipeAsk) (r : Result Invocation E) → ArePipeOptions found ask → IfOk r (IsPipeOf ask) → IfOk r (IsFound name.Pipe found)
+pipe_found found ask (Ok (Pipe p)) options is = (refl, subst (ArePipeOptions found) (sym is) options)
+pipe_found found ask (Ok (Serve s)) options is = absurd is
+pipe_found found ask (Ok (Read r)) options is = absurd is
+pipe_found found ask (Ok (Simulate s)) options is = absurd is
+pipe_found found ask (Ok (Help t)) options is = absurd is
+pipe_found found ask (Ok (Invalid f)) options is = absurd is
+pipe_found found ask (Err e) options is = tt
 
 pub serve_found : {E : Type 0} (found : List Row) (ask : ServeAsk) (r : Result Invocation E) → AreServeOptions found ask → IfOk r (IsServeOf ask) → IfOk r (IsFound name.Serve found)
 serve_found found ask (Ok (Serve s)) options is = (refl, subst (AreServeOptions found) (sym is) options)

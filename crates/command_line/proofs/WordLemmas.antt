@@ -21,7 +21,7 @@ use Rattle.command_line.specs.declared.command_name.CommandName.TheVariants.{Sim
 use Rattle.command_line.specs.declared.command_name.Simulation.{Simulation}
 use Rattle.command_line.specs.declared.command_name.Simulation.TheVariants.{World, Crash}
 use Rattle.command_line.proofs.CommandLemmas.{one_command}
-use Rattle.command_line.specs.Words.{IsArgument, IsCount, IsNumber, IsNumberIn, IsClock, IsConfiguration, IsLifetime, IsPipe, IsSetting, IsServe, IsRead, IsTrim, IsSimulation, AreLimits, AreNames, AreServeOptions, AreWatching, ReadAsk, ServeAsk, are_hosts, are_origins, is_given, level_word}
+use Rattle.command_line.specs.Words.{IsArgument, IsCount, IsNumber, IsNumberIn, IsClock, IsConfiguration, IsLifetime, ArePipeOptions, IsPipe, IsSetting, IsServe, IsRead, IsTrim, IsSimulation, AreLimits, AreNames, AreServeOptions, AreWatching, PipeAsk, ReadAsk, ServeAsk, are_hosts, are_origins, is_given, level_word}
 use Rattle.command_line.specs.Watching.{WatchAsk}
 use Rattle.command_line.specs.Data.{DataAsk, AreData, IsSync, IsSyncText, asked_data}
 use Rattle.command_line.specs.declared.store.Data.{Data}
@@ -119,10 +119,6 @@ one_setting found g h p q origins = one_configuration found g h p.numbers q.numb
     (one_lifetime _ _ _ p.shared q.shared)
     (p.keeps ∙ sym q.keeps)
     (p.guard ∙ sym q.guard)
-
--- words ask for one configuration and one clock
-pub one_pipe : (words : List Text) (g h : Setting) (a b : Option ℕ) → IsPipe words g a → IsPipe words h b → (g ≡ h) × (a ≡ b)
-one_pipe words g h a b p q = (one_setting _ g h p.found.0 q.found.0 (p.found.1 ∙ sym q.found.1), one_clock _ a b p.found.2 q.found.2)
 
 -- the number of connections of a text, and where none is given
 pub count_some : (given : Option Text) (t : Text) (n : ℕ) → given ≡ Some t → (t ≡ decimal n) × (1 ≤ n) × (n ≤ MOST_CONNECTIONS) → IsCount given n
@@ -287,6 +283,19 @@ one_options found a b p q = same_ask a b
     (one_limits found a.limits b.limits p.limits q.limits)
     (one_watch found a.watching b.watching p.watching q.watching)
     (one_data found a.store b.store p.store q.store)
+
+-- words ask `pipe` for one thing
+same_pipe : (a b : PipeAsk) → a.setting ≡ b.setting → a.at ≡ b.at → a.store ≡ b.store → a ≡ b
+same_pipe a b p q r = λ i. record { setting = p i; at = q i; store = r i }
+
+one_pipe_options : (found : List Row) (a b : PipeAsk) → ArePipeOptions found a → ArePipeOptions found b → a ≡ b
+one_pipe_options found a b p q = same_pipe a b
+    (one_setting found a.setting b.setting p.setting q.setting (p.origins ∙ sym q.origins))
+    (one_clock (first_of (codes "clock") found) a.at b.at p.clock q.clock)
+    (one_data found a.store b.store p.store q.store)
+
+pub one_pipe : (words : List Text) (a b : PipeAsk) → IsPipe words a → IsPipe words b → a ≡ b
+one_pipe words a b p q = one_pipe_options _ a b p.found q.found
 
 -- what holds anyway holds of an error
 pub of_error : {T E : Type 0} (Q : Type 0) (r : Result T E) → Q → IfErr r (λ _. Q)

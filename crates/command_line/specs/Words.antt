@@ -31,6 +31,7 @@ use Rattle.command_line.specs.declared.refusal.Refusal.{Refusal}
 use Rattle.command_line.specs.declared.refusal.Refusal.TheVariants as why
 use Rattle.shared_log.specs.declared.shared.SyncPolicy.{SyncPolicy}
 use Rattle.command_line.specs.declared.options.Invocation.{Invocation}
+use Rattle.command_line.specs.declared.options.PipeOptions.{PipeOptions}
 use Rattle.command_line.specs.declared.options.ServeOptions.{ServeOptions}
 use Rattle.command_line.specs.declared.options.ReadOptions.{ReadOptions}
 use Rattle.command_line.specs.declared.options.Names.{Names}
@@ -100,9 +101,21 @@ pub record IsSetting (found : List Row) (g : Setting) : Type 0 where
   pub keeps : g.keeps ≡ is_some (first_of (codes "data") found)
   pub guard : g.guard ≡ 0
 
--- the options of `pipe`: a configuration, which names no origins of pages, the moment of a fixed clock, and a file
-abbrev pub AreOptions : List Row → Setting → Option ℕ → Type 0
-AreOptions found g at = IsSetting found g × (g.origins ≡ []) × IsClock (first_of (codes "clock") found) at × ((store : DataAsk) × AreData found store)
+-- what `pipe` is asked for
+pub record PipeAsk : Type 0 where
+  pub setting : Setting
+  -- the moment of a fixed clock
+  pub at : Option ℕ
+  -- where the store is kept
+  pub store : DataAsk
+
+-- The options of `pipe`, by what clap found for each: a configuration, which names no origins of pages, a clock and a file.
+pub record ArePipeOptions (found : List Row) (ask : PipeAsk) : Type 0 where
+  pub setting : IsSetting found ask.setting
+  pub origins : ask.setting.origins ≡ []
+  pub clock : IsClock (first_of (codes "clock") found) ask.at
+  -- the file that keeps the store, and what a sync of it waits for
+  pub store : AreData found ask.store
 
 -- what `serve` is asked for
 pub record ServeAsk : Type 0 where
@@ -202,9 +215,9 @@ pub record IsCommand (command : CommandName) (such : List Row → Type 0) (words
   pub taken : fault_of (app_named command) words ≡ []
   pub found : such (matches_of (app_named command) words)
 
--- the words are `pipe` and options, which ask for this configuration and this clock
-abbrev pub IsPipe : List Text → Setting → Option ℕ → Type 0
-IsPipe words g at = IsCommand name.Pipe (λ found. AreOptions found g at) words
+-- the words are `pipe` and options, which ask for this
+abbrev pub IsPipe : List Text → PipeAsk → Type 0
+IsPipe words ask = IsCommand name.Pipe (λ found. ArePipeOptions found ask) words
 
 -- the words are `serve`, an address and options, which ask for this
 abbrev pub IsServe : List Text → ServeAsk → Type 0
@@ -220,7 +233,7 @@ IsSimulation words which seed steps = IsCommand (name.Simulate which) (λ found.
 
 -- what clap found for the options and words of a command asks for something
 abbrev pub AreAsked : CommandName → List Row → Type 0
-AreAsked name.Pipe found = (g : Setting) × (at : Option ℕ) × AreOptions found g at
+AreAsked name.Pipe found = (ask : PipeAsk) × ArePipeOptions found ask
 AreAsked name.Serve found = (ask : ServeAsk) × AreServeOptions found ask
 AreAsked name.Read found = (ask : ReadAsk) × AreReadOptions found ask
 AreAsked (name.Simulate which) found = (seed : ℕ) × (steps : ℕ) × AreSimulationOptions which found seed steps
@@ -285,6 +298,14 @@ IsReason words (why.Words error) = FaultsAre (IsAmong (kind_of error)) words
 IsReason words (why.Value value) = (command : CommandName) × IsCommand command (λ found. IsBadValue found value) words
 
 -- what options ask for
+abbrev pub pipe_ask_of : PipeOptions → PipeAsk
+pipe_ask_of p = record { setting = p.config; at = p.clock; store = asked_data p.store }
+
+-- the same, with these hosts in its configuration
+abbrev pub piped_with : PipeOptions → (hosts : Text) → PipeAsk
+piped_with p hosts = record (pipe_ask_of p) { setting = record p.config { hosts = hosts } }
+
+-- the same of `serve`
 abbrev pub ask_of : ServeOptions → ServeAsk
 ask_of s = record {
   address = s.address.now;
@@ -316,14 +337,14 @@ abbrev pub IsServeOf : ServeAsk → Invocation → Type 0
 IsServeOf ask (Serve s) = ask_of s ≡ ask
 IsServeOf ask other = ⊥
 
--- to serve one connection in this configuration by this clock
-abbrev pub IsPipeOf : Setting → Option ℕ → Invocation → Type 0
-IsPipeOf g at (Pipe p) = (p.config ≡ g) × (p.clock ≡ at)
-IsPipeOf g at other = ⊥
+-- to serve one connection as is asked for
+abbrev pub IsPipeOf : PipeAsk → Invocation → Type 0
+IsPipeOf ask (Pipe p) = pipe_ask_of p ≡ ask
+IsPipeOf ask other = ⊥
 
 -- what the words ask for
 abbrev pub Asks : List Text → Invocation → Type 0
-Asks words (Pipe p) = IsPipe words p.config p.clock
+Asks words (Pipe p) = IsPipe words (pipe_ask_of p)
 Asks words (Serve s) = IsServe words (ask_of s)
 Asks words (Read r) = IsRead words (read_ask_of r)
 Asks words (Simulate s) = IsSimulation words s.which s.seed s.steps
@@ -350,7 +371,7 @@ AreGiven (name.Simulate which) found = (is_some (first_of (codes "SEED") found) 
 
 -- what clap found for a command asks for this, or a value is refused, with which it asks for nothing
 abbrev pub IsFound : CommandName → List Row → Invocation → Type 0
-IsFound command found (Pipe p) = (command ≡ name.Pipe) × AreOptions found p.config p.clock
+IsFound command found (Pipe p) = (command ≡ name.Pipe) × ArePipeOptions found (pipe_ask_of p)
 IsFound command found (Serve s) = (command ≡ name.Serve) × AreServeOptions found (ask_of s)
 IsFound command found (Read r) = (command ≡ name.Read) × AreReadOptions found (read_ask_of r)
 IsFound command found (Simulate s) = (command ≡ name.Simulate s.which) × AreSimulationOptions s.which found s.seed s.steps

@@ -135,6 +135,8 @@ where
 
     ghost tells = { λ _ _. Unit {0} };
 
+    ghost opens = { λ _ _ _ _ _. Unit {0} };
+
     ghost links = { λ _ _ _ _. Unit {0} };
 
     fn listen(

@@ -17,13 +17,15 @@ use Rattle.quaestor_prog.specs.Status.{status_of}
 use Rattle.clap.specs.Words.{Text}
 use Rattle.q_outside.specs.Doors.{DoorsView}
 use Rattle.q_outside.specs.declared.limits.Limits.{Limits}
+use Rattle.command_line.specs.Data.{DataAsk}
 use Rattle.command_line.specs.Watching.{WatchAsk}
 use Rattle.quaestor_prog.specs.Places.{PlacesView}
 use Rattle.quaestor_prog.specs.Reading.{HasRead}
 use Rattle.quaestor_prog.specs.Serving.{HasServed}
 use Rattle.client_session.specs.Link.{Exchange, LinkView}
-use Rattle.command_line.specs.Words.{IsPipe, IsRead, IsServe, IsSimulation, ReadAsk, ServeAsk, ask_of}
+use Rattle.command_line.specs.Words.{IsPipe, IsRead, IsServe, IsSimulation, PipeAsk, ReadAsk, ServeAsk, ask_of, pipe_ask_of}
 use Rattle.command_line.specs.declared.command_name.Simulation.{Simulation}
+use Rattle.command_line.specs.declared.options.PipeOptions.{PipeOptions}
 use Rattle.command_line.specs.declared.options.ServeOptions.{ServeOptions}
 use Rattle.command_line.proofs.WordLemmas.{is_data, one_pipe, one_ask, one_read, one_simulation}
 use Rattle.quaestor_prog.specs.declared.status.Status.{Status}
@@ -130,29 +132,30 @@ pub none_timed : {C : Type 0} (tells : C → ℕ → C → Type 0) (clock : C) (
 none_timed tells clock None = refl
 none_timed tells clock (Some at) = (tt, refl)
 
--- the run of a configuration and a clock that the words ask for
-pub run_of : {C : Type 0} (tells : C → ℕ → C → Type 0) (old new : C) (words : List Text) (g h : Setting) (a b : Option ℕ) (before after : Sides) (ended : LastEnd) (status : Status) → IsPipe words g a → IsPipe words h b → IsRun g before after ended (AreTimed tells old new a) status → IsRun h before after ended (AreTimed tells old new b) status
-run_of tells old new words g h a b before after ended status p q run = let one = one_pipe words g h a b p q in
-    subst (λ (x : Setting). IsRun x before after ended (AreTimed tells old new b) status) one.0 (subst (λ (at : Option ℕ). IsRun g before after ended (AreTimed tells old new at) status) one.1 run)
+-- what `pipe` did is said of what the words ask it for
+pub run_of : {C : Type 0} (tells : C → ℕ → C → Type 0) (old new : C) (words : List Text) (a b : PipeAsk) (before after : Sides) (ended : LastEnd) (status : Status) → IsPipe words a → IsPipe words b → IsRun a.setting before after ended (AreTimed tells old new a.at) status → IsRun b.setting before after ended (AreTimed tells old new b.at) status
+run_of tells old new words a b before after ended status p q run =
+    subst (λ (x : PipeAsk). IsRun x.setting before after ended (AreTimed tells old new x.at) status) (one_pipe words a b p q) run
 
-pub run_over_of : {Q C : Type 0} (kept : Q → List (ℕ × Change) → Type 0) (moment : Q → ℕ) (tells : C → ℕ → C → Type 0) (old new : C) (words : List Text) (g h : Setting) (a b : Option ℕ) (before after : Sides) (ended : LastEnd) (status : Status) → IsPipe words g a → IsPipe words h b → IsRunOver kept moment g before after ended (AreTimed tells old new a) status → IsRunOver kept moment h before after ended (AreTimed tells old new b) status
-run_over_of kept moment tells old new words g h a b before after ended status p q run = let one = one_pipe words g h a b p q in
-    subst (λ (x : Setting). IsRunOver kept moment x before after ended (AreTimed tells old new b) status) one.0 (subst (λ (at : Option ℕ). IsRunOver kept moment g before after ended (AreTimed tells old new at) status) one.1 run)
+pub run_over_of : {P Q C : Type 0} (opens : P → DataAsk → ℕ → Q → P → Type 0) (kept : Q → List (ℕ × Change) → Type 0) (moment : Q → ℕ) (tells : C → ℕ → C → Type 0) (old new : C) (words : List Text) (a b : PipeAsk) (places places' : P) (before after : Sides) (ended : LastEnd) (status : Status) → IsPipe words a → IsPipe words b
+    → IsRunOver opens kept moment a places places' before after ended (AreTimed tells old new a.at) status → IsRunOver opens kept moment b places places' before after ended (AreTimed tells old new b.at) status
+run_over_of opens kept moment tells old new words a b places places' before after ended status p q run =
+    subst (λ (x : PipeAsk). IsRunOver opens kept moment x places places' before after ended (AreTimed tells old new x.at) status) (one_pipe words a b p q) run
 
--- whether a file is given, by the configuration
-pub data_of : (words : List Text) (g h : Setting) (a b : Option ℕ) (given wanted : Bool) → g.keeps ≡ given → IsPipe words g a → IsPipe words h b → h.keeps ≡ wanted → given ≡ wanted
-data_of words g h a b given wanted told p q is = sym told ∙ ap (λ (x : Setting). x.keeps) (one_pipe words g h a b p q).0 ∙ is
+-- whether a file is given, by the words
+pub data_of : (words : List Text) (p : PipeOptions) (ask : PipeAsk) (wanted : Bool) → IsPipe words (pipe_ask_of p) → IsPipe words ask → is_some ask.store.file ≡ wanted → is_some p.store ≡ wanted
+data_of words p ask wanted has is given = is_data p.store ∙ ap (λ (x : PipeAsk). is_some x.store.file) (one_pipe words (pipe_ask_of p) ask has is) ∙ given
 
 -- where a file is given commits are to be kept
 pub serve_keeps : (words : List Text) (s : ServeOptions) → IsServe words (ask_of s) → is_some s.store ≡ true → s.config.keeps ≡ true
 serve_keeps words s is given = is.found.setting.keeps ∙ ap (λ (o : Option Text). is_some o) (sym is.found.store.0) ∙ sym (is_data s.store) ∙ given
 
 -- what `serve` did is said of what the words ask it for
-pub served_of : {P Q D L S K C : Type 0} (source_at : S → End) (sink_at : K → End) (ended_at : K → LastEnd) (tick : C → ℕ → C → Type 0) (may : C → Type 0) (doors_at : D → DoorsView S K) (places_at : P → PlacesView D L) (gives : P → List ℕ → Limits → WatchAsk → D → P → Type 0) (tells : P → List ℕ → Type 0) (fails : Q → Bool) (kept : Q → List (ℕ × Change) → Type 0) (moment : Q → ℕ)
+pub served_of : {P Q D L S K C : Type 0} (source_at : S → End) (sink_at : K → End) (ended_at : K → LastEnd) (tick : C → ℕ → C → Type 0) (may : C → Type 0) (doors_at : D → DoorsView S K) (places_at : P → PlacesView D L) (gives : P → List ℕ → Limits → WatchAsk → D → P → Type 0) (tells : P → List ℕ → Type 0) (opens : P → DataAsk → ℕ → Q → P → Type 0) (fails : Q → Bool) (kept : Q → List (ℕ × Change) → Type 0) (moment : Q → ℕ)
     (words : List Text) (a b : ServeAsk) (sink sink' : End) (ended : LastEnd) (places places' : P) (status : Status) → IsServe words a → IsServe words b
-    → HasServed source_at sink_at ended_at tick may doors_at places_at gives tells fails kept moment a sink sink' ended places places' status → HasServed source_at sink_at ended_at tick may doors_at places_at gives tells fails kept moment b sink sink' ended places places' status
-served_of source_at sink_at ended_at tick may doors_at places_at gives tells fails kept moment words a b sink sink' ended places places' status p q served =
-    subst (λ (ask : ServeAsk). HasServed source_at sink_at ended_at tick may doors_at places_at gives tells fails kept moment ask sink sink' ended places places' status) (one_ask words a b p q) served
+    → HasServed source_at sink_at ended_at tick may doors_at places_at gives tells opens fails kept moment a sink sink' ended places places' status → HasServed source_at sink_at ended_at tick may doors_at places_at gives tells opens fails kept moment b sink sink' ended places places' status
+served_of source_at sink_at ended_at tick may doors_at places_at gives tells opens fails kept moment words a b sink sink' ended places places' status p q served =
+    subst (λ (ask : ServeAsk). HasServed source_at sink_at ended_at tick may doors_at places_at gives tells opens fails kept moment ask sink sink' ended places places' status) (one_ask words a b p q) served
 
 -- what `read` did is said of what the words ask it for
 pub read_of : {P D L : Type 0} (link_at : L → LinkView) (answers : L → Exchange → L → Type 0) (places_at : P → PlacesView D L) (links : P → List ℕ → L → P → Type 0)

@@ -11,14 +11,16 @@ use Rattle.q_outside.specs.Ends.{End, GaveBytes, GavePart, HasEnded, LastEnd, Ti
 use Rattle.q_outside.specs.declared.served.Served.{Served}
 use Rattle.clap.specs.Words.{Text}
 use Rattle.kept_desk.specs.Filling.{IsFilling, Writes, written_by}
+use Rattle.command_line.specs.Data.{DataAsk}
 use Rattle.command_line.specs.Help.{IsHelpOf, text_of_help}
+use Rattle.command_line.specs.Words.{PipeAsk}
 use Rattle.command_line.specs.declared.help.HelpText.{HelpText}
 use Rattle.command_line.specs.declared.command_name.Simulation.{Simulation}
 use Rattle.command_line.specs.declared.command_name.Simulation.TheVariants.{World, Crash}
 use Rattle.quaestor_prog.specs.Status.{status_of}
 use Rattle.quaestor_prog.specs.declared.status.Status.{Status}
 use Rattle.quaestor_prog.specs.declared.status.Status.TheVariants.{Done, Words, WriteFault, Memory, StoreFault}
-use Rattle.quaestor_prog.specs.Serving.{guarded}
+use Rattle.quaestor_prog.specs.Serving.{guarded, longest_of}
 use Rattle.quaestor_server.specs.Conversation.{Conversation}
 use Rattle.crash_core.specs.Told.{IsCrashText}
 use Rattle.turnstile.specs.Places.{AllOf}
@@ -114,9 +116,17 @@ pub record IsUnkept (a b : Sides) (ended : LastEnd) (tells : List ℕ → Type 0
 abbrev pub IsRunKept : (List (ℕ × Change) → Type 0) → Setting → Sides → Sides → LastEnd → (List ℕ → Type 0) → Status → Type 0
 IsRunKept kept g a b ended tells status = PipesKept kept g a b ended tells status ⊎ (IsUnkept a b ended tells status ⊎ IsUnbegun a b tells status)
 
--- the file is refused; or there was no memory; or the file has a keeper, and what came of the connection over what this one has, with the guard that comes of it
-abbrev pub IsRunOver : {Q : Type 0} → (Q → List (ℕ × Change) → Type 0) → (Q → ℕ) → Setting → Sides → Sides → LastEnd → (List ℕ → Type 0) → Status → Type 0
-IsRunOver {Q} kept moment g a b ended tells status = IsUnkept a b ended tells status ⊎ (IsUnbegun a b tells status ⊎ ((keeper : Q) × IsRunKept (kept keeper) (guarded true g (moment keeper)) a b ended tells status))
+module _ {P Q : Type 0} (opens : P → DataAsk → ℕ → Q → P → Type 0) (kept_by : Q → List (ℕ × Change) → Type 0) (moment : Q → ℕ) where
+  -- The places opened the file that is asked for and gave its keeper, and this came of the connection over what the keeper has, with the guard that comes of it.
+  pub record HasOpened (ask : PipeAsk) (places places' : P) (a b : Sides) (ended : LastEnd) (tells : List ℕ → Type 0) (status : Status) : Type 0 where
+    pub keeper : Q
+    pub opened : opens places ask.store (longest_of ask.setting) keeper places'
+    pub run : IsRunKept (kept_by keeper) (guarded true ask.setting (moment keeper)) a b ended tells status
+
+  -- the file is refused; or there was no memory; or the file was opened, and what came of it
+  abbrev pub IsRunOver : PipeAsk → (places places' : P) → Sides → Sides → LastEnd → (List ℕ → Type 0) → Status → Type 0
+  IsRunOver ask places places' a b ended tells status =
+      IsUnkept a b ended tells status ⊎ (IsUnbegun a b tells status ⊎ HasOpened ask places places' a b ended tells status)
 
 -- the text that a seed gives, of a world or of a run with crashes
 abbrev pub IsSimulationText : Simulation → (seed steps : ℕ) → List ℕ → Type 0

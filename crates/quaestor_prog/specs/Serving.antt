@@ -2,10 +2,12 @@
 use Rattle.std.specs.Prelude.{◌≡◌, ◌⊎◌, ℕ, ◌<◌, Bool, true, List, ◌++◌, Some, codes, decimal, if◌then◌else◌, is_some}
 use Rattle.commit_book.specs.declared.change.Change.{Change}
 use Rattle.dialogue.specs.Dialogue.{Sides}
+use Rattle.hub_model.specs.Lifetime.{kept_for}
 use Rattle.hub_model.specs.Setting.{Setting}
 use Rattle.q_outside.specs.Doors.{DoorsView}
 use Rattle.q_outside.specs.Ends.{End, GaveBytes, GavePart, HasEnded, LastEnd}
 use Rattle.q_outside.specs.declared.limits.Limits.{Limits}
+use Rattle.command_line.specs.Data.{DataAsk}
 use Rattle.command_line.specs.Watching.{WatchAsk}
 use Rattle.quaestor_prog.specs.Places.{AreNew, PlacesView}
 use Rattle.quaestor_prog.specs.Status.{or_write_fault, status_of_server}
@@ -26,6 +28,10 @@ served_line connections = codes "served " ++ decimal connections ++ codes "\n"
 -- the configuration of a store that is kept, where one is: its pages have every bit until the moment that is kept, as caches may keep replies of before until then
 abbrev pub guarded : (given : Bool) → Setting → (moment : ℕ) → Setting
 guarded given g moment = if given then record g { guard = moment } else g
+
+-- for how long caches may keep a reply of a store in this configuration at most, in seconds
+abbrev pub longest_of : Setting → ℕ
+longest_of g = kept_for g g.ttl_high
 
 -- the line was given whole and the status is this one, or it was given in part and the fault of the sink counts where the end was none
 abbrev pub EndsWith : (before after : End) → List ℕ → (ended status : Status) → Type 0
@@ -66,7 +72,7 @@ module _ {D S K C : Type 0} (source_at : S → End) (sink_at : K → End) (ended
       IsUnannounced address sink sink' doors doors' status
       ⊎ ((announced : End) × GaveBytes sink announced (listening_line address) × IsServed ask announced sink' doors doors' status)
 
-module _ {P Q D L S K C : Type 0} (source_at : S → End) (sink_at : K → End) (ended_at : K → LastEnd) (tick : C → ℕ → C → Type 0) (may : C → Type 0) (doors_at : D → DoorsView S K) (places_at : P → PlacesView D L) (gives : P → List ℕ → Limits → WatchAsk → D → P → Type 0) (tells : P → List ℕ → Type 0) (fails : Q → Bool) (kept_by : Q → List (ℕ × Change) → Type 0) (moment : Q → ℕ) where
+module _ {P Q D L S K C : Type 0} (source_at : S → End) (sink_at : K → End) (ended_at : K → LastEnd) (tick : C → ℕ → C → Type 0) (may : C → Type 0) (doors_at : D → DoorsView S K) (places_at : P → PlacesView D L) (gives : P → List ℕ → Limits → WatchAsk → D → P → Type 0) (tells : P → List ℕ → Type 0) (opens : P → DataAsk → ℕ → Q → P → Type 0) (fails : Q → Bool) (kept_by : Q → List (ℕ × Change) → Type 0) (moment : Q → ℕ) where
   -- The places gave doors at the address, and have them back as they are now. The keeper has what the store was filled with. The sink was ended behind all that was given.
   pub record HasListened (ask : ServeAsk) (keeper : Q) (sink sink' : End) (ended : LastEnd) (places places' : P) (status : Status) : Type 0 where
     pub doors : D
@@ -86,11 +92,11 @@ module _ {P Q D L S K C : Type 0} (source_at : S → End) (sink_at : K → End) 
   abbrev pub HasTried : ServeAsk → (keeper : Q) → (sink sink' : End) → LastEnd → (places places' : P) → Status → Type 0
   HasTried ask keeper sink sink' ended places places' status = IsUnplaced sink sink' ended (places_at places) (places_at places') status ⊎ HasListened ask keeper sink sink' ended places places' status
 
-  -- the file of the store is refused; or it has a keeper, who keeps commits only where a file is given, and what came of it
+  -- the file of the store is refused; or the places opened it and gave its keeper, who keeps commits only where a file is given, and what came of it
   abbrev pub HasServed : ServeAsk → (sink sink' : End) → LastEnd → (places places' : P) → Status → Type 0
   HasServed ask sink sink' ended places places' status =
       IsUnkeptServer sink sink' ended (places_at places) (places_at places') status
-      ⊎ ((keeper : Q) × (ready : P) × (places_at ready ≡ places_at places) × (fails keeper ≡ true → is_some ask.store.file ≡ true) × HasTried ask keeper sink sink' ended ready places' status)
+      ⊎ ((keeper : Q) × (ready : P) × opens places ask.store (longest_of ask.setting) keeper ready × (places_at ready ≡ places_at places) × (fails keeper ≡ true → is_some ask.store.file ≡ true) × HasTried ask keeper sink sink' ended ready places' status)
 
   -- what a run of `serve` does: neither the source nor the clock is asked
   abbrev pub IsServing : ServeAsk → (a b : Sides) → LastEnd → (clock clock' : C) → (places places' : P) → Status → Type 0

@@ -128,6 +128,8 @@ where
 
     ghost tells = { λ p address. string_bytes p.address ≡ address };
 
+    ghost opens = { λ p store _ _ q. (store.file ≡ None) × (q ≡ p) };
+
     ghost links = { λ p address link q. (string_bytes p.address ≡ address) × (p.answers ≡ Some link.answers) × (q.address ≡ p.address) };
 
     fn listen(

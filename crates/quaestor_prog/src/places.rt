@@ -3,6 +3,7 @@
 //! They have a count of faults that never falls, and fail only where it rose.
 ghost use Rattle.std.specs.Prelude.{◌≡◌, true, is_some, ℕ, List, Some, IfOk};
 ghost use Rattle.q_outside.specs.declared.limits.Limits.{Limits as LimitsOf};
+ghost use Rattle.command_line.specs.Data.{DataAsk, asked_data};
 ghost use Rattle.command_line.specs.Watching.{WatchAsk, watch_of};
 ghost use Rattle.quaestor_prog.specs.Places.{AreNew, HasGiven, IsUnasked, PlacesView};
 
@@ -33,6 +34,11 @@ pub trait Places {
     /// The places tell this as the address at which they gave doors last, where they show so.
     ghost tells: { Self → List ℕ → Type 0 };
 
+    /// From the first state the places opened or made the file of this store, where one is given, gave this
+    /// keeper of it for as long as caches may keep replies for so many seconds, and came to the second state,
+    /// where they show so.
+    ghost opens: { Self → DataAsk → ℕ → Self.Keeper → Self → Type 0 };
+
     /// From the first state the places gave this link to this address and came to the second state, where
     /// they show so.
     ghost links: { Self → List ℕ → Self.Link → Self → Type 0 };
@@ -59,6 +65,7 @@ pub trait Places {
     /// Opens or makes the file of a store, where one is given; without it nothing is kept. Caches may keep
     /// replies of the store for so many seconds. They fail where it is no store, or another program has it.
     fn keeper(&mut self, store: Option<Data<'_>>, longest: u64) -> Result<Self::Keeper, Failed>
+        ensures opens { IfOk result (λ k. opens self.old (asked_data store.entry) longest k self.new) }
         ensures keeps { IfOk result (λ k. Self.Keeper.may_fail k ≡ true → is_some store.entry ≡ true) }
         ensures lasts { IfOk result (λ k. Self.Keeper.may_fail k ≡ true → Self.Keeper.longest k ≡ longest) }
         ensures count { HasGiven (at self.old) (at self.new) result };

@@ -2,7 +2,6 @@
 ghost use Rattle.std.specs.Prelude.{◌≡◌, ◌⊎◌, ℕ, true, false, is_some, Option, None, IfErr, IfOk, map, string_bytes};
 ghost use Rattle.std.specs.List.{enumerate_from};
 ghost use Rattle.command_line.specs.declared.command_name.Simulation.{Simulation as ASimulation};
-ghost use Rattle.hub_model.specs.Setting.{Setting};
 ghost use Rattle.kept_desk.specs.Filling.{Fills};
 ghost use Rattle.quaestor_prog.specs.declared.status.Status.TheVariants.{StoreFault, Memory as OutOfMemory};
 ghost use Rattle.q_outside.specs.Ends.{HasEnded, Ticks};
@@ -10,7 +9,7 @@ ghost use Rattle.command_line.specs.Commands.{AskHelp};
 ghost use Rattle.quaestor_prog.specs.Reading.{IsReading};
 ghost use Rattle.quaestor_prog.specs.Serving.{IsServing};
 ghost use Rattle.quaestor_prog.specs.Run.{AreTimed, GaveText, HasSimulated, HasWritten, IsHelped, IsRefused, IsRun, IsRunKept, IsRunOver, IsSimulationText, IsText, IsUnbegun, IsUsage};
-ghost use Rattle.command_line.specs.Words.{AreTaken, IsPipe, IsRead, IsServe, IsSimulation, ReadAsk, ServeAsk};
+ghost use Rattle.command_line.specs.Words.{AreTaken, IsPipe, IsRead, IsServe, IsSimulation, PipeAsk, ReadAsk, ServeAsk, pipe_ask_of};
 
 use crate::places::Places;
 use crate::reading::read_at;
@@ -56,17 +55,17 @@ pub fn run<S: Source, K: Sink, C, P: Places, R>(
 where
     C: Clock + Clone + Send + Drop + 'static,
     R: Threads + Wait + rt::Clock + Copy + Send + 'static,
-    ensures pipe { (g : Setting) (at : Option ℕ) → IsPipe (map string_bytes words.now) g at → g.keeps ≡ false
-        → IsRun g (record { source = S.at source.old; sink = K.at sink.old })
+    ensures pipe { (ask : PipeAsk) → IsPipe (map string_bytes words.now) ask → is_some ask.store.file ≡ false
+        → IsRun ask.setting (record { source = S.at source.old; sink = K.at sink.old })
         (record { source = S.at source.new; sink = K.at sink.new }) (K.ended sink.new)
-        (AreTimed C.tick clock.old clock.new at) result
+        (AreTimed C.tick clock.old clock.new ask.at) result
         × (places.new ≡ places.old) }
-    ensures pipe_kept { (g : Setting) (at : Option ℕ) → IsPipe (map string_bytes words.now) g at → g.keeps ≡ true
-        → IsRunOver P.Keeper.kept P.Keeper.moment g (record { source = S.at source.old; sink = K.at sink.old })
+    ensures pipe_kept { (ask : PipeAsk) → IsPipe (map string_bytes words.now) ask → is_some ask.store.file ≡ true
+        → IsRunOver P.opens P.Keeper.kept P.Keeper.moment ask places.old places.new (record { source = S.at source.old; sink = K.at sink.old })
         (record { source = S.at source.new; sink = K.at sink.new }) (K.ended sink.new)
-        (AreTimed C.tick clock.old clock.new at) result }
+        (AreTimed C.tick clock.old clock.new ask.at) result }
     ensures serve { (ask : ServeAsk) → IsServe (map string_bytes words.now) ask
-        → IsServing P.Doors.From.at P.Doors.To.at P.Doors.To.ended C.tick (C.is_clone clock.old) P.Doors.at P.at P.gives P.tells P.Keeper.may_fail P.Keeper.kept P.Keeper.moment ask
+        → IsServing P.Doors.From.at P.Doors.To.at P.Doors.To.ended C.tick (C.is_clone clock.old) P.Doors.at P.at P.gives P.tells P.opens P.Keeper.may_fail P.Keeper.kept P.Keeper.moment ask
         (record { source = S.at source.old; sink = K.at sink.old })
         (record { source = S.at source.new; sink = K.at sink.new }) (K.ended sink.new)
         clock.old clock.new places.old places.new result }
@@ -121,7 +120,7 @@ fn pipe_kept<S: Source, K: Sink, C: Clock, P: Places>(
         (record { source = S.at source.new; sink = K.at sink.new }) (K.ended sink.new)
         (AreTimed C.tick clock.old clock.new options.entry.clock) result }
     ensures places { is_some options.entry.store ≡ false → places.new ≡ places.old }
-    ensures kept { is_some options.entry.store ≡ true → IsRunOver P.Keeper.kept P.Keeper.moment options.entry.config (record { source = S.at source.old; sink = K.at sink.old })
+    ensures kept { is_some options.entry.store ≡ true → IsRunOver P.opens P.Keeper.kept P.Keeper.moment (pipe_ask_of options.entry) places.old places.new (record { source = S.at source.old; sink = K.at sink.old })
         (record { source = S.at source.new; sink = K.at sink.new }) (K.ended sink.new)
         (AreTimed C.tick clock.old clock.new options.entry.clock) result }
 {

@@ -1,8 +1,7 @@
 //! The command `serve`, over any places.
 ghost use Rattle.std.specs.Prelude.{◌≡◌, ◌<◌, ◌++◌, true, is_some, codes};
-ghost use Rattle.hub_model.specs.Lifetime.{kept_for};
 ghost use Rattle.q_outside.specs.Ends.{Gave};
-ghost use Rattle.quaestor_prog.specs.Serving.{HasServed, HasTried, IsServed, IsThrough, guarded};
+ghost use Rattle.quaestor_prog.specs.Serving.{HasServed, HasTried, IsServed, IsThrough, guarded, longest_of};
 ghost use Rattle.command_line.specs.Words.{ask_of};
 ghost use Rattle.quaestor_serve.specs.Serves.{Serves};
 
@@ -37,7 +36,7 @@ where
     requires places { 0 < options.places }
     requires workers { 0 < options.workers }
     requires keeps { is_some options.store ≡ true → options.config.keeps ≡ true }
-    ensures { HasServed P.Doors.From.at P.Doors.To.at P.Doors.To.ended C.tick (C.is_clone clock.now) P.Doors.at P.at P.gives P.tells P.Keeper.may_fail P.Keeper.kept P.Keeper.moment (ask_of options.entry) (K.at sink.old) (K.at sink.new) (K.ended sink.new) places.old places.new result }
+    ensures { HasServed P.Doors.From.at P.Doors.To.at P.Doors.To.ended C.tick (C.is_clone clock.now) P.Doors.at P.at P.gives P.tells P.opens P.Keeper.may_fail P.Keeper.kept P.Keeper.moment (ask_of options.entry) (K.at sink.old) (K.at sink.new) (K.ended sink.new) places.old places.new result }
 {
     match places.keeper(options.store, longest_of(&options.config)) {
         Ok(mut keeper) => serve_kept(rt, alloc, options, sink, clock, &mut keeper, places),
@@ -67,7 +66,7 @@ where
     requires workers { 0 < options.workers }
     requires keeps { is_some options.store ≡ true → options.config.keeps ≡ true }
     requires keeper { P.Keeper.may_fail keeper.old ≡ true → is_some options.store ≡ true }
-    ensures { HasTried P.Doors.From.at P.Doors.To.at P.Doors.To.ended C.tick (C.is_clone clock.now) P.Doors.at P.at P.gives P.tells P.Keeper.may_fail P.Keeper.kept P.Keeper.moment (ask_of options.entry) keeper.old (K.at sink.old) (K.at sink.new) (K.ended sink.new) places.old places.new result }
+    ensures { HasTried P.Doors.From.at P.Doors.To.at P.Doors.To.ended C.tick (C.is_clone clock.now) P.Doors.at P.at P.gives P.tells P.opens P.Keeper.may_fail P.Keeper.kept P.Keeper.moment (ask_of options.entry) keeper.old (K.at sink.old) (K.at sink.new) (K.ended sink.new) places.old places.new result }
 {
     match places.listen(options.address, options.limits, options.watching) {
         Ok(mut doors) => {
@@ -96,7 +95,7 @@ where
 
 /// For how long caches may keep a reply of a store in this configuration, in seconds.
 pub(crate) fn longest_of(config: &Config) -> u64
-    ensures { result ≡ kept_for config.now config.now.ttl_high }
+    ensures { result ≡ longest_of config.now }
 {
     config.kept_for(config.ttl_high()) as u64
 }

@@ -1,9 +1,8 @@
 //! The words of the command `pipe`.
 ghost use Rattle.std.specs.Prelude.{◌≡◌, ℕ, [], Option, IfOk, IfErr, codes};
 ghost use Rattle.clap.specs.Words.{first_of, found_of, rows_of};
-ghost use Rattle.hub_model.specs.Setting.{Setting};
 ghost use Rattle.command_line.specs.declared.command_name.CommandName.TheVariants as name;
-ghost use Rattle.command_line.specs.Words.{AreOptions, IsBadValue, IsClock, IsFound, IsPipeOf};
+ghost use Rattle.command_line.specs.Words.{ArePipeOptions, IsBadValue, IsClock, IsFound, IsPipeOf, PipeAsk, piped_with};
 
 use crate::numbers::read_number;
 use crate::options::{Invocation, PipeOptions};
@@ -35,7 +34,7 @@ fn pipe_with<'a>(
     hosts: &str,
 ) -> Result<Invocation<'a>, Memory>
     requires { options.config.hosts ≡ [] }
-    ensures { IfOk result (IsPipeOf (record options.entry.config { hosts = hosts.now }) options.entry.clock) }
+    ensures { IfOk result (IsPipeOf (piped_with options.entry hosts.now)) }
 {
     let clock = options.clock;
     let store = options.store;
@@ -49,9 +48,9 @@ fn pipe_with<'a>(
 
 /// The options of `pipe` and its hosts, by what clap found.
 fn pipe_options<'a>(matches: &ArgMatches<'a>) -> Result<(PipeOptions<'a>, &'a str), BadValue<'a>>
-    ensures ok { IfOk result (λ p. AreOptions (rows_of (found_of matches.now)) (record p.0.config { hosts = p.1.now }) p.0.clock) }
+    ensures ok { IfOk result (λ p. ArePipeOptions (rows_of (found_of matches.now)) (piped_with p.0 p.1.now)) }
     ensures none { IfOk result (λ p. p.0.config.hosts ≡ []) }
-    ensures err { IfErr result (λ _. (g : Setting) (at : Option ℕ) → AreOptions (rows_of (found_of matches.now)) g at → ⊥) }
+    ensures err { IfErr result (λ _. (ask : PipeAsk) → ArePipeOptions (rows_of (found_of matches.now)) ask → ⊥) }
     ensures value { IfErr result (IsBadValue (rows_of (found_of matches.now))) }
 {
     let setting = setting_of(matches)?;

@@ -7,7 +7,7 @@ pub returns-in-Invalid-clause-some : goal.returns-in-Invalid-clause-some
 returns-in-Invalid-clause-some c = let asks = rw c.in-Invalid.is at c.in_ok-refusal.ensures in asks.0
 
 pub returns-in-Pipe-clause-none : goal.returns-in-Pipe-clause-none
-returns-in-Pipe-clause-none c = pipe_taken _ _ _ (rw c.in-Pipe.is at c.in_ok-refusal.ensures)
+returns-in-Pipe-clause-none c = pipe_taken _ _ (rw c.in-Pipe.is at c.in_ok-refusal.ensures)
 
 pub returns-in-Serve-clause-none : goal.returns-in-Serve-clause-none
 returns-in-Serve-clause-none c = serve_taken _ _ (rw c.in-Serve.is at c.in_ok-refusal.ensures)

@@ -15,4 +15,8 @@ returns-in-Err-clause-kept g c = λ given. inl (record { status_is = refl; sourc
 pub returns-in-Ok-clause-kept : goal.returns-in-Ok-clause-kept
 returns-in-Ok-clause-kept g c = λ given.
     let same = c.guarded-config.ensures ∙ ap (λ (b : Bool). guarded b c.args.options.config (g.P.Keeper.Keeper.moment c.in-Ok.keeper)) given in
-    inr (inr (c.in-Ok.keeper, kept_as (g.P.Keeper.Keeper.kept c.in-Ok.keeper) _ _ _ _ _ _ _ same c.pipe_at-in-Ok.ensures.kept))
+    inr (inr (record {
+      keeper = c.in-Ok.keeper;
+      opened = rw c.longest_of.ensures at c.in-Ok.ensures.opens;
+      run = kept_as (g.P.Keeper.Keeper.kept c.in-Ok.keeper) _ _ _ _ _ _ _ same c.pipe_at-in-Ok.ensures.kept;
+    }))

@@ -1,5 +1,6 @@
 -- the words ask for one thing, or for none
 use Rattle.std.proofs.Common.{refl, inl, inr}
+use Rattle.command_line.specs.Words.{pipe_ask_of}
 use Rattle.command_line.proofs.CommandLemmas.{pipe_serve, pipe_read, pipe_simulation, pipe_taken, serve_read, serve_simulation, serve_taken, read_simulation, read_taken, simulation_taken, no_help, help_asked}
 use Rattle.quaestor_prog.proofs.RunLemmas.{run_of, run_over_of, data_of, serve_keeps, none_timed, served_of, read_of, simulated_of}
 use Rattle.quaestor_prog.proofs.program.run.Goals as goal
@@ -7,14 +8,16 @@ use Rattle.quaestor_prog.proofs.program.run.Goals as goal
 -- ---- pipe
 
 pub returns-in-Ok-Pipe-clause-pipe : goal.returns-in-Ok-Pipe-clause-pipe
-returns-in-Ok-Pipe-clause-pipe g c = λ h at is keeps.
-    let none = data_of _ c.in-Ok-Pipe.options.config h _ at _ _ c.in-Ok-Pipe.options.told (rw c.in-Ok-Pipe.field-0-is at c.in-Ok-Pipe.ensures) is keeps in
-    (run_of g.C.Clock.tick _ _ _ _ h _ at _ _ _ _ (rw c.in-Ok-Pipe.field-0-is at c.in-Ok-Pipe.ensures) is (c.pipe_kept.ensures.run none), c.pipe_kept.ensures.places none)
+returns-in-Ok-Pipe-clause-pipe g c = λ ask is none.
+    let has = rw c.in-Ok-Pipe.field-0-is at c.in-Ok-Pipe.ensures in
+    let given = data_of _ c.in-Ok-Pipe.options ask _ has is none in
+    (run_of g.C.Clock.tick _ _ _ (pipe_ask_of c.in-Ok-Pipe.options) ask _ _ _ _ has is (c.pipe_kept.ensures.run given), c.pipe_kept.ensures.places given)
 
 pub returns-in-Ok-Pipe-clause-pipe_kept : goal.returns-in-Ok-Pipe-clause-pipe_kept
-returns-in-Ok-Pipe-clause-pipe_kept g c = λ h at is keeps.
-    let given = data_of _ c.in-Ok-Pipe.options.config h _ at _ _ c.in-Ok-Pipe.options.told (rw c.in-Ok-Pipe.field-0-is at c.in-Ok-Pipe.ensures) is keeps in
-    run_over_of g.P.Keeper.Keeper.kept g.P.Keeper.Keeper.moment g.C.Clock.tick _ _ _ _ h _ at _ _ _ _ (rw c.in-Ok-Pipe.field-0-is at c.in-Ok-Pipe.ensures) is (c.pipe_kept.ensures.kept given)
+returns-in-Ok-Pipe-clause-pipe_kept g c = λ ask is some.
+    let has = rw c.in-Ok-Pipe.field-0-is at c.in-Ok-Pipe.ensures in
+    let given = data_of _ c.in-Ok-Pipe.options ask _ has is some in
+    run_over_of g.P.Places.opens g.P.Keeper.Keeper.kept g.P.Keeper.Keeper.moment g.C.Clock.tick _ _ _ (pipe_ask_of c.in-Ok-Pipe.options) ask _ _ _ _ _ _ has is (c.pipe_kept.ensures.kept given)
 
 pub returns-in-Ok-Pipe-clause-serve : goal.returns-in-Ok-Pipe-clause-serve
 returns-in-Ok-Pipe-clause-serve g c = λ ask is. let pipe = rw c.in-Ok-Pipe.field-0-is at c.in-Ok-Pipe.ensures in absurd (pipe_serve _ pipe.named is.named)
@@ -29,7 +32,7 @@ pub returns-in-Ok-Pipe-clause-help : goal.returns-in-Ok-Pipe-clause-help
 returns-in-Ok-Pipe-clause-help g c = λ help. absurd (no_help _ _ _ (rw c.in-Ok-Pipe.field-0-is at c.in-Ok-Pipe.ensures) help)
 
 pub returns-in-Ok-Pipe-clause-usage : goal.returns-in-Ok-Pipe-clause-usage
-returns-in-Ok-Pipe-clause-usage g c = λ none. absurd (none (pipe_taken _ _ _ (rw c.in-Ok-Pipe.field-0-is at c.in-Ok-Pipe.ensures)))
+returns-in-Ok-Pipe-clause-usage g c = λ none. absurd (none (pipe_taken _ _ (rw c.in-Ok-Pipe.field-0-is at c.in-Ok-Pipe.ensures)))
 
 -- ---- serve
 
@@ -37,13 +40,13 @@ pub serve_at-requires-clause-keeps : goal.serve_at-requires-clause-keeps
 serve_at-requires-clause-keeps g c = λ lifetimes outlives. serve_keeps _ c.in-Ok-Serve.options (rw c.in-Ok-Serve.field-0-is at c.in-Ok-Serve.ensures)
 
 pub returns-in-Ok-Serve-clause-pipe : goal.returns-in-Ok-Serve-clause-pipe
-returns-in-Ok-Serve-clause-pipe g c = λ h at is keeps. let serve = rw c.in-Ok-Serve.field-0-is at c.in-Ok-Serve.ensures in absurd (pipe_serve _ is.named serve.named)
+returns-in-Ok-Serve-clause-pipe g c = λ ask is file. let serve = rw c.in-Ok-Serve.field-0-is at c.in-Ok-Serve.ensures in absurd (pipe_serve _ is.named serve.named)
 
 pub returns-in-Ok-Serve-clause-pipe_kept : goal.returns-in-Ok-Serve-clause-pipe_kept
-returns-in-Ok-Serve-clause-pipe_kept g c = λ h at is keeps. let serve = rw c.in-Ok-Serve.field-0-is at c.in-Ok-Serve.ensures in absurd (pipe_serve _ is.named serve.named)
+returns-in-Ok-Serve-clause-pipe_kept g c = λ ask is file. let serve = rw c.in-Ok-Serve.field-0-is at c.in-Ok-Serve.ensures in absurd (pipe_serve _ is.named serve.named)
 
 pub returns-in-Ok-Serve-clause-serve : goal.returns-in-Ok-Serve-clause-serve
-returns-in-Ok-Serve-clause-serve g c = λ ask is. (refl, refl, inr (served_of _ _ _ _ _ _ _ _ _ _ _ _ _ _ ask _ _ _ _ _ _ (rw c.in-Ok-Serve.field-0-is at c.in-Ok-Serve.ensures) is c.serve_at.ensures))
+returns-in-Ok-Serve-clause-serve g c = λ ask is. (refl, refl, inr (served_of _ _ _ _ _ _ _ _ _ _ _ _ _ _ _ ask _ _ _ _ _ _ (rw c.in-Ok-Serve.field-0-is at c.in-Ok-Serve.ensures) is c.serve_at.ensures))
 
 pub returns-in-Ok-Serve-clause-read : goal.returns-in-Ok-Serve-clause-read
 returns-in-Ok-Serve-clause-read g c = λ ask is. let serve = rw c.in-Ok-Serve.field-0-is at c.in-Ok-Serve.ensures in absurd (serve_read _ serve.named is.named)
@@ -60,10 +63,10 @@ returns-in-Ok-Serve-clause-usage g c = λ none. absurd (none (serve_taken _ _ (r
 -- ---- read
 
 pub returns-in-Ok-Read-clause-pipe : goal.returns-in-Ok-Read-clause-pipe
-returns-in-Ok-Read-clause-pipe g c = λ h at is keeps. let reads = rw c.in-Ok-Read.field-0-is at c.in-Ok-Read.ensures in absurd (pipe_read _ is.named reads.named)
+returns-in-Ok-Read-clause-pipe g c = λ ask is file. let reads = rw c.in-Ok-Read.field-0-is at c.in-Ok-Read.ensures in absurd (pipe_read _ is.named reads.named)
 
 pub returns-in-Ok-Read-clause-pipe_kept : goal.returns-in-Ok-Read-clause-pipe_kept
-returns-in-Ok-Read-clause-pipe_kept g c = λ h at is keeps. let reads = rw c.in-Ok-Read.field-0-is at c.in-Ok-Read.ensures in absurd (pipe_read _ is.named reads.named)
+returns-in-Ok-Read-clause-pipe_kept g c = λ ask is file. let reads = rw c.in-Ok-Read.field-0-is at c.in-Ok-Read.ensures in absurd (pipe_read _ is.named reads.named)
 
 pub returns-in-Ok-Read-clause-serve : goal.returns-in-Ok-Read-clause-serve
 returns-in-Ok-Read-clause-serve g c = λ ask is. let reads = rw c.in-Ok-Read.field-0-is at c.in-Ok-Read.ensures in absurd (serve_read _ is.named reads.named)
@@ -83,10 +86,10 @@ returns-in-Ok-Read-clause-usage g c = λ none. absurd (none (read_taken _ _ (rw 
 -- ---- simulation
 
 pub returns-in-Ok-Simulate-clause-pipe : goal.returns-in-Ok-Simulate-clause-pipe
-returns-in-Ok-Simulate-clause-pipe g c = λ h at is keeps. let simulation = rw c.in-Ok-Simulate.field-0-is at c.in-Ok-Simulate.ensures in absurd (pipe_simulation _ _ is.named simulation.named)
+returns-in-Ok-Simulate-clause-pipe g c = λ ask is file. let simulation = rw c.in-Ok-Simulate.field-0-is at c.in-Ok-Simulate.ensures in absurd (pipe_simulation _ _ is.named simulation.named)
 
 pub returns-in-Ok-Simulate-clause-pipe_kept : goal.returns-in-Ok-Simulate-clause-pipe_kept
-returns-in-Ok-Simulate-clause-pipe_kept g c = λ h at is keeps. let simulation = rw c.in-Ok-Simulate.field-0-is at c.in-Ok-Simulate.ensures in absurd (pipe_simulation _ _ is.named simulation.named)
+returns-in-Ok-Simulate-clause-pipe_kept g c = λ ask is file. let simulation = rw c.in-Ok-Simulate.field-0-is at c.in-Ok-Simulate.ensures in absurd (pipe_simulation _ _ is.named simulation.named)
 
 pub returns-in-Ok-Simulate-clause-serve : goal.returns-in-Ok-Simulate-clause-serve
 returns-in-Ok-Simulate-clause-serve g c = λ ask is. let simulation = rw c.in-Ok-Simulate.field-0-is at c.in-Ok-Simulate.ensures in absurd (serve_simulation _ _ is.named simulation.named)
@@ -113,10 +116,10 @@ returns-in-Ok-Simulate-clause-usage g c = λ none. absurd (none (simulation_take
 -- ---- help
 
 pub returns-in-Ok-Help-clause-pipe : goal.returns-in-Ok-Help-clause-pipe
-returns-in-Ok-Help-clause-pipe g c = λ h at is keeps. absurd (no_help _ _ _ is (help_asked _ _ (rw c.in-Ok-Help.field-0-is at c.in-Ok-Help.ensures)))
+returns-in-Ok-Help-clause-pipe g c = λ ask is file. absurd (no_help _ _ _ is (help_asked _ _ (rw c.in-Ok-Help.field-0-is at c.in-Ok-Help.ensures)))
 
 pub returns-in-Ok-Help-clause-pipe_kept : goal.returns-in-Ok-Help-clause-pipe_kept
-returns-in-Ok-Help-clause-pipe_kept g c = λ h at is keeps. absurd (no_help _ _ _ is (help_asked _ _ (rw c.in-Ok-Help.field-0-is at c.in-Ok-Help.ensures)))
+returns-in-Ok-Help-clause-pipe_kept g c = λ ask is file. absurd (no_help _ _ _ is (help_asked _ _ (rw c.in-Ok-Help.field-0-is at c.in-Ok-Help.ensures)))
 
 pub returns-in-Ok-Help-clause-serve : goal.returns-in-Ok-Help-clause-serve
 returns-in-Ok-Help-clause-serve g c = λ ask is. absurd (no_help _ _ _ is (help_asked _ _ (rw c.in-Ok-Help.field-0-is at c.in-Ok-Help.ensures)))
@@ -145,10 +148,10 @@ returns-in-Ok-Help-clause-help g c = λ help. (
 -- ---- refused
 
 pub returns-in-Ok-Invalid-clause-pipe : goal.returns-in-Ok-Invalid-clause-pipe
-returns-in-Ok-Invalid-clause-pipe g c = λ h at is keeps. let asks = rw c.in-Ok-Invalid.field-0-is at c.in-Ok-Invalid.ensures in absurd (asks.0 (pipe_taken _ h at is))
+returns-in-Ok-Invalid-clause-pipe g c = λ ask is file. let asks = rw c.in-Ok-Invalid.field-0-is at c.in-Ok-Invalid.ensures in absurd (asks.0 (pipe_taken _ ask is))
 
 pub returns-in-Ok-Invalid-clause-pipe_kept : goal.returns-in-Ok-Invalid-clause-pipe_kept
-returns-in-Ok-Invalid-clause-pipe_kept g c = λ h at is keeps. let asks = rw c.in-Ok-Invalid.field-0-is at c.in-Ok-Invalid.ensures in absurd (asks.0 (pipe_taken _ h at is))
+returns-in-Ok-Invalid-clause-pipe_kept g c = λ ask is file. let asks = rw c.in-Ok-Invalid.field-0-is at c.in-Ok-Invalid.ensures in absurd (asks.0 (pipe_taken _ ask is))
 
 pub returns-in-Ok-Invalid-clause-serve : goal.returns-in-Ok-Invalid-clause-serve
 returns-in-Ok-Invalid-clause-serve g c = λ ask is. let asks = rw c.in-Ok-Invalid.field-0-is at c.in-Ok-Invalid.ensures in absurd (asks.0 (serve_taken _ ask is))
@@ -165,4 +168,4 @@ returns-in-Ok-Invalid-clause-help g c = λ help. let asks = rw c.in-Ok-Invalid.f
 -- ---- no memory for the words
 
 pub returns-clause-pipe_kept : goal.returns-clause-pipe_kept
-returns-clause-pipe_kept g c = λ h at is keeps. inr (inl (record { status_is = refl; source = refl; sink = refl; ticks = none_timed g.C.Clock.tick c.args.clock.now at }))
+returns-clause-pipe_kept g c = λ ask is file. inr (inl (record { status_is = refl; source = refl; sink = refl; ticks = none_timed g.C.Clock.tick c.args.clock.now ask.at }))
