@@ -1,0 +1,10 @@
+pub mod Bases
+pub mod Heads
+pub mod Read
+pub mod Readings
+pub mod Remains
+pub mod Rows
+pub mod Sound
+pub mod Tails
+pub mod Texts
+pub mod Windows
