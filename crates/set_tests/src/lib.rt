@@ -1,6 +1,8 @@
-//! Tests of match sets, of the index of queries and of active queries.
+//! Tests of match sets, of the index of queries, of buckets and of active queries.
 #![tactic(auto)]
 
+#[cfg(test)]
+mod buckets;
 #[cfg(test)]
 mod following;
 #[cfg(test)]

@@ -46,7 +46,7 @@ fn document(alloc: Global, text: &[u8]) -> Result<Option<Doc>, Fail> {
 }
 
 /// A change of a record; an empty text is a deletion.
-fn change(alloc: Global, collection: &[u8], id: &[u8], text: &[u8]) -> Result<Change, Fail> {
+pub fn change(alloc: Global, collection: &[u8], id: &[u8], text: &[u8]) -> Result<Change, Fail> {
     Ok(Change {
         collection: Name::read(alloc, collection)?,
         id: Name::read(alloc, id)?,

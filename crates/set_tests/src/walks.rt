@@ -19,7 +19,7 @@ fn digit(number: u64) -> u8 {
 }
 
 /// An id of three digits.
-fn id(alloc: Global, number: u64) -> Result<Vec<u8>, Fail> {
+pub fn id(alloc: Global, number: u64) -> Result<Vec<u8>, Fail> {
     let mut id = Vec::new(alloc);
     id.push(b'p')?;
     id.push(digit(number / 100))?;
@@ -46,12 +46,12 @@ pub struct Habit {
 }
 
 /// The collection of a write: of twenty one is in another.
-fn collection(number: u64) -> &'static [u8] {
+pub fn collection(number: u64) -> &'static [u8] {
     if number % 20 == 0 { b"home" } else { b"shop" }
 }
 
 /// Which record a write is of.
-fn record(number: u64, habit: &Habit) -> u64 {
+pub fn record(number: u64, habit: &Habit) -> u64 {
     if habit.ids == 0 {
         0
     } else {
@@ -60,7 +60,7 @@ fn record(number: u64, habit: &Habit) -> u64 {
 }
 
 /// What is written: a document, or no text, which deletes.
-fn text(alloc: Global, number: u64, deletes: bool) -> Result<Vec<u8>, Fail> {
+pub fn text(alloc: Global, number: u64, deletes: bool) -> Result<Vec<u8>, Fail> {
     if deletes {
         Ok(Vec::new(alloc))
     } else {
