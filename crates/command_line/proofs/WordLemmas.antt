@@ -25,8 +25,8 @@ use Rattle.command_line.specs.Words.{IsArgument, IsCount, IsNumber, IsNumberIn, 
 use Rattle.command_line.specs.Watching.{WatchAsk}
 use Rattle.command_line.specs.Data.{DataAsk, AreData, IsSync, IsSyncText, asked_data}
 use Rattle.command_line.specs.declared.store.Data.{Data}
-use Rattle.shared_log.specs.declared.shared.SyncPolicy.{SyncPolicy}
-use Rattle.shared_log.specs.declared.shared.SyncPolicy.TheVariants.{Always, Batch}
+use Rattle.disks.specs.declared.sync_policy.SyncPolicy.{SyncPolicy}
+use Rattle.disks.specs.declared.sync_policy.SyncPolicy.TheVariants.{Always, Batch}
 
 -- a text shows one number
 pub same_number : (t : Text) (m n : ℕ) → t ≡ decimal m → t ≡ decimal n → m < 2 ^ 64 → n < 2 ^ 64 → m ≡ n

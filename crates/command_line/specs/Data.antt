@@ -2,8 +2,8 @@
 use Rattle.std.specs.Prelude.{◌≡◌, ◌≤◌, List, ◌++◌, Option, None, Some, codes, decimal}
 use Rattle.clap.specs.Words.{Row, Text, first_of}
 use Rattle.command_line.specs.declared.store.Data.{Data}
-use Rattle.shared_log.specs.declared.shared.SyncPolicy.{SyncPolicy}
-use Rattle.shared_log.specs.declared.shared.SyncPolicy.TheVariants.{Always, Batch}
+use Rattle.disks.specs.declared.sync_policy.SyncPolicy.{SyncPolicy}
+use Rattle.disks.specs.declared.sync_policy.SyncPolicy.TheVariants.{Always, Batch}
 
 -- Where a store is to be kept: a file, and what a sync of it waits for.
 pub record DataAsk : Type 0 where

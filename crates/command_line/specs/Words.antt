@@ -29,7 +29,7 @@ use Rattle.command_line.specs.declared.refusal.BadValue.{BadValue}
 use Rattle.command_line.specs.declared.refusal.BadValue.TheVariants.{Number, Lifetimes, Argument, NoLevel, NoKey, NoOrigins, NoHosts, NoLog, NoSync, NoData}
 use Rattle.command_line.specs.declared.refusal.Refusal.{Refusal}
 use Rattle.command_line.specs.declared.refusal.Refusal.TheVariants as why
-use Rattle.shared_log.specs.declared.shared.SyncPolicy.{SyncPolicy}
+use Rattle.disks.specs.declared.sync_policy.SyncPolicy.{SyncPolicy}
 use Rattle.command_line.specs.declared.options.Invocation.{Invocation}
 use Rattle.command_line.specs.declared.options.PipeOptions.{PipeOptions}
 use Rattle.command_line.specs.declared.options.ServeOptions.{ServeOptions}

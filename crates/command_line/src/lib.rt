@@ -15,10 +15,10 @@ mod watching;
 mod words;
 
 pub use command_name::Simulation;
+pub use disks::SyncPolicy;
 pub use help::HelpText;
 pub use options::{Invocation, PipeOptions, ReadOptions, ServeOptions, SimulationOptions};
 pub use refusal::{BadValue, Refusal};
-pub use shared_log::SyncPolicy;
 pub use store::Data;
 pub use watching::Watching;
 pub use words::{read_words, refusal_of};

@@ -3,14 +3,14 @@ ghost use Rattle.std.specs.Prelude.{IfErr, IfNone, IfOk, IfSome};
 ghost use Rattle.clap.specs.Words.{found_of, rows_of};
 ghost use Rattle.command_line.specs.Data.{AreData, DataAsk, IsSyncText, asked_data};
 ghost use Rattle.command_line.specs.Words.{IsBadValue};
-ghost use Rattle.shared_log.specs.declared.shared.SyncPolicy.{SyncPolicy as APolicy};
+ghost use Rattle.disks.specs.declared.sync_policy.SyncPolicy.{SyncPolicy as APolicy};
 
 use crate::numbers::number_within;
 use crate::ranges::MOST_MILLIS;
 use crate::refusal::BadValue;
 use crate::words::value_of;
 use clap::ArgMatches;
-use shared_log::SyncPolicy;
+use disks::SyncPolicy;
 
 /// The file that keeps a store, and what a sync of it waits for.
 #[derive(Clone, Copy, Debug, PartialEq, Eq)]

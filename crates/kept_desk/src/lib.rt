@@ -16,5 +16,4 @@ pub use keeping::{Keeping, NoKeeping};
 pub use kept_desk::KeptDesk;
 pub use log_keeper::{LogKeeper, Notes};
 pub use log_keeping::LogKeeping;
-pub use shared_log::SyncPolicy;
 pub use unfilled::Unfilled;

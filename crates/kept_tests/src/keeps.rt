@@ -2,9 +2,9 @@
 ghost use Rattle.std.specs.Prelude.{◌≡◌, ◌<◌, true, IfOk};
 
 use commit_book::Change;
-use disks::MemoryDisk;
+use disks::{MemoryDisk, SyncPolicy};
 use hub_desk::{Condition, Config, Desk, Owned, Unkept, Written};
-use kept_desk::{Keeper, Keeping, KeptDesk, LogKeeper, Notes, SyncPolicy, Unfilled};
+use kept_desk::{Keeper, Keeping, KeptDesk, LogKeeper, Notes, Unfilled};
 use q_base::{Memory, Moment, Name};
 use q_doc::Doc;
 use record_log::{Batch, open_log};

@@ -8,8 +8,8 @@ mod reading;
 mod serving;
 mod status;
 
-pub use command_line::{BadValue, Data, Refusal, Watching, refusal_of};
-pub use kept_desk::{Keeper, LogKeeper, NoKeeper, Notes, SyncPolicy, Unfilled};
+pub use command_line::{BadValue, Data, Refusal, SyncPolicy, Watching, refusal_of};
+pub use kept_desk::{Keeper, LogKeeper, NoKeeper, Notes, Unfilled};
 pub use list_places::{ListPlaces, Watched};
 pub use places::Places;
 pub use program::run;

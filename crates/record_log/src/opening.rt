@@ -93,6 +93,13 @@ impl<K: Disk> Opening<K> {
         }
     }
 
+    /// The place of the next gate.
+    pub fn place(&self) -> u64
+        ensures { result ≡ self.now.gate }
+    {
+        self.place
+    }
+
     /// The log, once its gate is closed.
     pub fn into_log(self) -> Log<K>
         requires ready { IsReady self.history self.gate }

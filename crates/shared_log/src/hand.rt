@@ -10,10 +10,10 @@ ghost use Rattle.shared_log.specs.Shared.{IsSeated, Knows, KnowsStill, KnowsHand
 
 use crate::log_value::LogValue;
 use crate::lost::Lost;
-use crate::shared::{SharedLog, SyncPolicy};
+use crate::shared::SharedLog;
 use crate::steps::Found;
 use commit_book::Change;
-use disks::Disk;
+use disks::{Disk, SyncPolicy};
 use q_base::{Commit, GREATEST_SECONDS, Memory};
 use record_log::Body;
 use std::alloc::Global;

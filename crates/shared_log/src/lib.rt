@@ -17,4 +17,4 @@ pub use log_value::{LogValue, Unqueued, Work};
 pub use lost::Lost;
 pub use mark::{AtOpening, Mark};
 pub use noted::Noted;
-pub use shared::{SharedLog, SyncPolicy};
+pub use shared::SharedLog;

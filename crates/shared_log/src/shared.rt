@@ -11,7 +11,7 @@ ghost use Rattle.turnstile.specs.Seats.{setting_of, seen, HasOut, IsPart};
 
 use crate::log_value::LogValue;
 use crate::mark::AtOpening;
-use disks::Disk;
+use disks::{Disk, SyncPolicy};
 use q_base::Memory;
 use record_log::Log;
 use std::alloc::Global;
@@ -22,15 +22,6 @@ use turnstile::{Seat, Turnstile};
 
 /// For how many milliseconds one who waits sleeps at most.
 const REST_MILLIS: u64 = 100;
-
-/// What a sync waits for.
-#[derive(Clone, Copy, Debug, PartialEq, Eq)]
-pub enum SyncPolicy {
-    /// Nothing: what is queued is stored at once.
-    Always,
-    /// Others, for so many milliseconds, so that they share it.
-    Batch { millis: u64 },
-}
 
 /// Something that others wait for.
 #[derive(Drop)]
