@@ -19,8 +19,8 @@ use record_log::Body;
 use std::alloc::Global;
 use std::rt::Clock;
 use std::sync::{Arc, Wait};
-use std::thread;
 use std::time::Duration;
+use std::{mem, thread};
 use turnstile::Seat;
 
 /// How long a kept moment reaches beyond the one that a read wants, in seconds: so one record serves for a
@@ -41,6 +41,9 @@ pub struct LogHand<R: Wait + Clock + Copy + Drop, K: Disk + Drop> {
     moment: u64,
     /// The moment that is to be kept before the next reply is shown.
     wanted: u64,
+    /// The number of the batch that the last commit of its own waits for, or an earlier one; 0 where it
+    /// has none that waits. No clause reads it.
+    batch: u64,
     /// A commit of its own could not be queued.
     has_lost: bool,
     ghost seated: { IsSeated (arc_value shared).turnstile seat },
@@ -69,6 +72,7 @@ impl<R: Wait + Clock + Copy + Drop, K: Disk + Drop> LogHand<R, K> {
             commits: 0,
             moment: 0,
             wanted: 0,
+            batch: 0,
             has_lost: false,
         }
     }
@@ -98,6 +102,7 @@ impl<R: Wait + Clock + Copy + Drop, K: Disk + Drop> LogHand<R, K> {
     {
         let clock = clock.min(GREATEST_SECONDS);
         if let Some(body) = self.body.take() {
+            self.batch = self.shared.bells.next_batch();
             let queued = self
                 .shared
                 .queue_in_order(&self.rt, &mut self.seat, commit, clock, &body);
@@ -145,12 +150,17 @@ impl<R: Wait + Clock + Copy + Drop, K: Disk + Drop> LogHand<R, K> {
             return Err(Lost);
         }
         let mut has_waited = false;
+        let mut batch = mem::replace(&mut self.batch, 0);
         let rt = self.rt;
         for _ in rt.forever() {
             if commits <= self.commits && self.wanted <= self.moment {
                 return Ok(());
             }
-            let heard = self.shared.stored.read();
+            let heard = self.shared.bells.hear(batch);
+            if self.shared.bells.is_under_way(batch) {
+                self.shared.bells.sleep(&self.rt, batch, heard);
+                continue;
+            }
             match self
                 .shared
                 .look(&self.rt, &mut self.seat, commits, self.wanted, has_waited)
@@ -168,7 +178,10 @@ impl<R: Wait + Clock + Copy + Drop, K: Disk + Drop> LogHand<R, K> {
                     self.gather();
                     has_waited = true;
                 }
-                Found::Nothing => self.shared.stored.sleep(&self.rt, heard),
+                Found::Nothing { batch: found } if found == batch => {
+                    self.shared.bells.sleep(&self.rt, batch, heard);
+                }
+                Found::Nothing { batch: found } => batch = found,
             }
         }
         unreachable!()

@@ -1,6 +1,7 @@
 //! A log on a disk that many threads share: what comes together is stored by one sync.
 #![tactic(auto)]
 
+mod bells;
 mod gives;
 mod hand;
 pub mod laws;

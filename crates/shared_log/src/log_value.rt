@@ -39,6 +39,8 @@ pub struct LogValue<K: Disk + Drop> {
     pending: Batch,
     /// A batch without records, which takes its place.
     spare: Option<Batch>,
+    /// The number of the batch that was taken last. No clause reads it.
+    batch: u64,
     /// The number of entries of the history.
     count: u64,
     queued: Mark,
@@ -103,6 +105,8 @@ pub enum Unqueued {
 pub struct Work<K: Disk + Drop> {
     pub log: Log<K>,
     pub batch: Batch,
+    /// The number of the batch. No clause reads it.
+    pub number: u64,
     /// How far the log has come without them.
     pub from: Mark,
     /// How far it has come with them.
@@ -127,6 +131,7 @@ impl<K: Disk + Drop> LogValue<K> {
             log: Some(log),
             pending: Batch::new(alloc)?,
             spare: Some(Batch::new(alloc)?),
+            batch: 0,
             count: 0,
             queued: mark,
             taken: mark,
@@ -164,6 +169,15 @@ impl<K: Disk + Drop> LogValue<K> {
         ensures some { result ≡ true → self.now.pending ≡ batch_of [] → ⊥ }
     {
         self.log.is_some() && !self.is_broken && !self.pending.is_empty()
+    }
+
+    /// The number of the batch behind which so many commits are stored and a moment is kept, as far as they
+    /// were queued: the one that was taken last, or the next.
+    pub fn batch_of(&self, commits: Commit, moment: u64) -> u64 {
+        if commits <= self.taken.commits && moment <= self.taken.moment {
+            return self.batch;
+        }
+        self.batch.saturating_add(1)
     }
 
     /// Whether one who is to store waits for others.
@@ -238,9 +252,11 @@ impl<K: Disk + Drop> LogValue<K> {
         let batch = mem::replace(&mut self.pending, spare);
         self.taken = self.queued;
         self.is_gathering = false;
+        self.batch = self.batch.saturating_add(1);
         Some(Work {
             log,
             batch,
+            number: self.batch,
             from: self.stored,
             to: self.queued,
         })
@@ -260,6 +276,7 @@ impl<K: Disk + Drop> LogValue<K> {
             batch,
             from,
             to,
+            ..
         } = work;
         let mut batch = batch;
         batch.clear();

@@ -1,67 +1,27 @@
-//! A log behind its turnstile, with two bells.
-//!
-//! A thread that waits for the log reads a bell, then takes a turn and looks, and then sleeps while the bell
-//! says what it read. Whoever changes what others wait for gives the turn back first and then rings: so one
-//! that looked before the change finds the bell changed, and does not sleep.
+//! A log behind its turnstile, with bells for those who wait.
 ghost use Rattle.std.specs.Prelude.{◌≡◌, ℕ, ◌+◌, IfOk};
 ghost use Rattle.record_log.specs.Images.{IsReady};
 ghost use Rattle.shared_log.specs.LogValues.{opened_of};
 ghost use Rattle.shared_log.specs.Shared.{IsSeated};
 ghost use Rattle.turnstile.specs.Seats.{setting_of, seen, HasOut, IsPart};
 
+use crate::bells::{Bell, Bells};
 use crate::log_value::LogValue;
 use crate::mark::AtOpening;
 use disks::{Disk, SyncPolicy};
 use q_base::Memory;
 use record_log::Log;
 use std::alloc::Global;
-use std::sync::Wait;
 use std::sync::atomic::{AtomicU64, Ordering};
-use std::time::Duration;
 use turnstile::{Seat, Turnstile};
-
-/// For how many milliseconds one who waits sleeps at most.
-const REST_MILLIS: u64 = 100;
-
-/// Something that others wait for.
-#[derive(Drop)]
-pub(crate) struct Bell {
-    word: AtomicU64,
-}
-
-impl Bell {
-    fn new() -> Bell {
-        Bell {
-            word: AtomicU64::new(0),
-        }
-    }
-
-    /// What the bell says.
-    pub(crate) fn read(&self) -> u64 {
-        self.word.load(Ordering::SeqCst)
-    }
-
-    /// Changes what it says, and wakes those who sleep.
-    pub(crate) fn ring(&self) {
-        self.word.fetch_add(1, Ordering::SeqCst);
-        self.word.wake_all();
-    }
-
-    /// Sleeps while it says this.
-    pub(crate) fn sleep<R: Wait>(&self, rt: &R, heard: u64) {
-        let low = (heard & 0xffff_ffff) as u32;
-        self.word
-            .park_timeout(rt, low, Duration::from_millis(REST_MILLIS));
-    }
-}
 
 /// A log that many share.
 #[derive(Drop)]
 pub struct SharedLog<K: Disk + Drop> {
     pub(crate) turnstile: Turnstile<LogValue<K>>,
     pub(crate) sync: SyncPolicy,
-    /// It rings where records were stored, or the disk failed.
-    pub(crate) stored: Bell,
+    /// Those ring where a batch was stored, or the disk failed.
+    pub(crate) bells: Bells,
     /// It rings where a commit was queued for which another waits.
     pub(crate) queued: Bell,
     /// How many wait for a commit to be queued.
@@ -85,7 +45,7 @@ impl<K: Disk + Drop> SharedLog<K> {
         let shared = SharedLog {
             turnstile,
             sync,
-            stored: Bell::new(),
+            bells: Bells::new(),
             queued: Bell::new(),
             early: AtomicU64::new(0),
         };

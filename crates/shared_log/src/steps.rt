@@ -28,8 +28,8 @@ pub(crate) enum Found<K: Disk + Drop> {
     Work(Work<K>),
     /// Nobody stores, and it is to wait for others before it does.
     Gather,
-    /// Another stores.
-    Nothing,
+    /// Another stores, or is about to; what is waited for is not stored before this batch is.
+    Nothing { batch: u64 },
 }
 
 impl<K: Disk + Drop> SharedLog<K> {
@@ -105,7 +105,7 @@ impl<K: Disk + Drop> SharedLog<K> {
         let mut value = turn.value();
         value.give_up();
         give_unchanged(turn, value);
-        self.stored.ring();
+        self.bells.ring_all();
         self.queued.ring();
     }
 
@@ -180,8 +180,9 @@ fn found_in<K: Disk + Drop>(
     if value.is_broken() {
         return Found::Broken;
     }
+    let batch = value.batch_of(commits, moment);
     if !value.has_work() || (value.is_gathering() && !has_waited) {
-        return Found::Nothing;
+        return Found::Nothing { batch };
     }
     if sync != SyncPolicy::Always && !has_waited {
         value.gather();
@@ -189,6 +190,6 @@ fn found_in<K: Disk + Drop>(
     }
     match value.take_out() {
         Some(work) => Found::Work(work),
-        None => Found::Nothing,
+        None => Found::Nothing { batch },
     }
 }

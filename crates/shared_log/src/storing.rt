@@ -28,9 +28,11 @@ impl<K: Disk + Drop> SharedLog<K> {
         ensures known { KnowsStill self.now.turnstile seat.old seat.new }
     {
         let mut work = work;
+        let number = work.number;
+        self.bells.note_taken(number);
         let stored = work.log.append(&work.batch);
         let _ = self.put_back(rt, seat, work, stored);
-        self.stored.ring();
+        self.bells.ring_stored(number);
     }
 
     /// Queues a commit. Where it comes early it waits until the commits before it are queued: whoever queues
@@ -75,7 +77,7 @@ impl<K: Disk + Drop> SharedLog<K> {
         ensures queued { OnOk result (KnowsQueued self.now.turnstile seat.new commit (record { kind = 1; clock = clock; body = body.now })) }
     {
         for _ in rt.forever() {
-            let heard = self.queued.read();
+            let heard = self.queued.hear();
             match self.try_to_queue(rt, seat, commit, clock, body) {
                 Err(Unqueued::Early) => self.queued.sleep(rt, heard),
                 tried => return tried,
@@ -114,9 +116,10 @@ impl<K: Disk + Drop> SharedLog<K> {
         ensures seat { IsSeated self.now.turnstile seat.new }
         ensures known { KnowsStill self.now.turnstile seat.old seat.new }
     {
-        let heard = self.stored.read();
+        let batch = self.bells.next_batch();
+        let heard = self.bells.hear(batch);
         let Found::Work(work) = self.look(rt, seat, u64::MAX, 0, true) else {
-            self.stored.sleep(rt, heard);
+            self.bells.sleep(rt, batch, heard);
             return;
         };
         self.store(rt, seat, work);
