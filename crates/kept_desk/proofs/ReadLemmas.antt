@@ -1,13 +1,18 @@
 -- A log that is read record by record, while a desk writes its commits.
-use Rattle.std.proofs.Common.{◌≡◌, ℕ, ◌+◌, List, [], ◌∷◌, ◌++◌, length, flat_map, Option, Some, None, Ok, refl, sym, ap, ◌∙◌, arith, append-nil, length-append}
+use Rattle.std.proofs.Common.{◌≡◌, ℕ, ◌+◌, List, [], ◌∷◌, ◌++◌, length, Option, Some, None, Ok, refl, sym, ap, ◌∙◌, subst, arith, append-nil, length-append}
 use Rattle.std.proofs.lemmas.Grind.{flat_map-append}
 use Rattle.commit_book.specs.declared.change.Change.{Change}
 use Rattle.disks.specs.Histories.{History}
 use Rattle.hub_model.specs.declared.entry.Entry.{Entry}
 use Rattle.kept_desk.specs.Filling.{Writes, writes_in}
-use Rattle.kept_desk.specs.Kept.{HasCommits, HasMoment, ReadsAll, kept_by, kept_in, last_moment, moment_behind}
+use Rattle.kept_desk.specs.Kept.{HasCommits, HasMoment, IsOpenedOn, ReadsAll, kept_by, kept_in, last_moment, moment_behind}
 use Rattle.kept_desk.proofs.FillLemmas.{writes_none, writes_both}
+use Rattle.kept_desk.specs.Main.{LogTurnstile}
 use Rattle.record_log.specs.Logs.{LogView}
+use Rattle.record_log.specs.Opened.{HasOpened}
+use Rattle.shared_log.specs.LogValues.{opened_of}
+use Rattle.shared_log.specs.Notes.{Opened}
+use Rattle.turnstile.specs.Seats.{setting_of}
 use Rattle.record_log.specs.Openings.{HasBegun}
 use Rattle.record_log.specs.declared.log_record.LogRecord.{LogRecord}
 use Rattle.record_log.proofs.OpenLemmas.{IsOpening, Steps, open_none, open_more, open_end, ready_end}
@@ -91,3 +96,13 @@ reads_end old now new mine_old mine_now mine_new commits moment step hidden none
 pub commits_written : (found : Option History) (old new : LogView) (mine_old mine_new : List (ℕ × Entry)) (commits moment : ℕ) → HasBegun found old.history old.gate → ReadsAll old new mine_old mine_new commits moment
     → (changes : List (ℕ × Change)) × HasCommits found changes × Writes mine_old mine_new changes
 commits_written found old new mine_old mine_new commits moment begun p = (kept_in p.records, (new, p.records, (p.opened found begun).0, refl), p.written)
+
+-- a log that was read to its end and then shared was opened on the disk that it was begun with
+pub opened_on : (found : Option History) (begun new : LogView) (mine_old mine_new : List (ℕ × Entry)) (commits moment : ℕ) (place : LogTurnstile) → HasBegun found begun.history begun.gate → ReadsAll begun new mine_old mine_new commits moment
+    → setting_of opened_of place ≡ record { log = new; commits = commits; moment = moment } → IsOpenedOn found place
+opened_on found begun new mine_old mine_new commits moment place is_begun read is = (
+  read.records,
+  subst (λ (l : LogView). HasOpened found l read.records) (sym (ap (λ (o : Opened). o.log) is)) (read.opened found is_begun).0,
+  ap (λ (o : Opened). o.commits) is ∙ read.commits_is,
+  ap (λ (o : Opened). o.moment) is ∙ read.moment_is,
+)

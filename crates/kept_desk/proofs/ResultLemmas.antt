@@ -4,7 +4,7 @@ use Rattle.commit_book.specs.declared.change.Change.{Change}
 use Rattle.hub_model.specs.declared.entry.Entry.{Entry}
 use Rattle.kept_desk.specs.Filling.{Writes}
 use Rattle.kept_desk.specs.Kept.{ReadsAll, kept_by}
-use Rattle.kept_desk.specs.Optional.{kept_with}
+use Rattle.kept_desk.specs.Optional.{kept_with, opened_with}
 use Rattle.kept_desk.proofs.FillLemmas.{writes_none}
 use Rattle.q_base.specs.Moment.{greatest_moment}
 use Rattle.record_log.specs.Logs.{LogView}
@@ -33,6 +33,9 @@ pub kept_taken : {Q X E : Type 0} (r : Result X E) (P : Q → List (ℕ × Chang
     → OnOk r ((changes : List (ℕ × Change)) × P q changes × Writes mine_old mine_new changes) → OnOk r ((changes : List (ℕ × Change)) × kept_with P o changes × Writes mine_old mine_new changes)
 kept_taken {Q} r P o q mine_old mine_new is wrote =
     subst (λ (x : Option Q). OnOk r ((changes : List (ℕ × Change)) × kept_with P x changes × Writes mine_old mine_new changes)) (sym is) wrote
+
+pub opened_taken : {Q L X E : Type 0} (r : Result X E) (P : Q → L → Type 0) (o : Option Q) (q : Q) (now : Option L) → o ≡ Some q → OnOk r ((place : L) → now ≡ Some place → P q place) → OnOk r ((place : L) → now ≡ Some place → opened_with P o place)
+opened_taken {Q} {L} r P o q now is opened = subst (λ (x : Option Q). OnOk r ((place : L) → now ≡ Some place → opened_with P x place)) (sym is) opened
 
 -- what was read to its end is told
 pub read_told : {E : Type 0} (r : Result AtOpening E) (at : AtOpening) (old new : LogView) (mine_old mine_new : List (ℕ × Entry)) → IfOk r (λ a. a ≡ at) → ReadsAll old new mine_old mine_new at.commits at.moment → IfOk r (λ a. ReadsAll old new mine_old mine_new a.commits a.moment)

@@ -12,6 +12,10 @@ use Rattle.record_log.specs.Opened.{HasOpened}
 use Rattle.record_log.specs.Openings.{HasBegun}
 use Rattle.record_log.specs.declared.log_record.LogRecord.{LogRecord}
 use Rattle.record_log.specs.declared.log_record.LogRecord.TheVariants.{Commit, Moment}
+use Rattle.shared_log.specs.LogValues.{LogValueView, opened_of}
+use Rattle.shared_log.specs.Notes.{LogNote, Opened}
+use Rattle.turnstile.specs.Seats.{setting_of}
+use Rattle.turnstile.specs.declared.gate.Turnstile.{Turnstile}
 
 -- the commit of a record, as it is written again: its clock, and its change
 abbrev pub kept_by : LogRecord → List (ℕ × Change)
@@ -39,6 +43,11 @@ HasCommits found changes = (log : LogView) × (records : List LogRecord) × HasO
 -- and this is the latest moment that it keeps
 abbrev pub HasMoment : Option History → ℕ → Type 0
 HasMoment found moment = (log : LogView) × (records : List LogRecord) × HasOpened found log records × (moment ≡ last_moment 0 records)
+
+-- a shared log was opened on a disk, with the commits of its log and the latest moment that it keeps
+abbrev pub IsOpenedOn : Option History → Turnstile LogValueView LogNote Opened → Type 0
+IsOpenedOn found place = let o = setting_of opened_of place in
+    (records : List LogRecord) × HasOpened found o.log records × (o.commits ≡ length (kept_in records)) × (o.moment ≡ last_moment 0 records)
 
 -- A log was read to its end, and a desk has written its commits, so many, and this is the latest moment that it keeps.
 pub record ReadsAll (old new : LogView) (mine_old mine_new : List (ℕ × Entry)) (commits moment : ℕ) : Type 0 where

@@ -1,5 +1,6 @@
 pub mod Filling
 pub mod Kept
+pub mod Main
 pub mod Optional
 pub use Rattle.hub_desk.specs.HubValue
 pub use Rattle.hub_model.specs.Desk

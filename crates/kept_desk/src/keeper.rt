@@ -1,5 +1,5 @@
 //! Who keeps the commits of a server.
-ghost use Rattle.std.specs.Prelude.{◌≡◌, ℕ, Bool, false, true, List, [], IfOk, OnOk, OnErr};
+ghost use Rattle.std.specs.Prelude.{◌≡◌, ℕ, Bool, false, true, List, [], Option, Some, IfOk, OnOk, OnErr};
 ghost use Rattle.commit_book.specs.declared.change.Change.{Change as AChange};
 ghost use Rattle.kept_desk.specs.Filling.{Fills, Writes};
 
@@ -27,6 +27,12 @@ pub trait Keeper {
     /// For how long caches may keep a reply of this store, in seconds.
     ghost longest: { Self → ℕ };
 
+    /// Where its hands keep what they are given, once the store is filled.
+    ghost log: { Self → Option Self.Hand.Log };
+
+    /// This was opened on what was kept before, as far as the keeper shows.
+    ghost opens: { Self → Self.Hand.Log → Type 0 };
+
     /// The second from which on no reply may be shown any more that was given before. Until then the pages of
     /// the store have every bit set.
     fn guard(&self) -> u64
@@ -37,6 +43,7 @@ pub trait Keeper {
     fn fill<D: Desk>(&mut self, desk: &mut D, up_to: Moment) -> Result<(), Unfilled>
         ensures fills { Fills (D.setting desk.old) (D.seen desk.old) (D.seen desk.new) (D.mine desk.old) (D.mine desk.new) }
         ensures written { OnOk result ((changes : List (ℕ × AChange)) × kept self.old changes × Writes (D.mine desk.old) (D.mine desk.new) changes) }
+        ensures opened { OnOk result ((place : Self.Hand.Log) → log self.new ≡ Some place → opens self.old place) }
         ensures refused { OnErr result (may_fail self.old ≡ true) }
         ensures none { may_fail self.old ≡ false → (D.seen desk.new ≡ D.seen desk.old) × (D.mine desk.new ≡ D.mine desk.old) }
         ensures anchor { D.anchor desk.new ≡ D.anchor desk.old }
@@ -48,6 +55,8 @@ pub trait Keeper {
     fn hand(&mut self) -> Result<Self::Hand, Memory>
         ensures hand { IfOk result (λ hand. Self.Hand.may_fail hand ≡ may_fail self.old) }
         ensures lasts { IfOk result (λ hand. Self.Hand.longest hand ≡ longest self.old) }
+        ensures tied { IfOk result (λ hand. log self.old ≡ Some (Self.Hand.log hand)) }
+        ensures log { log self.new ≡ log self.old }
         ensures longest { longest self.new ≡ longest self.old }
         ensures same { may_fail self.new ≡ may_fail self.old };
 }
@@ -59,7 +68,7 @@ pub struct NoKeeper;
 impl Keeper for NoKeeper {
     type Hand = NoKeeping;
 
-    ghost use Rattle.std.specs.Prelude.{◌≡◌, false, []};
+    ghost use Rattle.std.specs.Prelude.{◌≡◌, false, [], Some};
 
     ghost may_fail = { λ _. false };
 
@@ -68,6 +77,10 @@ impl Keeper for NoKeeper {
     ghost moment = { λ _. 0 };
 
     ghost longest = { λ _. 0 };
+
+    ghost log = { λ _. Some tt };
+
+    ghost opens = { λ _ _. Unit {0} };
 
     fn guard(&self) -> u64 {
         0

@@ -6,6 +6,12 @@ use q_base::{Commit, Memory, Moment};
 
 /// Who keeps the commits that one desk makes and shows.
 pub trait Keeping {
+    /// Where commits are kept.
+    type Log;
+
+    /// Where this one keeps them, which no call changes.
+    ghost log: { Self → Self.Log };
+
     /// So many commits of the store are kept: no crash takes them back. One who keeps none says nothing.
     ghost keeps: { Self → ℕ → Type 0 };
 
@@ -26,6 +32,7 @@ pub trait Keeping {
         ensures failing { OnErr result (may_fail self.old ≡ true) }
         ensures asked { (until : ℕ) → asks self.old until → asks self.new until }
         ensures longest { longest self.new ≡ longest self.old }
+        ensures log { log self.new ≡ log self.old }
         ensures same { may_fail self.new ≡ may_fail self.old };
 
     /// Takes the record of the change that was prepared last, which became this commit. Commits are taken in
@@ -33,6 +40,7 @@ pub trait Keeping {
     fn take(&mut self, commit: Commit, clock: Moment)
         ensures asked { (until : ℕ) → asks self.old until → asks self.new until }
         ensures longest { longest self.new ≡ longest self.old }
+        ensures log { log self.new ≡ log self.old }
         ensures same { may_fail self.new ≡ may_fail self.old };
 
     /// Hears that a read was answered at this clock. Its reply may be kept by caches, for as long as it says.
@@ -40,6 +48,7 @@ pub trait Keeping {
         ensures heard { asks self.new (clock + longest self.old) }
         ensures asked { (until : ℕ) → asks self.old until → asks self.new until }
         ensures longest { longest self.new ≡ longest self.old }
+        ensures log { log self.new ≡ log self.old }
         ensures same { may_fail self.new ≡ may_fail self.old };
 
     /// Waits until so many commits are kept, and a moment behind the end of each copy of a reply that was
@@ -50,6 +59,7 @@ pub trait Keeping {
         ensures unkept { OnErr result (may_fail self.old ≡ true) }
         ensures asked { (until : ℕ) → asks self.old until → asks self.new until }
         ensures longest { longest self.new ≡ longest self.old }
+        ensures log { log self.new ≡ log self.old }
         ensures same { may_fail self.new ≡ may_fail self.old };
 }
 
@@ -58,6 +68,10 @@ pub trait Keeping {
 pub struct NoKeeping;
 
 impl Keeping for NoKeeping {
+    type Log = ();
+
+    ghost log = { λ _. tt };
+
     ghost keeps = { λ _ _. Unit {0} };
 
     ghost longest = { λ _. 0 };

@@ -46,9 +46,9 @@ impl<D: Desk + Drop, H: Keeping + Drop> KeptDesk<D, H> {
 }
 
 impl<D: Desk + Drop, H: Keeping + Drop> Desk for KeptDesk<D, H> {
-    type Anchor = D::Anchor;
+    type Anchor = (D::Anchor, H::Log);
 
-    ghost anchor = { λ k. D.anchor k.desk };
+    ghost anchor = { λ k. (D.anchor k.desk, H.log k.hand) };
 
     ghost setting = { λ k. D.setting k.desk };
 

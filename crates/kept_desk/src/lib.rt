@@ -8,6 +8,7 @@ mod kept_desk;
 mod log_keeper;
 mod log_keeping;
 mod looking;
+mod main_log;
 mod optional;
 mod unfilled;
 

@@ -1,19 +1,21 @@
 //! One who keeps the commits of a server in a log on a disk.
-ghost use Rattle.std.specs.Prelude.{◌≡◌, ℕ, ◌+◌, ◌<◌, ◌^◌, List, Option, true, IfOk, OnOk};
-ghost use Rattle.std.specs.Arc.{arc_value};
+ghost use Rattle.std.specs.Prelude.{◌≡◌, ℕ, ◌+◌, ◌<◌, ◌^◌, List, Option, Some, true, IfOk, OnOk};
 ghost use Rattle.commit_book.specs.declared.change.Change.{Change as AChange};
 ghost use Rattle.disks.specs.Histories.{History};
 ghost use Rattle.record_log.specs.Images.{IsReady};
 ghost use Rattle.record_log.specs.Openings.{HasBegun};
-ghost use Rattle.shared_log.specs.Shared.{IsSeated};
 ghost use Rattle.kept_desk.specs.Filling.{Fills, Writes};
-ghost use Rattle.kept_desk.specs.Kept.{HasCommits, HasMoment};
-ghost use Rattle.kept_desk.specs.Optional.{kept_with};
+ghost use Rattle.kept_desk.specs.Kept.{HasCommits, HasMoment, IsOpenedOn};
+ghost use Rattle.kept_desk.specs.Main.{LogTurnstile, log_in};
+ghost use Rattle.kept_desk.specs.Optional.{kept_with, opened_with};
+ghost use Rattle.shared_log.specs.LogValues.{opened_of};
+ghost use Rattle.turnstile.specs.Seats.{setting_of};
 
 use crate::filling::fill;
 use crate::keeper::{Keeper, fill_with_none};
 use crate::log_keeping::LogKeeping;
 use crate::looking::look_through;
+use crate::main_log::Main;
 use crate::unfilled::Unfilled;
 use disks::{Disk, SyncPolicy};
 use hub_desk::Desk;
@@ -23,7 +25,6 @@ use shared_log::{AtOpening, LogHand, LogValue, SharedLog};
 use std::alloc::Global;
 use std::rt::Clock;
 use std::sync::{Arc, Wait};
-use turnstile::Seat;
 
 /// Who hears how the opening of a log goes. It has no part in what is served.
 pub trait Notes {
@@ -35,14 +36,6 @@ pub trait Notes {
 
     /// Hears why a log is refused.
     fn refused(&self, refusal: Unfilled);
-}
-
-/// The shared log of a server, and the seat off which those of its connections are split.
-#[derive(Drop)]
-struct Main<K: Disk + Drop> {
-    shared: Arc<SharedLog<K>, Global>,
-    seat: Seat<LogValue<K>>,
-    ghost seated: { IsSeated (arc_value shared).turnstile seat },
 }
 
 /// One who keeps the commits of a server in a log on a disk.
@@ -101,7 +94,8 @@ impl<R: Wait + Clock + Copy + Drop, K: Disk + Drop, N: Notes + Drop> LogKeeper<R
     fn share(&mut self, opening: Opening<K>, at: AtOpening) -> Result<(), Unfilled>
         requires ready { IsReady opening.history opening.gate }
         requires room { opening.gate + 1 < 2 ^ 64 }
-        ensures { self.new.longest ≡ self.old.longest }
+        ensures longest { self.new.longest ≡ self.old.longest }
+        ensures opened { OnOk result ((place : LogTurnstile) → log_in self.new.main ≡ Some place → setting_of opened_of place ≡ record { log = opening; commits = at.commits; moment = at.moment }) }
     {
         let opened = SharedLog::open(self.alloc, opening.into_log(), at, self.sync);
         let Ok((shared, seat)) = opened else {
@@ -118,10 +112,11 @@ impl<R: Wait + Clock + Copy + Drop, K: Disk + Drop, N: Notes + Drop> LogKeeper<R
     }
 
     /// Fills a store, and shares the log.
-    #[tactic(auto, using(crate::proofs::ResultLemmas::kept_taken))]
+    #[tactic(auto, using(crate::proofs::ResultLemmas::kept_taken, crate::proofs::ResultLemmas::opened_taken))]
     fn fill_from<D: Desk>(&mut self, desk: &mut D, moment: Moment) -> Result<(), Unfilled>
         ensures fills { Fills (D.setting desk.old) (D.seen desk.old) (D.seen desk.new) (D.mine desk.old) (D.mine desk.new) }
         ensures written { OnOk result ((changes : List (ℕ × AChange)) × kept_with (λ disk. HasCommits (K.at disk).history) self.old.disk changes × Writes (D.mine desk.old) (D.mine desk.new) changes) }
+        ensures opened { OnOk result ((place : LogTurnstile) → log_in self.new.main ≡ Some place → opened_with (λ disk. IsOpenedOn (K.at disk).history) self.old.disk place) }
         ensures anchor { D.anchor desk.new ≡ D.anchor desk.old }
         ensures setting { D.setting desk.new ≡ D.setting desk.old }
         ensures longest { self.new.longest ≡ self.old.longest }
@@ -139,6 +134,7 @@ impl<R: Wait + Clock + Copy + Drop, K: Disk + Drop, N: Notes + Drop> LogKeeper<R
     fn fill_with<D: Desk>(&mut self, desk: &mut D, disk: K, moment: Moment) -> Result<(), Unfilled>
         ensures fills { Fills (D.setting desk.old) (D.seen desk.old) (D.seen desk.new) (D.mine desk.old) (D.mine desk.new) }
         ensures written { OnOk result ((changes : List (ℕ × AChange)) × HasCommits (K.at disk).history changes × Writes (D.mine desk.old) (D.mine desk.new) changes) }
+        ensures opened { OnOk result ((place : LogTurnstile) → log_in self.new.main ≡ Some place → IsOpenedOn (K.at disk).history place) }
         ensures anchor { D.anchor desk.new ≡ D.anchor desk.old }
         ensures setting { D.setting desk.new ≡ D.setting desk.old }
         ensures longest { self.new.longest ≡ self.old.longest }
@@ -162,6 +158,7 @@ impl<R: Wait + Clock + Copy + Drop, K: Disk + Drop, N: Notes + Drop> LogKeeper<R
         requires { (found : Option History) × HasBegun found opening.history opening.gate }
         ensures fills { Fills (D.setting desk.old) (D.seen desk.old) (D.seen desk.new) (D.mine desk.old) (D.mine desk.new) }
         ensures written { OnOk result ((found : Option History) → HasBegun found opening.history opening.gate → (changes : List (ℕ × AChange)) × HasCommits found changes × Writes (D.mine desk.old) (D.mine desk.new) changes) }
+        ensures opened { OnOk result ((found : Option History) → HasBegun found opening.history opening.gate → (place : LogTurnstile) → log_in self.new.main ≡ Some place → IsOpenedOn found place) }
         ensures anchor { D.anchor desk.new ≡ D.anchor desk.old }
         ensures setting { D.setting desk.new ≡ D.setting desk.old }
         ensures longest { self.new.longest ≡ self.old.longest }
@@ -181,8 +178,9 @@ where
     type Hand = LogKeeping<R, K>;
 
     ghost use Rattle.std.specs.Prelude.{true};
-    ghost use Rattle.kept_desk.specs.Kept.{HasCommits};
-    ghost use Rattle.kept_desk.specs.Optional.{kept_with};
+    ghost use Rattle.kept_desk.specs.Kept.{HasCommits, IsOpenedOn};
+    ghost use Rattle.kept_desk.specs.Main.{log_in};
+    ghost use Rattle.kept_desk.specs.Optional.{kept_with, opened_with};
 
     ghost may_fail = { λ _. true };
 
@@ -191,6 +189,10 @@ where
     ghost moment = { λ keeper. keeper.moment };
 
     ghost longest = { λ keeper. keeper.longest };
+
+    ghost log = { λ keeper. log_in keeper.main };
+
+    ghost opens = { λ keeper place. opened_with (λ disk. IsOpenedOn (K.at disk).history) keeper.disk place };
 
     fn guard(&self) -> u64 {
         self.moment

@@ -5,9 +5,10 @@ use crate::keeping::Keeping;
 use disks::Disk;
 use hub_desk::{Change, Unkept};
 use q_base::{Commit, Memory, Moment};
-use shared_log::LogHand;
+use shared_log::{LogHand, LogValue};
 use std::rt::Clock;
 use std::sync::Wait;
+use turnstile::Turnstile;
 
 /// One who keeps the commits of a desk in a log on a disk, and for each read a moment behind the end of all
 /// copies of its reply: so a store that is opened later, with whatever lifetimes of its own, knows how long
@@ -34,6 +35,10 @@ impl<R: Wait + Clock + Copy + Drop, K: Disk + Drop> Keeping for LogKeeping<R, K>
     ghost use Rattle.std.specs.Arc.{arc_value};
     ghost use Rattle.q_base.specs.Moment.{greatest_moment};
     ghost use Rattle.shared_log.specs.Shared.{Knows};
+
+    type Log = Turnstile<LogValue<K>>;
+
+    ghost log = { λ h. (arc_value h.hand.shared).turnstile };
 
     ghost keeps = { λ h n. Knows (arc_value h.hand.shared).turnstile h.hand.seat n 0 };
 

@@ -9,9 +9,13 @@ use hub_desk::{Change, Desk, Unkept};
 use q_base::{Commit, Memory, Moment};
 
 impl<H: Keeping> Keeping for Option<H> {
-    ghost use Rattle.std.specs.Prelude.{false};
+    ghost use Rattle.std.specs.Prelude.{false, option_map};
     ghost use Rattle.kept_desk.specs.Optional.{keeps_by, number_of};
     ghost use Rattle.std.specs.Option.{option_map_or};
+
+    type Log = Option<H::Log>;
+
+    ghost log = { λ o. option_map H.log o };
 
     ghost keeps = { λ o n. keeps_by H.keeps o n };
 
@@ -54,7 +58,7 @@ impl<Q: Keeper> Keeper for Option<Q> {
     type Hand = Option<Q::Hand>;
 
     ghost use Rattle.std.specs.Prelude.{false};
-    ghost use Rattle.kept_desk.specs.Optional.{kept_with, number_of};
+    ghost use Rattle.kept_desk.specs.Optional.{kept_with, log_of, number_of, opens_with};
     ghost use Rattle.std.specs.Option.{option_map_or};
 
     ghost may_fail = { λ o. option_map_or Q.may_fail o false };
@@ -64,6 +68,10 @@ impl<Q: Keeper> Keeper for Option<Q> {
     ghost moment = { λ o. number_of Q.moment o };
 
     ghost longest = { λ o. number_of Q.longest o };
+
+    ghost log = { λ o. log_of Q.log o };
+
+    ghost opens = { λ o place. opens_with Q.opens o place };
 
     fn guard(&self) -> u64 {
         match self {

@@ -15,10 +15,10 @@ gave_rest before mid after first rest (Ok x) g h = gave_both before mid after fi
 gave_rest before mid after first rest (Err e) g h = part_behind before mid after first rest g h
 
 -- the end of the sink changes nothing
-pub through_ended : {D S K C : Type 0} (source_at : S → End) (sink_at : K → End) (ended_at : K → LastEnd) (tick : C → ℕ → C → Type 0) (may : C → Type 0) (doors_at : D → DoorsView S K) (kept : List (ℕ × Change) → Type 0) (moment : ℕ) (ask : ServeAsk) (address : List ℕ) (sink sink' ended : End) (doors doors' : D) (status : Status)
-    → ended ≡ sink' → IsThrough source_at sink_at ended_at tick may doors_at kept moment ask address sink sink' doors doors' status → IsThrough source_at sink_at ended_at tick may doors_at kept moment ask address sink ended doors doors' status
-through_ended source_at sink_at ended_at tick may doors_at kept moment ask address sink sink' ended doors doors' status same through =
-    subst (λ (s : End). IsThrough source_at sink_at ended_at tick may doors_at kept moment ask address sink s doors doors' status) (sym same) through
+pub through_ended : {D S K C H : Type 0} (source_at : S → End) (sink_at : K → End) (ended_at : K → LastEnd) (tick : C → ℕ → C → Type 0) (stands : H → ℕ → Type 0) (may : C → Type 0) (tie : H → Type 0) (doors_at : D → DoorsView S K) (kept : List (ℕ × Change) → Type 0) (moment : ℕ) (ask : ServeAsk) (address : List ℕ) (sink sink' ended : End) (doors doors' : D) (status : Status)
+    → ended ≡ sink' → IsThrough source_at sink_at ended_at tick stands may tie doors_at kept moment ask address sink sink' doors doors' status → IsThrough source_at sink_at ended_at tick stands may tie doors_at kept moment ask address sink ended doors doors' status
+through_ended source_at sink_at ended_at tick stands may tie doors_at kept moment ask address sink sink' ended doors doors' status same through =
+    subst (λ (s : End). IsThrough source_at sink_at ended_at tick stands may tie doors_at kept moment ask address sink s doors doors' status) (sym same) through
 
 -- the guard does not change whether commits are kept
 pub guarded_keeps : (given : Bool) (g : Setting) (moment : ℕ) → (guarded given g moment).keeps ≡ g.keeps

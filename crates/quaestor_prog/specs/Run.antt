@@ -21,6 +21,7 @@ use Rattle.quaestor_prog.specs.Status.{status_of}
 use Rattle.quaestor_prog.specs.declared.status.Status.{Status}
 use Rattle.quaestor_prog.specs.declared.status.Status.TheVariants.{Done, Words, WriteFault, Memory, StoreFault}
 use Rattle.quaestor_prog.specs.Serving.{guarded, longest_of}
+use Rattle.quaestor_serve.specs.Served.{KeptBy}
 use Rattle.quaestor_server.specs.Conversation.{Conversation}
 use Rattle.crash_core.specs.Told.{IsCrashText}
 use Rattle.turnstile.specs.Places.{AllOf}
@@ -42,7 +43,7 @@ pub record Pipes (g : Setting) (a b : Sides) (ended : LastEnd) (tells : List ℕ
   pub legal : IsLegal g entries
   pub served : Served
   -- the desk stores its entries, so memory for those of a request may run out, whatever it asks
-  pub conversation : Conversation g true tells [] entries [] (enumerate_from 0 entries) a b served
+  pub conversation : Conversation g true tells (λ commits. Unit {0}) [] entries [] (enumerate_from 0 entries) a b served
   pub status_is : status ≡ status_of served.why
   pub is_ended : HasEnded ended b.sink.bytes
 
@@ -92,15 +93,17 @@ IsRun g a b ended tells status = Pipes g a b ended tells status ⊎ IsUnbegun a 
 abbrev pub HasWritten : (List (ℕ × Change) → Type 0) → (mine mine' : List (ℕ × Entry)) → Type 0
 HasWritten kept mine mine' = (changes : List (ℕ × Change)) × kept changes × Writes mine mine' changes
 
--- The connection was served over a store that a file keeps: its history begins with entries that write what the file has, and has no others but its own.
-pub record PipesKept (kept : List (ℕ × Change) → Type 0) (g : Setting) (a b : Sides) (ended : LastEnd) (tells : List ℕ → Type 0) (status : Status) : Type 0 where
+-- The connection was served over a store that a file keeps: its history begins with entries that write what the file has, and has no others but its own. No reply shows a commit but of so many as were kept then, in a log that was opened on the file.
+pub record PipesKept {H L : Type 0} (opened : L → Type 0) (log : H → L) (keeps : H → ℕ → Type 0) (kept : List (ℕ × Change) → Type 0) (g : Setting) (a b : Sides) (ended : LastEnd) (tells : List ℕ → Type 0) (status : Status) : Type 0 where
   pub filled : List Entry
   pub filling : AllOf IsFilling filled
   pub restored : kept (flat_map written_by filled)
   pub entries : List Entry
   pub legal : IsLegal g entries
   pub served : Served
-  pub conversation : Conversation g true tells filled entries (enumerate_from 0 filled) (enumerate_from 0 entries) a b served
+  pub hand : H
+  pub hand_is : opened (log hand)
+  pub conversation : Conversation g true tells (KeptBy log keeps hand) filled entries (enumerate_from 0 filled) (enumerate_from 0 entries) a b served
   pub status_is : status ≡ status_of served.why
   pub is_ended : HasEnded ended b.sink.bytes
 
@@ -113,15 +116,15 @@ pub record IsUnkept (a b : Sides) (ended : LastEnd) (tells : List ℕ → Type 0
   pub ticks : tells []
 
 -- the connection was served over a store that a file keeps, or nothing was begun
-abbrev pub IsRunKept : (List (ℕ × Change) → Type 0) → Setting → Sides → Sides → LastEnd → (List ℕ → Type 0) → Status → Type 0
-IsRunKept kept g a b ended tells status = PipesKept kept g a b ended tells status ⊎ (IsUnkept a b ended tells status ⊎ IsUnbegun a b tells status)
+abbrev pub IsRunKept : {H L : Type 0} → (opened : L → Type 0) → (log : H → L) → (keeps : H → ℕ → Type 0) → (List (ℕ × Change) → Type 0) → Setting → Sides → Sides → LastEnd → (List ℕ → Type 0) → Status → Type 0
+IsRunKept opened log keeps kept g a b ended tells status = PipesKept opened log keeps kept g a b ended tells status ⊎ (IsUnkept a b ended tells status ⊎ IsUnbegun a b tells status)
 
-module _ {P Q : Type 0} (opens : P → DataAsk → ℕ → Q → P → Type 0) (kept_by : Q → List (ℕ × Change) → Type 0) (moment : Q → ℕ) where
+module _ {P Q H L : Type 0} (opens : P → DataAsk → ℕ → Q → P → Type 0) (opened_by : Q → L → Type 0) (log : H → L) (keeps : H → ℕ → Type 0) (kept_by : Q → List (ℕ × Change) → Type 0) (moment : Q → ℕ) where
   -- The places opened the file that is asked for and gave its keeper, and this came of the connection over what the keeper has, with the guard that comes of it.
   pub record HasOpened (ask : PipeAsk) (places places' : P) (a b : Sides) (ended : LastEnd) (tells : List ℕ → Type 0) (status : Status) : Type 0 where
     pub keeper : Q
     pub opened : opens places ask.store (longest_of ask.setting) keeper places'
-    pub run : IsRunKept (kept_by keeper) (guarded true ask.setting (moment keeper)) a b ended tells status
+    pub run : IsRunKept (opened_by keeper) log keeps (kept_by keeper) (guarded true ask.setting (moment keeper)) a b ended tells status
 
   -- the file is refused; or there was no memory; or the file was opened, and what came of it
   abbrev pub IsRunOver : PipeAsk → (places places' : P) → Sides → Sides → LastEnd → (List ℕ → Type 0) → Status → Type 0

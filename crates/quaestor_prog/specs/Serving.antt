@@ -15,6 +15,7 @@ use Rattle.command_line.specs.Words.{ServeAsk}
 use Rattle.quaestor_prog.specs.declared.status.Status.{Status}
 use Rattle.quaestor_prog.specs.declared.status.Status.TheVariants.{WriteFault, Memory, PlaceFault, StoreFault}
 use Rattle.quaestor_serve.specs.declared.serve_end.ServeEnd.{ServeEnd}
+use Rattle.quaestor_serve.specs.Served.{IsOfKeeper, KeptBy}
 use Rattle.quaestor_serve.specs.Serves.{Serves}
 
 -- the line that is given before the first connection
@@ -59,11 +60,11 @@ IsUnkeptServer sink sink' ended places places' status =
 abbrev pub IsUnannounced : {D : Type 0} → (address : List ℕ) → (sink sink' : End) → (doors doors' : D) → Status → Type 0
 IsUnannounced address sink sink' doors doors' status = (status ≡ WriteFault) × GavePart sink sink' (listening_line address) × (doors' ≡ doors)
 
-module _ {D S K C : Type 0} (source_at : S → End) (sink_at : K → End) (ended_at : K → LastEnd) (tick : C → ℕ → C → Type 0) (may : C → Type 0) (doors_at : D → DoorsView S K) (kept : List (ℕ × Change) → Type 0) (moment : ℕ) where
+module _ {D S K C H : Type 0} (source_at : S → End) (sink_at : K → End) (ended_at : K → LastEnd) (tick : C → ℕ → C → Type 0) (stands : H → ℕ → Type 0) (may : C → Type 0) (tie : H → Type 0) (doors_at : D → DoorsView S K) (kept : List (ℕ × Change) → Type 0) (moment : ℕ) where
   -- The store was filled with what was kept, the connections were served that came through the doors, and then the last line was given, or a part of it.
   pub record IsServed (ask : ServeAsk) (sink sink' : End) (doors doors' : D) (status : Status) : Type 0 where
     pub end : ServeEnd
-    pub serves : Serves source_at sink_at ended_at tick may kept (guarded (is_some ask.store.file) ask.setting moment) ask.trim (doors_at doors) (doors_at doors') ask.connections end
+    pub serves : Serves source_at sink_at ended_at tick stands may tie kept (guarded (is_some ask.store.file) ask.setting moment) ask.trim (doors_at doors) (doors_at doors') ask.connections end
     pub last_line : EndsWith sink sink' (served_line end.connections) (status_of_server end.why) status
 
   -- the first line, with the address as it is told, was given in part; or whole, and what came then
@@ -72,7 +73,7 @@ module _ {D S K C : Type 0} (source_at : S → End) (sink_at : K → End) (ended
       IsUnannounced address sink sink' doors doors' status
       ⊎ ((announced : End) × GaveBytes sink announced (listening_line address) × IsServed ask announced sink' doors doors' status)
 
-module _ {P Q D L S K C : Type 0} (source_at : S → End) (sink_at : K → End) (ended_at : K → LastEnd) (tick : C → ℕ → C → Type 0) (may : C → Type 0) (doors_at : D → DoorsView S K) (places_at : P → PlacesView D L) (gives : P → List ℕ → Limits → WatchAsk → D → P → Type 0) (tells : P → List ℕ → Type 0) (opens : P → DataAsk → ℕ → Q → P → Type 0) (fails : Q → Bool) (kept_by : Q → List (ℕ × Change) → Type 0) (moment : Q → ℕ) where
+module _ {P Q D L S K C H G : Type 0} (source_at : S → End) (sink_at : K → End) (ended_at : K → LastEnd) (tick : C → ℕ → C → Type 0) (log : H → G) (keeps : H → ℕ → Type 0) (may : C → Type 0) (doors_at : D → DoorsView S K) (places_at : P → PlacesView D L) (gives : P → List ℕ → Limits → WatchAsk → D → P → Type 0) (tells : P → List ℕ → Type 0) (opens : P → DataAsk → ℕ → Q → P → Type 0) (fails : Q → Bool) (opened_by : Q → G → Type 0) (kept_by : Q → List (ℕ × Change) → Type 0) (moment : Q → ℕ) where
   -- The places gave doors at the address, and have them back as they are now. The keeper has what the store was filled with. The sink was ended behind all that was given.
   pub record HasListened (ask : ServeAsk) (keeper : Q) (sink sink' : End) (ended : LastEnd) (places places' : P) (status : Status) : Type 0 where
     pub doors : D
@@ -85,7 +86,7 @@ module _ {P Q D L S K C : Type 0} (source_at : S → End) (sink_at : K → End) 
     pub told : tells listening address
     pub are_new : AreNew (doors_at doors)
     pub kept : places_at places' ≡ record (places_at places) { kept = Some doors_left }
-    pub through : IsThrough source_at sink_at ended_at tick may doors_at (kept_by keeper) (moment keeper) ask address sink sink' doors doors_left status
+    pub through : IsThrough source_at sink_at ended_at tick (KeptBy log keeps) may (IsOfKeeper opened_by log keeper) doors_at (kept_by keeper) (moment keeper) ask address sink sink' doors doors_left status
     pub is_ended : HasEnded ended sink'.bytes
 
   -- the places failed; or doors were listened at, and what came of it

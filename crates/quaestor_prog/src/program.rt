@@ -61,11 +61,11 @@ where
         (AreTimed C.tick clock.old clock.new ask.at) result
         × (places.new ≡ places.old) }
     ensures pipe_kept { (ask : PipeAsk) → IsPipe (map string_bytes words.now) ask → is_some ask.store.file ≡ true
-        → IsRunOver P.opens P.Keeper.kept P.Keeper.moment ask places.old places.new (record { source = S.at source.old; sink = K.at sink.old })
+        → IsRunOver P.opens P.Keeper.opens P.Keeper.Hand.log P.Keeper.Hand.keeps P.Keeper.kept P.Keeper.moment ask places.old places.new (record { source = S.at source.old; sink = K.at sink.old })
         (record { source = S.at source.new; sink = K.at sink.new }) (K.ended sink.new)
         (AreTimed C.tick clock.old clock.new ask.at) result }
     ensures serve { (ask : ServeAsk) → IsServe (map string_bytes words.now) ask
-        → IsServing P.Doors.From.at P.Doors.To.at P.Doors.To.ended C.tick (C.is_clone clock.old) P.Doors.at P.at P.gives P.tells P.opens P.Keeper.may_fail P.Keeper.kept P.Keeper.moment ask
+        → IsServing P.Doors.From.at P.Doors.To.at P.Doors.To.ended C.tick P.Keeper.Hand.log P.Keeper.Hand.keeps (C.is_clone clock.old) P.Doors.at P.at P.gives P.tells P.opens P.Keeper.may_fail P.Keeper.opens P.Keeper.kept P.Keeper.moment ask
         (record { source = S.at source.old; sink = K.at sink.old })
         (record { source = S.at source.new; sink = K.at sink.new }) (K.ended sink.new)
         clock.old clock.new places.old places.new result }
@@ -120,7 +120,7 @@ fn pipe_kept<S: Source, K: Sink, C: Clock, P: Places>(
         (record { source = S.at source.new; sink = K.at sink.new }) (K.ended sink.new)
         (AreTimed C.tick clock.old clock.new options.entry.clock) result }
     ensures places { is_some options.entry.store ≡ false → places.new ≡ places.old }
-    ensures kept { is_some options.entry.store ≡ true → IsRunOver P.opens P.Keeper.kept P.Keeper.moment (pipe_ask_of options.entry) places.old places.new (record { source = S.at source.old; sink = K.at sink.old })
+    ensures kept { is_some options.entry.store ≡ true → IsRunOver P.opens P.Keeper.opens P.Keeper.Hand.log P.Keeper.Hand.keeps P.Keeper.kept P.Keeper.moment (pipe_ask_of options.entry) places.old places.new (record { source = S.at source.old; sink = K.at sink.old })
         (record { source = S.at source.new; sink = K.at sink.new }) (K.ended sink.new)
         (AreTimed C.tick clock.old clock.new options.entry.clock) result }
 {
@@ -156,7 +156,7 @@ fn pipe_at<Q: Keeper, S: Source, K: Sink, C: Clock>(
     ensures run { Q.may_fail keeper.old ≡ false → IsRun config (record { source = S.at source.old; sink = K.at sink.old })
         (record { source = S.at source.new; sink = K.at sink.new }) (K.ended sink.new)
         (AreTimed C.tick clock.old clock.new at) result }
-    ensures kept { IsRunKept (Q.kept keeper.old) config (record { source = S.at source.old; sink = K.at sink.old })
+    ensures kept { IsRunKept (Q.opens keeper.old) Q.Hand.log Q.Hand.keeps (Q.kept keeper.old) config (record { source = S.at source.old; sink = K.at sink.old })
         (record { source = S.at source.new; sink = K.at sink.new }) (K.ended sink.new)
         (AreTimed C.tick clock.old clock.new at) result }
 {
@@ -182,7 +182,7 @@ fn pipe<Q: Keeper, S: Source, K: Sink, C: Clock>(
     ensures run { Q.may_fail keeper.old ≡ false → IsRun config (record { source = S.at source.old; sink = K.at sink.old })
         (record { source = S.at source.new; sink = K.at sink.new }) (K.ended sink.new)
         (λ ms. Ticks C.tick clock.old ms clock.new) result }
-    ensures kept { IsRunKept (Q.kept keeper.old) config (record { source = S.at source.old; sink = K.at sink.old })
+    ensures kept { IsRunKept (Q.opens keeper.old) Q.Hand.log Q.Hand.keeps (Q.kept keeper.old) config (record { source = S.at source.old; sink = K.at sink.old })
         (record { source = S.at source.new; sink = K.at sink.new }) (K.ended sink.new)
         (λ ms. Ticks C.tick clock.old ms clock.new) result }
 {
@@ -219,6 +219,7 @@ fn begin<Q: Keeper>(desk: &mut Owned, keeper: &mut Q) -> Result<Q::Hand, Status>
     ensures written { IfOk result (λ _. HasWritten (Q.kept keeper.old) (enumerate_from 0 desk.old.entries) (enumerate_from 0 desk.new.entries)) }
     ensures none { Q.may_fail keeper.old ≡ false → desk.new.entries ≡ desk.old.entries }
     ensures hand { IfOk result (λ hand. Q.Hand.may_fail hand ≡ Q.may_fail keeper.old) }
+    ensures opened { IfOk result (λ hand. Q.opens keeper.old (Q.Hand.log hand)) }
     ensures unfilled { IfErr result (λ status. ((status ≡ StoreFault) × (Q.may_fail keeper.old ≡ true)) ⊎ (status ≡ OutOfMemory)) }
 {
     match keeper.fill(desk, Moment::of(0)) {

@@ -3,6 +3,7 @@ ghost use Rattle.std.specs.Prelude.{◌≡◌, ◌<◌, ◌++◌, true, is_some,
 ghost use Rattle.q_outside.specs.Ends.{Gave};
 ghost use Rattle.quaestor_prog.specs.Serving.{HasServed, HasTried, IsServed, IsThrough, guarded, longest_of};
 ghost use Rattle.command_line.specs.Words.{ask_of};
+ghost use Rattle.quaestor_serve.specs.Served.{IsOfKeeper, KeptBy};
 ghost use Rattle.quaestor_serve.specs.Serves.{Serves};
 
 use crate::places::Places;
@@ -36,7 +37,7 @@ where
     requires places { 0 < options.places }
     requires workers { 0 < options.workers }
     requires keeps { is_some options.store ≡ true → options.config.keeps ≡ true }
-    ensures { HasServed P.Doors.From.at P.Doors.To.at P.Doors.To.ended C.tick (C.is_clone clock.now) P.Doors.at P.at P.gives P.tells P.opens P.Keeper.may_fail P.Keeper.kept P.Keeper.moment (ask_of options.entry) (K.at sink.old) (K.at sink.new) (K.ended sink.new) places.old places.new result }
+    ensures { HasServed P.Doors.From.at P.Doors.To.at P.Doors.To.ended C.tick P.Keeper.Hand.log P.Keeper.Hand.keeps (C.is_clone clock.now) P.Doors.at P.at P.gives P.tells P.opens P.Keeper.may_fail P.Keeper.opens P.Keeper.kept P.Keeper.moment (ask_of options.entry) (K.at sink.old) (K.at sink.new) (K.ended sink.new) places.old places.new result }
 {
     match places.keeper(options.store, longest_of(&options.config)) {
         Ok(mut keeper) => serve_kept(rt, alloc, options, sink, clock, &mut keeper, places),
@@ -66,7 +67,7 @@ where
     requires workers { 0 < options.workers }
     requires keeps { is_some options.store ≡ true → options.config.keeps ≡ true }
     requires keeper { P.Keeper.may_fail keeper.old ≡ true → is_some options.store ≡ true }
-    ensures { HasTried P.Doors.From.at P.Doors.To.at P.Doors.To.ended C.tick (C.is_clone clock.now) P.Doors.at P.at P.gives P.tells P.opens P.Keeper.may_fail P.Keeper.kept P.Keeper.moment (ask_of options.entry) keeper.old (K.at sink.old) (K.at sink.new) (K.ended sink.new) places.old places.new result }
+    ensures { HasTried P.Doors.From.at P.Doors.To.at P.Doors.To.ended C.tick P.Keeper.Hand.log P.Keeper.Hand.keeps (C.is_clone clock.now) P.Doors.at P.at P.gives P.tells P.opens P.Keeper.may_fail P.Keeper.opens P.Keeper.kept P.Keeper.moment (ask_of options.entry) keeper.old (K.at sink.old) (K.at sink.new) (K.ended sink.new) places.old places.new result }
 {
     match places.listen(options.address, options.limits, options.watching) {
         Ok(mut doors) => {
@@ -134,7 +135,7 @@ where
     requires workers { 0 < options.workers }
     requires keeps { is_some options.store ≡ true → options.config.keeps ≡ true }
     requires keeper { Q.may_fail keeper.old ≡ true → is_some options.store ≡ true }
-    ensures { IsThrough D.From.at D.To.at D.To.ended C.tick (C.is_clone clock.now) D.at (Q.kept keeper.old) (Q.moment keeper.old) (ask_of options.entry) address.now (K.at sink.old) (K.at sink.new) doors.old doors.new result }
+    ensures { IsThrough D.From.at D.To.at D.To.ended C.tick (KeptBy Q.Hand.log Q.Hand.keeps) (C.is_clone clock.now) (IsOfKeeper Q.opens Q.Hand.log keeper.old) D.at (Q.kept keeper.old) (Q.moment keeper.old) (ask_of options.entry) address.now (K.at sink.old) (K.at sink.new) doors.old doors.new result }
 {
     match give_line(sink, b"listening on ", address.as_bytes()) {
         Ok(()) => serve_announced(rt, alloc, options, sink, clock, keeper, monitor, doors),
@@ -164,7 +165,7 @@ where
     requires workers { 0 < options.workers }
     requires keeps { is_some options.store ≡ true → options.config.keeps ≡ true }
     requires keeper { Q.may_fail keeper.old ≡ true → is_some options.store ≡ true }
-    ensures { IsServed D.From.at D.To.at D.To.ended C.tick (C.is_clone clock.now) D.at (Q.kept keeper.old) (Q.moment keeper.old) (ask_of options.entry) (K.at sink.old) (K.at sink.new) doors.old doors.new result }
+    ensures { IsServed D.From.at D.To.at D.To.ended C.tick (KeptBy Q.Hand.log Q.Hand.keeps) (C.is_clone clock.now) (IsOfKeeper Q.opens Q.Hand.log keeper.old) D.at (Q.kept keeper.old) (Q.moment keeper.old) (ask_of options.entry) (K.at sink.old) (K.at sink.new) doors.old doors.new result }
 {
     let end = serve_over(rt, alloc, options, clock, keeper, monitor, doors);
     let status = Status::of_server(end.why);
@@ -195,7 +196,7 @@ where
     requires workers { 0 < options.workers }
     requires keeps { is_some options.store ≡ true → options.config.keeps ≡ true }
     requires keeper { Q.may_fail keeper.old ≡ true → is_some options.store ≡ true }
-    ensures { Serves D.From.at D.To.at D.To.ended C.tick (C.is_clone clock.now) (Q.kept keeper.old) (guarded (is_some (ask_of options.entry).store.file) (ask_of options.entry).setting (Q.moment keeper.old)) (ask_of options.entry).trim (D.at doors.old) (D.at doors.new) (ask_of options.entry).connections result }
+    ensures { Serves D.From.at D.To.at D.To.ended C.tick (KeptBy Q.Hand.log Q.Hand.keeps) (C.is_clone clock.now) (IsOfKeeper Q.opens Q.Hand.log keeper.old) (Q.kept keeper.old) (guarded (is_some (ask_of options.entry).store.file) (ask_of options.entry).setting (Q.moment keeper.old)) (ask_of options.entry).trim (D.at doors.old) (D.at doors.new) (ask_of options.entry).connections result }
 {
     let crew = Crew {
         places: options.places,

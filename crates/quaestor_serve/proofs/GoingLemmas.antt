@@ -44,24 +44,24 @@ away_still (Some b) (Some m) given handed n k c less room =
     let same : m ≡ c.0 = let e = c.1 in cc in
     omega (arith, same, c.2, less, room)
 
-module _ {S K C : Type 0} where
+module _ {S K C H L : Type 0} where
   -- the doors keep memory for one more that came
-  pub room_for_one : (old new : DoorsView S K) (h : Hall S K C) (p : S × K) → Passes old new (p ∷ []) [] 0 → HaveRoom old h 0 → HaveRoom new h 1
+  pub room_for_one : (old new : DoorsView S K) (h : Hall S K C H L) (p : S × K) → Passes old new (p ∷ []) [] 0 → HaveRoom old h 0 → HaveRoom new h 1
   room_for_one old new h p passed room = away_still old.away new.away 1 0 (length h.running.items + 0) (length h.running.items + 1) passed.away (omega arith) room
 
   -- and for as many as before where none came
-  pub room_as_before : (old new : DoorsView S K) (h : Hall S K C) (closed : ℕ) → Passes old new [] [] closed → HaveRoom old h 0 → HaveRoom new h 0
+  pub room_as_before : (old new : DoorsView S K) (h : Hall S K C H L) (closed : ℕ) → Passes old new [] [] closed → HaveRoom old h 0 → HaveRoom new h 0
   room_as_before old new h closed passed room = away_still old.away new.away 0 0 (length h.running.items + 0) (length h.running.items + 0) passed.away (omega arith) room
 
   -- the one that came is served
-  pub room_with : (away : Option ℕ) (old new : List (Running S K C)) (r : Running S K C) → new ≡ old ++ r ∷ [] → IfSome away (λ n. length old + 1 ≤ n) → IfSome away (λ n. length new + 0 ≤ n)
+  pub room_with : (away : Option ℕ) (old new : List (Running S K C H L)) (r : Running S K C H L) → new ≡ old ++ r ∷ [] → IfSome away (λ n. length old + 1 ≤ n) → IfSome away (λ n. length new + 0 ≤ n)
   room_with away old new r more room =
       let longer : length new ≡ length old + 1 = ap length more ∙ length-append old (r ∷ []) in
       some_least away (length old + 1) (length new + 0) (omega (arith, longer)) room
 
-module _ {S K C : Type 0} (source_at : S → End) (sink_at : K → End) (ended_at : K → LastEnd) (tick : C → ℕ → C → Type 0) (may : C → Type 0) (base : List (ℕ × Entry)) where
+module _ {S K C H L : Type 0} (source_at : S → End) (sink_at : K → End) (ended_at : K → LastEnd) (tick : C → ℕ → C → Type 0) (kept : H → ℕ → Type 0) (may : C → Type 0) (tie : H → Type 0) (base : List (ℕ × Entry)) where
   -- a connection was handed back
-  pub goes_back : (first old new : DoorsView S K) (h l : Hall S K C) (waiting : List (Begun S K C)) (count closed : ℕ) (source : S) (sink : K) (served : Served) → Stays h l → Releases source_at sink_at ended_at tick h l source sink served → TookBack old new source sink (Some served) → Going source_at sink_at ended_at tick may base first old h waiting count closed → Going source_at sink_at ended_at tick may base first new l waiting count closed
+  pub goes_back : (first old new : DoorsView S K) (h l : Hall S K C H L) (waiting : List (Begun S K C H)) (count closed : ℕ) (source : S) (sink : K) (served : Served) → Stays h l → Releases source_at sink_at ended_at tick kept h l source sink served → TookBack old new source sink (Some served) → Going source_at sink_at ended_at tick kept may tie base first old h waiting count closed → Going source_at sink_at ended_at tick kept may tie base first new l waiting count closed
   goes_back first old new h l waiting count closed source sink served same r took going =
       let start = given_at first in
       let visit : Visit S K = record { number = r.begun.number.value; source = r.begun.source.value; sink = r.begun.sink.value; source_left = source; sink_left = sink; served = served; own = r.own; after = start + count; began = seen r.begun.seat.value; ended = r.ended } in
@@ -75,12 +75,13 @@ module _ {S K C : Type 0} (source_at : S → End) (sink_at : K → End) (ended_a
       let came_are : IsPermutation came (map given_of (going.visits ++ visit ∷ []) ++ map began_with (open_in waiting l)) = subst (λ (xs : List (ℕ × (S × K))). IsPermutation came (xs ++ map began_with (open_in waiting l))) (sym behind) moved in
       let below = numbers_below going.came (map given_of (going.visits ++ visit ∷ []) ++ map began_with (open_in waiting l)) count going.count_is came_are in
       let below_visits : AllOf (λ (v : Visit S K). v.number < count) (going.visits ++ visit ∷ []) = all_unmapped (λ (p : ℕ × (S × K)). p.0 < count) given_of (going.visits ++ visit ∷ []) (all_left (λ (p : ℕ × (S × K)). p.0 < count) (map given_of (going.visits ++ visit ∷ [])) (map began_with (open_in waiting l)) below) in
-      let below_open : AllOf (λ (b : Begun S K C). b.number.value < count) (open_in waiting l) = all_unmapped (λ (p : ℕ × (S × K)). p.0 < count) began_with (open_in waiting l) (all_right (λ (p : ℕ × (S × K)). p.0 < count) (map given_of (going.visits ++ visit ∷ [])) (map began_with (open_in waiting l)) below) in
+      let below_open : AllOf (λ (b : Begun S K C H). b.number.value < count) (open_in waiting l) = all_unmapped (λ (p : ℕ × (S × K)). p.0 < count) began_with (open_in waiting l) (all_right (λ (p : ℕ × (S × K)). p.0 < count) (map given_of (going.visits ++ visit ∷ [])) (map began_with (open_in waiting l)) below) in
       let later : AllOf (IsLater start (r.begun ∷ open_in waiting l)) going.visits = later_permuted start going.visits (open_in waiting h) (r.begun ∷ open_in waiting l) left going.later in
       let handed : map back_of (going.visits ++ visit ∷ []) ≡ map back_of going.visits ++ back_of visit ∷ [] = map-append back_of going.visits (visit ∷ []) in
       let both : Passes first new (going.came ++ []) (map back_of going.visits ++ back_of visit ∷ []) (closed + 0) = passed_both first old new going.came [] (map back_of going.visits) (back_of visit ∷ []) closed 0 going.passed passed in
       let none : closed + 0 ≡ closed = omega arith in
       let allowed = all_permuted (λ b. may b.clock.value) (open_in waiting h) (r.begun ∷ open_in waiting l) left going.clocks in
+      let tied = all_permuted (λ b. tie b.hand.value) (open_in waiting h) (r.begun ∷ open_in waiting l) left going.hands in
       record {
         came = going.came;
         visits = going.visits ++ visit ∷ [];
@@ -88,13 +89,13 @@ module _ {S K C : Type 0} (source_at : S → End) (sink_at : K → End) (ended_a
         passed = subst (λ (n : ℕ). Passes first new going.came (map back_of (going.visits ++ visit ∷ [])) n) none
             (subst (λ (xs : List (Back S K)). Passes first new going.came xs (closed + 0)) (sym handed)
             (subst (λ (xs : List (S × K)). Passes first new xs (map back_of going.visits ++ back_of visit ∷ []) (closed + 0)) (append-nil going.came) both));
-        each = all_append (IsWell source_at sink_at ended_at tick may (setting_in l) (seen_in l)) going.visits (visit ∷ [])
-            (all_stay source_at sink_at ended_at tick may (setting_in l) (seen_in h) (seen_in l) going.visits r.grew (subst (λ (g : Setting). AllOf (IsWell source_at sink_at ended_at tick may g (seen_in h)) going.visits) (sym setting) going.each))
-            ((r.begun.clock.value, allowed.0, r.is_served, r.is_ended), tt);
+        each = all_append (IsWell source_at sink_at ended_at tick kept may tie (setting_in l) (seen_in l)) going.visits (visit ∷ [])
+            (all_stay source_at sink_at ended_at tick kept may tie (setting_in l) (seen_in h) (seen_in l) going.visits r.grew (subst (λ (g : Setting). AllOf (IsWell source_at sink_at ended_at tick kept may tie g (seen_in h)) going.visits) (sym setting) going.each))
+            ((r.begun.clock.value, allowed.0, r.begun.hand.value, tied.0, r.is_served, r.is_ended), tt);
         ordered = ordered_more start going.visits visit going.ordered (later_first start going.visits r.begun (open_in waiting l) later)
             (known_to_none start visit count (λ (v : Visit S K). v.number) (λ (v : Visit S K). v.began) (going.visits ++ visit ∷ []) refl below_visits);
         later = all_append (IsLater start (open_in waiting l)) going.visits (visit ∷ []) (later_rest start going.visits r.begun (open_in waiting l) later)
-            (known_to_none start visit count (λ (b : Begun S K C). b.number.value) (λ (b : Begun S K C). seen b.seat.value) (open_in waiting l) refl below_open, tt);
+            (known_to_none start visit count (λ (b : Begun S K C H). b.number.value) (λ (b : Begun S K C H). seen b.seat.value) (open_in waiting l) refl below_open, tt);
         met =
             let all : flat_map own_of (going.visits ++ visit ∷ []) ≡ flat_map own_of going.visits ++ (r.own ++ []) = flat_map-append own_of going.visits (visit ∷ []) in
             let own : r.own ++ [] ≡ r.own = append-nil r.own in
@@ -103,10 +104,11 @@ module _ {S K C : Type 0} (source_at : S → End) (sink_at : K → End) (ended_a
         once = r.once;
         count_is = going.count_is;
         clocks = allowed.1;
+        hands = tied.1;
       }
 
   -- the doors gave no connection
-  pub goes_on : (first old new : DoorsView S K) (h : Hall S K C) (waiting : List (Begun S K C)) (count closed more : ℕ) → Passes old new [] [] more → Going source_at sink_at ended_at tick may base first old h waiting count closed → Going source_at sink_at ended_at tick may base first new h waiting count (closed + more)
+  pub goes_on : (first old new : DoorsView S K) (h : Hall S K C H L) (waiting : List (Begun S K C H)) (count closed more : ℕ) → Passes old new [] [] more → Going source_at sink_at ended_at tick kept may tie base first old h waiting count closed → Going source_at sink_at ended_at tick kept may tie base first new h waiting count (closed + more)
   goes_on first old new h waiting count closed more passed going =
       let handed = map back_of going.visits in
       let both : Passes first new (going.came ++ []) (handed ++ []) (closed + more) = passed_both first old new going.came [] handed [] closed more going.passed passed in
@@ -122,11 +124,12 @@ module _ {S K C : Type 0} (source_at : S → End) (sink_at : K → End) (ended_a
         once = going.once;
         count_is = going.count_is;
         clocks = going.clocks;
+        hands = going.hands;
       }
 
   -- a connection came, with a seat that was split off the main one since, and waits for a thread
-  pub comes : (first old new : DoorsView S K) (h : Hall S K C) (count : ℕ) (b : Begun S K C) (source : S) (sink : K) → Passes old new ((source, sink) ∷ []) [] 0 → b.number.value ≡ count → b.source.value ≡ source → b.sink.value ≡ sink → seen b.seat.value ≡ seen_in h → may b.clock.value → Going source_at sink_at ended_at tick may base first old h [] count 0 → Going source_at sink_at ended_at tick may base first new h (b ∷ []) (count + 1) 0
-  comes first old new h count b source sink passed number_is source_is sink_is seen_is allowed going =
+  pub comes : (first old new : DoorsView S K) (h : Hall S K C H L) (count : ℕ) (b : Begun S K C H) (source : S) (sink : K) → Passes old new ((source, sink) ∷ []) [] 0 → b.number.value ≡ count → b.source.value ≡ source → b.sink.value ≡ sink → seen b.seat.value ≡ seen_in h → may b.clock.value → tie b.hand.value → Going source_at sink_at ended_at tick kept may tie base first old h [] count 0 → Going source_at sink_at ended_at tick kept may tie base first new h (b ∷ []) (count + 1) 0
+  comes first old new h count b source sink passed number_is source_is sink_is seen_is allowed tied going =
       let handed = map back_of going.visits in
       let both : Passes first new (going.came ++ (source, sink) ∷ []) (handed ++ []) (0 + 0) = passed_both first old new going.came ((source, sink) ∷ []) handed [] 0 0 going.passed passed in
       let count_is = going.count_is in
@@ -143,19 +146,20 @@ module _ {S K C : Type 0} (source_at : S → End) (sink_at : K → End) (ended_a
         passed = subst (λ (xs : List (Back S K)). Passes first new (going.came ++ (source, sink) ∷ []) xs 0) (append-nil handed) both;
         each = going.each;
         ordered = going.ordered;
-        later = later_more (given_at first) going.visits b (open_in [] h) (seen_in h) seen_is (ends_known source_at sink_at ended_at tick may (setting_in h) (seen_in h) going.visits going.each) going.later;
+        later = later_more (given_at first) going.visits b (open_in [] h) (seen_in h) seen_is (ends_known source_at sink_at ended_at tick kept may tie (setting_in h) (seen_in h) going.visits going.each) going.later;
         met = going.met;
         once = going.once;
         count_is = length-append going.came ((source, sink) ∷ []) ∙ ap (λ (n : ℕ). n + 1) going.count_is;
         clocks = (allowed, going.clocks);
+        hands = (tied, going.hands);
       }
 
   -- it has a thread
-  pub goes_in : (first now : DoorsView S K) (h l : Hall S K C) (r : Running S K C) (count : ℕ) → arc_value l.turnstile ≡ arc_value h.turnstile → l.running.items ≡ h.running.items ++ r ∷ [] → seen_in l ≡ seen_in h → met_in l ≡ met_in h → Going source_at sink_at ended_at tick may base first now h (begun_of r ∷ []) count 0 → Going source_at sink_at ended_at tick may base first now l [] count 0
+  pub goes_in : (first now : DoorsView S K) (h l : Hall S K C H L) (r : Running S K C H L) (count : ℕ) → arc_value l.turnstile ≡ arc_value h.turnstile → l.running.items ≡ h.running.items ++ r ∷ [] → seen_in l ≡ seen_in h → met_in l ≡ met_in h → Going source_at sink_at ended_at tick kept may tie base first now h (begun_of r ∷ []) count 0 → Going source_at sink_at ended_at tick kept may tie base first now l [] count 0
   goes_in first now h l r count same more seen_same met_same going =
       let setting : setting_in l ≡ setting_in h = ap setting_at same in
       let given = map given_of going.visits in
-      let begins : begun_in l ≡ begun_in h ++ begun_of r ∷ [] = ap (λ (rs : List (Running S K C)). map begun_of rs) more ∙ map-append begun_of h.running.items (r ∷ []) in
+      let begins : begun_in l ≡ begun_in h ++ begun_of r ∷ [] = ap (λ (rs : List (Running S K C H L)). map begun_of rs) more ∙ map-append begun_of h.running.items (r ∷ []) in
       let turned : IsPermutation (open_in (begun_of r ∷ []) h) (open_in [] l) = waits_no_longer (begun_in h) (begun_in l) (begun_of r) begins in
       record {
         came = going.came;
@@ -163,27 +167,28 @@ module _ {S K C : Type 0} (source_at : S → End) (sink_at : K → End) (ended_a
         came_are = IsPermutation-trans (enumerate_from 0 going.came) (given ++ map began_with (open_in (begun_of r ∷ []) h)) (given ++ map began_with (open_in [] l)) going.came_are
             (IsPermutation-append_right given (map began_with (open_in (begun_of r ∷ []) h)) (map began_with (open_in [] l)) (IsPermutation-map began_with (open_in (begun_of r ∷ []) h) (open_in [] l) turned));
         passed = going.passed;
-        each = subst (λ (g : Setting). AllOf (IsWell source_at sink_at ended_at tick may g (seen_in l)) going.visits) (sym setting) (subst (λ (s : List Entry). AllOf (IsWell source_at sink_at ended_at tick may (setting_in h) s) going.visits) (sym seen_same) going.each);
+        each = subst (λ (g : Setting). AllOf (IsWell source_at sink_at ended_at tick kept may tie g (seen_in l)) going.visits) (sym setting) (subst (λ (s : List Entry). AllOf (IsWell source_at sink_at ended_at tick kept may tie (setting_in h) s) going.visits) (sym seen_same) going.each);
         ordered = going.ordered;
         later = later_permuted (given_at first) going.visits (open_in (begun_of r ∷ []) h) (open_in [] l) turned going.later;
         met = met_same ∙ going.met;
         once = subst (λ (ps : List (ℕ × Entry)). Distinct ps) (sym met_same) going.once;
         count_is = going.count_is;
         clocks = all_permuted (λ b. may b.clock.value) (open_in (begun_of r ∷ []) h) (open_in [] l) turned going.clocks;
+        hands = all_permuted (λ b. tie b.hand.value) (open_in (begun_of r ∷ []) h) (open_in [] l) turned going.hands;
       }
 
   -- the doors failed
-  pub fails : (first old new : DoorsView S K) (h : Hall S K C) (count : ℕ) → Passes old new [] [] 0 → old.faults < new.faults → Going source_at sink_at ended_at tick may base first old h [] count 0 → Going source_at sink_at ended_at tick may base first new h [] count 0 × (first.faults < new.faults)
+  pub fails : (first old new : DoorsView S K) (h : Hall S K C H L) (count : ℕ) → Passes old new [] [] 0 → old.faults < new.faults → Going source_at sink_at ended_at tick kept may tie base first old h [] count 0 → Going source_at sink_at ended_at tick kept may tie base first new h [] count 0 × (first.faults < new.faults)
   fails first old new h count passed rose going = (goes_on first old new h [] count 0 0 passed going, (let before = going.passed.count in omega (arith, before, rose)))
 
   -- no connection came yet
-  pub going_begins : (first : DoorsView S K) (h : Hall S K C) → h.running.items ≡ [] → met_in h ≡ base → Distinct base → Going source_at sink_at ended_at tick may base first first h [] 0 0
+  pub going_begins : (first : DoorsView S K) (h : Hall S K C H L) → h.running.items ≡ [] → met_in h ≡ base → Distinct base → Going source_at sink_at ended_at tick kept may tie base first first h [] 0 0
   going_begins first h none met_is once =
-      let nobody : begun_in h ≡ [] = ap (λ (rs : List (Running S K C)). map begun_of rs) none in
+      let nobody : begun_in h ≡ [] = ap (λ (rs : List (Running S K C H L)). map begun_of rs) none in
       record {
         came = [];
         visits = [];
-        came_are = subst (λ (bs : List (Begun S K C)). IsPermutation [] (map began_with bs)) (sym nobody) (IsPermutation-refl []);
+        came_are = subst (λ (bs : List (Begun S K C H)). IsPermutation [] (map began_with bs)) (sym nobody) (IsPermutation-refl []);
         passed = passed_nothing first;
         each = tt;
         ordered = tt;
@@ -191,31 +196,33 @@ module _ {S K C : Type 0} (source_at : S → End) (sink_at : K → End) (ended_a
         met = met_is ∙ sym (append-nil base);
         once = subst (λ (ps : List (ℕ × Entry)). Distinct ps) (sym met_is) once;
         count_is = refl;
-        clocks = subst (λ (bs : List (Begun S K C)). AllOf (λ b. may b.clock.value) bs) (sym nobody) tt;
+        clocks = subst (λ (bs : List (Begun S K C H)). AllOf (λ b. may b.clock.value) bs) (sym nobody) tt;
+        hands = subst (λ (bs : List (Begun S K C H)). AllOf (λ b. tie b.hand.value) bs) (sym nobody) tt;
       }
 
   -- the hall is the same to connections
-  pub going_same : (first now : DoorsView S K) (h l : Hall S K C) (waiting : List (Begun S K C)) (count closed : ℕ) → IsAsBefore h l → Going source_at sink_at ended_at tick may base first now h waiting count closed → Going source_at sink_at ended_at tick may base first now l waiting count closed
+  pub going_same : (first now : DoorsView S K) (h l : Hall S K C H L) (waiting : List (Begun S K C H)) (count closed : ℕ) → IsAsBefore h l → Going source_at sink_at ended_at tick kept may tie base first now h waiting count closed → Going source_at sink_at ended_at tick kept may tie base first now l waiting count closed
   going_same first now h l waiting count closed same going =
-      let begun : begun_in l ≡ begun_in h = ap (λ (rs : List (Running S K C)). map begun_of rs) same.2 in
+      let begun : begun_in l ≡ begun_in h = ap (λ (rs : List (Running S K C H L)). map begun_of rs) same.2 in
       let setting : setting_in l ≡ setting_in h = ap setting_at same.0 in
       record {
         came = going.came;
         visits = going.visits;
-        came_are = subst (λ (bs : List (Begun S K C)). IsPermutation (enumerate_from 0 going.came) (map given_of going.visits ++ map began_with (waiting ++ bs))) (sym begun) going.came_are;
+        came_are = subst (λ (bs : List (Begun S K C H)). IsPermutation (enumerate_from 0 going.came) (map given_of going.visits ++ map began_with (waiting ++ bs))) (sym begun) going.came_are;
         passed = going.passed;
-        each = subst (λ (g : Setting). AllOf (IsWell source_at sink_at ended_at tick may g (seen_in l)) going.visits) (sym setting) (subst (λ (s : List Entry). AllOf (IsWell source_at sink_at ended_at tick may (setting_in h) s) going.visits) (sym same.4) going.each);
+        each = subst (λ (g : Setting). AllOf (IsWell source_at sink_at ended_at tick kept may tie g (seen_in l)) going.visits) (sym setting) (subst (λ (s : List Entry). AllOf (IsWell source_at sink_at ended_at tick kept may tie (setting_in h) s) going.visits) (sym same.4) going.each);
         ordered = going.ordered;
-        later = subst (λ (bs : List (Begun S K C)). AllOf (IsLater (given_at first) (waiting ++ bs)) going.visits) (sym begun) going.later;
+        later = subst (λ (bs : List (Begun S K C H)). AllOf (IsLater (given_at first) (waiting ++ bs)) going.visits) (sym begun) going.later;
         met = same.3 ∙ going.met;
         once = subst (λ (ps : List (ℕ × Entry)). Distinct ps) (sym same.3) going.once;
         count_is = going.count_is;
-        clocks = subst (λ (bs : List (Begun S K C)). AllOf (λ b. may b.clock.value) (waiting ++ bs)) (sym begun) going.clocks;
+        clocks = subst (λ (bs : List (Begun S K C H)). AllOf (λ b. may b.clock.value) (waiting ++ bs)) (sym begun) going.clocks;
+        hands = subst (λ (bs : List (Begun S K C H)). AllOf (λ b. tie b.hand.value) (waiting ++ bs)) (sym begun) going.hands;
       }
 
-module _ {S K C : Type 0} (source_at : S → End) (sink_at : K → End) (ended_at : K → LastEnd) (tick : C → ℕ → C → Type 0) (is_clone : C → C → Type 0) where
+module _ {S K C H L P : Type 0} (source_at : S → End) (sink_at : K → End) (ended_at : K → LastEnd) (tick : C → ℕ → C → Type 0) (kept : H → ℕ → Type 0) (is_clone : C → C → Type 0) (is_at : P → H → Type 0) where
   -- none was handed back
-  pub hands_none : (now : DoorsView S K) (h : Hall S K C) → IsReady h → HandsBack source_at sink_at ended_at tick is_clone now now h h
+  pub hands_none : (now : DoorsView S K) (h : Hall S K C H L) → IsReady h → HandsBack source_at sink_at ended_at tick kept is_clone is_at now now h h
   hands_none now h ready = record {
     stays = (refl, refl, refl);
     ready = ready;
@@ -223,11 +230,11 @@ module _ {S K C : Type 0} (source_at : S → End) (sink_at : K → End) (ended_a
     fewer = omega arith;
     room = λ more room. room;
     faults = omega arith;
-    going = λ clock base first waiting count closed going. going;
+    going = λ clock place base first waiting count closed going. going;
   }
 
   -- some were, and then others
-  pub hands_both : (a b c : DoorsView S K) (h i j : Hall S K C) → HandsBack source_at sink_at ended_at tick is_clone a b h i → HandsBack source_at sink_at ended_at tick is_clone b c i j → HandsBack source_at sink_at ended_at tick is_clone a c h j
+  pub hands_both : (a b c : DoorsView S K) (h i j : Hall S K C H L) → HandsBack source_at sink_at ended_at tick kept is_clone is_at a b h i → HandsBack source_at sink_at ended_at tick kept is_clone is_at b c i j → HandsBack source_at sink_at ended_at tick kept is_clone is_at a c h j
   hands_both a b c h i j p q = record {
     stays = (q.stays.0 ∙ p.stays.0, q.stays.1 ∙ p.stays.1, q.stays.2 ∙ p.stays.2);
     ready = q.ready;
@@ -235,11 +242,11 @@ module _ {S K C : Type 0} (source_at : S → End) (sink_at : K → End) (ended_a
     fewer = (let p_fewer = p.fewer in let q_fewer = q.fewer in omega (arith, p_fewer, q_fewer));
     room = λ more room. q.room more (p.room more room);
     faults = (let p_faults = p.faults in let q_faults = q.faults in omega (arith, p_faults, q_faults));
-    going = λ clock base first waiting count closed going. q.going clock base first waiting count closed (p.going clock base first waiting count closed going);
+    going = λ clock place base first waiting count closed going. q.going clock place base first waiting count closed (p.going clock place base first waiting count closed going);
   }
 
   -- one was
-  pub hands_one : (old new : DoorsView S K) (h l : Hall S K C) (source : S) (sink : K) (served : Served) → Stays h l → IsReady l → KeepsOut h l → length l.running.items + 1 ≡ length h.running.items → Releases source_at sink_at ended_at tick h l source sink served → TookBack old new source sink (Some served) → HandsBack source_at sink_at ended_at tick is_clone old new h l
+  pub hands_one : (old new : DoorsView S K) (h l : Hall S K C H L) (source : S) (sink : K) (served : Served) → Stays h l → IsReady l → KeepsOut h l → length l.running.items + 1 ≡ length h.running.items → Releases source_at sink_at ended_at tick kept h l source sink served → TookBack old new source sink (Some served) → HandsBack source_at sink_at ended_at tick kept is_clone is_at old new h l
   hands_one old new h l source sink served same ready out less r took =
       let passed = took (given_at old) (count_given old.given) in
       record {
@@ -249,11 +256,11 @@ module _ {S K C : Type 0} (source_at : S → End) (sink_at : K → End) (ended_a
         fewer = omega (arith, less);
         room = λ more room. away_still old.away new.away 0 1 (length h.running.items + more) (length l.running.items + more) passed.away (omega (arith, less)) room;
         faults = passed.count;
-        going = λ clock base first waiting count closed going. goes_back source_at sink_at ended_at tick (is_clone clock) base first old new h l waiting count closed source sink served same r took going;
+        going = λ clock place base first waiting count closed going. goes_back source_at sink_at ended_at tick kept (is_clone clock) (is_at place) base first old new h l waiting count closed source sink served same r took going;
       }
 
   -- memory for those that are served is kept where some were handed back
-  pub room_kept : (a b : DoorsView S K) (h i : Hall S K C) → HandsBack source_at sink_at ended_at tick is_clone a b h i → HaveRoom a h 0 → HaveRoom b i 0
+  pub room_kept : (a b : DoorsView S K) (h i : Hall S K C H L) → HandsBack source_at sink_at ended_at tick kept is_clone is_at a b h i → HaveRoom a h 0 → HaveRoom b i 0
   room_kept a b h i p room = p.room 0 room
 
 -- what a series of connections that are handed back comes to

@@ -94,66 +94,67 @@ all_out first started last seat back begun count none same is out keeps =
     let size : length started ≡ 0 = ap length (same ∙ none) in
     subst (λ (n : ℕ). HasOut (n + length last) back) (sym is) (keeps begun (subst (λ (n : ℕ). HasOut n seat) (omega (arith, size)) out))
 
-module _ {S K C : Type 0} where
+module _ {S K C H : Type 0} where
+  -- a connection is at the turnstile
+  abbrev IsAt : HubTurnstile → Begun S K C H → Type 0
+  IsAt turnstile begun = begun.turnstile.value ≡ turnstile
+
+module _ {S K C H L : Type 0} where
   -- ---- the seats of connections
 
   -- connections left or came, and then others
-  pub keeps_both : (a b c : Hall S K C) → KeepsOut a b → KeepsOut b c → KeepsOut a c
+  pub keeps_both : (a b c : Hall S K C H L) → KeepsOut a b → KeepsOut b c → KeepsOut a c
   keeps_both a b c p q others was = q others (p others was)
 
   -- one left, and its seat was joined to the main one
-  pub keeps_without : (items rest : List (Running S K C)) (seat back : HubSeat) (r : Running S K C) → IsPermutation items (r ∷ rest) → ((n : ℕ) → HasOut (n + 1) seat → HasOut n back) → (others : ℕ) → HasOut (others + length items) seat → HasOut (others + length rest) back
+  pub keeps_without : (items rest : List (Running S K C H L)) (seat back : HubSeat) (r : Running S K C H L) → IsPermutation items (r ∷ rest) → ((n : ℕ) → HasOut (n + 1) seat → HasOut n back) → (others : ℕ) → HasOut (others + length items) seat → HasOut (others + length rest) back
   keeps_without items rest seat back r left joined others was =
       let size = length_permutation items (r ∷ rest) left in
       joined (others + length rest) (subst (λ (n : ℕ). HasOut n seat) (omega (arith, size)) was)
 
   -- one came, with a seat that was split off the main one before others left
-  pub keeps_with : (items between now : List (Running S K C)) (seat parted back : HubSeat) (r : Running S K C) → ((n : ℕ) → HasOut n seat → HasOut (n + 1) parted) → ((others : ℕ) → HasOut (others + length items) parted → HasOut (others + length between) back) → now ≡ between ++ r ∷ [] → (others : ℕ) → HasOut (others + length items) seat → HasOut (others + length now) back
+  pub keeps_with : (items between now : List (Running S K C H L)) (seat parted back : HubSeat) (r : Running S K C H L) → ((n : ℕ) → HasOut n seat → HasOut (n + 1) parted) → ((others : ℕ) → HasOut (others + length items) parted → HasOut (others + length between) back) → now ≡ between ++ r ∷ [] → (others : ℕ) → HasOut (others + length items) seat → HasOut (others + length now) back
   keeps_with items between now seat parted back r split keeps more others was =
       let after : length now ≡ length between + 1 = ap length more ∙ length-append between (r ∷ []) in
       let moved : (others + length items) + 1 ≡ (others + 1) + length items = omega arith in
       let out : HasOut ((others + 1) + length items) parted = subst (λ (n : ℕ). HasOut n parted) moved (split (others + length items) was) in
       subst (λ (n : ℕ). HasOut n back) (omega (arith, after)) (keeps (others + 1) out)
 
-  -- a connection is at the turnstile
-  abbrev IsAt : HubTurnstile → Begun S K C → Type 0
-  IsAt turnstile begun = begun.turnstile.value ≡ turnstile
-
   -- the others, once one has left
-  pub left_at : (turnstile : HubTurnstile) (old new : List (Running S K C)) (r : Running S K C) → IsPermutation old (r ∷ new) → AllOf (IsAt turnstile) (map begun_of old) → IsAt turnstile (begun_of r) × AllOf (IsAt turnstile) (map begun_of new)
+  pub left_at : (turnstile : HubTurnstile) (old new : List (Running S K C H L)) (r : Running S K C H L) → IsPermutation old (r ∷ new) → AllOf (IsAt turnstile) (map begun_of old) → IsAt turnstile (begun_of r) × AllOf (IsAt turnstile) (map begun_of new)
   left_at turnstile old new r left all = all_permuted (IsAt turnstile) (map begun_of old) (begun_of r ∷ map begun_of new) (IsPermutation-map begun_of old (r ∷ new) left) all
 
   -- the seat of one that has left is at the turnstile
-  pub seat_at : (source_at : S → End) (sink_at : K → End) (ended_at : K → LastEnd) (tick : C → ℕ → C → Type 0) (turnstile found : HubTurnstile) (old new : List (Running S K C)) (r : Running S K C) (done : Done S K) → IsPermutation old (r ∷ new) → found ≡ turnstile → AllOf (IsAt turnstile) (map begun_of old) → KeptOf source_at sink_at ended_at tick (begun_of r) done → IsSeatOf hub_setting found done.seat
-  seat_at source_at sink_at ended_at tick turnstile found old new r done left same all kept = subst (λ (t : HubTurnstile). IsSeatOf hub_setting t done.seat) ((left_at turnstile old new r left all).0 ∙ sym same) kept.own
+  pub seat_at : (source_at : S → End) (sink_at : K → End) (ended_at : K → LastEnd) (tick : C → ℕ → C → Type 0) (kept_by : H → ℕ → Type 0) (turnstile found : HubTurnstile) (old new : List (Running S K C H L)) (r : Running S K C H L) (done : Done S K) → IsPermutation old (r ∷ new) → found ≡ turnstile → AllOf (IsAt turnstile) (map begun_of old) → KeptOf source_at sink_at ended_at tick kept_by (begun_of r) done → IsSeatOf hub_setting found done.seat
+  seat_at source_at sink_at ended_at tick kept_by turnstile found old new r done left same all kept = subst (λ (t : HubTurnstile). IsSeatOf hub_setting t done.seat) ((left_at turnstile old new r left all).0 ∙ sym same) kept.own
 
   -- the hall is ready once a connection has left
-  pub ready_without : (turnstile found : HubTurnstile) (old new : List (Running S K C)) (r : Running S K C) (history : List Entry) → IsPermutation old (r ∷ new) → found ≡ turnstile → AllOf (IsAt turnstile) (map begun_of old) → IsLegal (setting_at found) history → AllOf (IsAt turnstile) (map begun_of new) × IsLegal (setting_at turnstile) history
+  pub ready_without : (turnstile found : HubTurnstile) (old new : List (Running S K C H L)) (r : Running S K C H L) (history : List Entry) → IsPermutation old (r ∷ new) → found ≡ turnstile → AllOf (IsAt turnstile) (map begun_of old) → IsLegal (setting_at found) history → AllOf (IsAt turnstile) (map begun_of new) × IsLegal (setting_at turnstile) history
   ready_without turnstile found old new r history left same all legal = (
     (left_at turnstile old new r left all).1,
     subst (λ (t : HubTurnstile). IsLegal (setting_at t) history) same legal,
   )
 
   -- the hall is ready with a main seat that has seen as much
-  pub ready_split : (h l : Hall S K C) → arc_value l.turnstile ≡ arc_value h.turnstile → l.running.items ≡ h.running.items → seen_in l ≡ seen_in h → IsReady h → IsReady l
+  pub ready_split : (h l : Hall S K C H L) → arc_value l.turnstile ≡ arc_value h.turnstile → l.running.items ≡ h.running.items → seen_in l ≡ seen_in h → IsReady h → IsReady l
   ready_split h l same alike seen_same ready =
-      let others = subst (λ (rs : List (Running S K C)). AllOf (IsAt (arc_value h.turnstile)) (map begun_of rs)) (sym alike) ready.0 in (
+      let others = subst (λ (rs : List (Running S K C H L)). AllOf (IsAt (arc_value h.turnstile)) (map begun_of rs)) (sym alike) ready.0 in (
         subst (λ (t : HubTurnstile). AllOf (IsAt t) (begun_in l)) (sym same) others,
         subst (λ (t : HubTurnstile). IsLegal (setting_at t) (seen_in l)) (sym same) (subst (λ (s : List Entry). IsLegal (setting_in h) s) (sym seen_same) ready.1),
       )
 
   -- the hall is ready with one connection more
-  pub ready_more : (turnstile : HubTurnstile) (old new : List (Running S K C)) (r : Running S K C) (history : List Entry) → new ≡ old ++ r ∷ [] → (begun_of r).turnstile.value ≡ turnstile → AllOf (IsAt turnstile) (map begun_of old) × IsLegal (setting_at turnstile) history → AllOf (IsAt turnstile) (map begun_of new) × IsLegal (setting_at turnstile) history
+  pub ready_more : (turnstile : HubTurnstile) (old new : List (Running S K C H L)) (r : Running S K C H L) (history : List Entry) → new ≡ old ++ r ∷ [] → (begun_of r).turnstile.value ≡ turnstile → AllOf (IsAt turnstile) (map begun_of old) × IsLegal (setting_at turnstile) history → AllOf (IsAt turnstile) (map begun_of new) × IsLegal (setting_at turnstile) history
   ready_more turnstile old new r history more at ready =
-      let behind : map begun_of new ≡ map begun_of old ++ begun_of r ∷ [] = ap (λ (rs : List (Running S K C)). map begun_of rs) more ∙ map-append begun_of old (r ∷ []) in
-      (subst (λ (bs : List (Begun S K C)). AllOf (IsAt turnstile) bs) (sym behind) (all_append (IsAt turnstile) (map begun_of old) (begun_of r ∷ []) ready.0 (at, tt)), ready.1)
+      let behind : map begun_of new ≡ map begun_of old ++ begun_of r ∷ [] = ap (λ (rs : List (Running S K C H L)). map begun_of rs) more ∙ map-append begun_of old (r ∷ []) in
+      (subst (λ (bs : List (Begun S K C H)). AllOf (IsAt turnstile) bs) (sym behind) (all_append (IsAt turnstile) (map begun_of old) (begun_of r ∷ []) ready.0 (at, tt)), ready.1)
 
   -- a connection left
-  pub released : (source_at : S → End) (sink_at : K → End) (ended_at : K → LastEnd) (tick : C → ℕ → C → Type 0) (h l : Hall S K C) (r : Running S K C) (done : Done S K) → IsPermutation h.running.items (r ∷ l.running.items) → arc_value l.turnstile ≡ arc_value h.turnstile → AllOf (IsAt (arc_value h.turnstile)) (begun_in h) → KeptOf source_at sink_at ended_at tick (begun_of r) done → IsPrefix (seen_in h) (seen_in l) → IsPrefix (seen done.seat) (seen_in l) → met_in l ≡ met_in h ++ (mine done.seat ++ met done.seat) → Distinct (met_in l) → Releases source_at sink_at ended_at tick h l done.source done.sink done.served
-  released source_at sink_at ended_at tick h l r done left same all kept this that met_is once =
+  pub released : (source_at : S → End) (sink_at : K → End) (ended_at : K → LastEnd) (tick : C → ℕ → C → Type 0) (kept_by : H → ℕ → Type 0) (h l : Hall S K C H L) (r : Running S K C H L) (done : Done S K) → IsPermutation h.running.items (r ∷ l.running.items) → arc_value l.turnstile ≡ arc_value h.turnstile → AllOf (IsAt (arc_value h.turnstile)) (begun_in h) → KeptOf source_at sink_at ended_at tick kept_by (begun_of r) done → IsPrefix (seen_in h) (seen_in l) → IsPrefix (seen done.seat) (seen_in l) → met_in l ≡ met_in h ++ (mine done.seat ++ met done.seat) → Distinct (met_in l) → Releases source_at sink_at ended_at tick kept_by h l done.source done.sink done.served
+  released source_at sink_at ended_at tick kept_by h l r done left same all kept this that met_is once =
       let at : (begun_of r).turnstile.value ≡ arc_value h.turnstile = (left_at (arc_value h.turnstile) h.running.items l.running.items r left all).0 in
       let setting : setting_at (begun_of r).turnstile.value ≡ setting_in l = ap setting_at (at ∙ sym same) in
-      let served = served_stays tick (setting_at (begun_of r).turnstile.value) (seen done.seat) (seen_in l) (begun_of r).clock.value (seen (begun_of r).seat.value) (seen done.seat) (sides_of source_at sink_at (begun_of r).source.value (begun_of r).sink.value) (sides_of source_at sink_at done.source done.sink) (mine done.seat) done.served that kept.served in
+      let served = served_stays tick (kept_by (begun_of r).hand.value) (setting_at (begun_of r).turnstile.value) (seen done.seat) (seen_in l) (begun_of r).clock.value (seen (begun_of r).seat.value) (seen done.seat) (sides_of source_at sink_at (begun_of r).source.value (begun_of r).sink.value) (sides_of source_at sink_at done.source done.sink) (mine done.seat) done.served that kept.served in
       record {
         begun = begun_of r;
         own = mine done.seat;
@@ -162,12 +163,12 @@ module _ {S K C : Type 0} where
         met = met_is ∙ ap (λ (xs : List (ℕ × Entry)). met_in h ++ (mine done.seat ++ xs)) kept.met ∙ ap (λ (xs : List (ℕ × Entry)). met_in h ++ xs) (append-nil (mine done.seat));
         once = once;
         grew = this;
-        is_served = subst (λ (g : Setting). IsServed tick g (seen_in l) (begun_of r).clock.value (seen (begun_of r).seat.value) (seen done.seat) (sides_of source_at sink_at (begun_of r).source.value (begun_of r).sink.value) (sides_of source_at sink_at done.source done.sink) (mine done.seat) done.served) setting served;
+        is_served = subst (λ (g : Setting). IsServed tick (kept_by (begun_of r).hand.value) g (seen_in l) (begun_of r).clock.value (seen (begun_of r).seat.value) (seen done.seat) (sides_of source_at sink_at (begun_of r).source.value (begun_of r).sink.value) (sides_of source_at sink_at done.source done.sink) (mine done.seat) done.served) setting served;
         is_ended = kept.is_ended;
       }
 
   -- a matcher's seat was joined to the main one
-  pub gathered : (tick : C → ℕ → C → Type 0) (trim : Trim) (may : C → Type 0) (h l : Hall S K C) (clock : C) (rested : Rested C) → arc_value l.turnstile ≡ arc_value h.turnstile → may clock → HasRested tick trim (arc_value h.turnstile) clock rested → IsPrefix (seen_in h) (seen_in l) → IsPrefix (seen rested.seat) (seen_in l) → met_in l ≡ met_in h ++ (mine rested.seat ++ met rested.seat) → Distinct (met_in l) → Gathers tick trim may h l
+  pub gathered : (tick : C → ℕ → C → Type 0) (trim : Trim) (may : C → Type 0) (h l : Hall S K C H L) (clock : C) (rested : Rested C) → arc_value l.turnstile ≡ arc_value h.turnstile → may clock → HasRested tick trim (arc_value h.turnstile) clock rested → IsPrefix (seen_in h) (seen_in l) → IsPrefix (seen rested.seat) (seen_in l) → met_in l ≡ met_in h ++ (mine rested.seat ++ met rested.seat) → Distinct (met_in l) → Gathers tick trim may h l
   gathered tick trim may h l clock rested same allowed matched this that met_is once =
       let setting : setting_in h ≡ setting_in l = ap setting_at (sym same) in
       record {

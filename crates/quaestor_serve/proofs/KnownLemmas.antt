@@ -45,27 +45,27 @@ module _ {S K : Type 0} (start : ℕ) where
       (λ v all one. all_append (λ (w : Visit S K). IsKnownTo start v w.number w.began) visits (visit ∷ []) all (one, tt)) visits ordered known in
       all_append Longer visits (visit ∷ []) before (last, tt)
 
-module _ {S K C : Type 0} (start : ℕ) where
+module _ {S K C H : Type 0} (start : ℕ) where
   -- all those that were handed back before one came are known to it
-  abbrev pub IsLater : List (Begun S K C) → Visit S K → Type 0
+  abbrev pub IsLater : List (Begun S K C H) → Visit S K → Type 0
   IsLater left visit = AllOf (λ b. IsKnownTo start visit b.number.value (seen b.seat.value)) left
 
   -- the order of those that are left is of no matter
-  pub later_permuted : (visits : List (Visit S K)) (old new : List (Begun S K C)) → IsPermutation old new → AllOf (IsLater old) visits → AllOf (IsLater new) visits
+  pub later_permuted : (visits : List (Visit S K)) (old new : List (Begun S K C H)) → IsPermutation old new → AllOf (IsLater old) visits → AllOf (IsLater new) visits
   later_permuted visits old new same = all_map (IsLater old) (IsLater new) (λ v all. all_permuted (λ b. IsKnownTo start v b.number.value (seen b.seat.value)) old new same all) visits
 
   -- one of them, and the others
-  pub later_first : (visits : List (Visit S K)) (b : Begun S K C) (left : List (Begun S K C)) → AllOf (IsLater (b ∷ left)) visits → AllOf (λ v. IsKnownTo start v b.number.value (seen b.seat.value)) visits
+  pub later_first : (visits : List (Visit S K)) (b : Begun S K C H) (left : List (Begun S K C H)) → AllOf (IsLater (b ∷ left)) visits → AllOf (λ v. IsKnownTo start v b.number.value (seen b.seat.value)) visits
   later_first visits b left = all_map (IsLater (b ∷ left)) (λ v. IsKnownTo start v b.number.value (seen b.seat.value)) (λ v all. all.0) visits
 
-  pub later_rest : (visits : List (Visit S K)) (b : Begun S K C) (left : List (Begun S K C)) → AllOf (IsLater (b ∷ left)) visits → AllOf (IsLater left) visits
+  pub later_rest : (visits : List (Visit S K)) (b : Begun S K C H) (left : List (Begun S K C H)) → AllOf (IsLater (b ∷ left)) visits → AllOf (IsLater left) visits
   later_rest visits b left = all_map (IsLater (b ∷ left)) (IsLater left) (λ v all. all.1) visits
 
   -- one more came, which knows all that all of them knew
-  pub later_more : (visits : List (Visit S K)) (b : Begun S K C) (left : List (Begun S K C)) (history : List Entry) → seen b.seat.value ≡ history → AllOf (λ v. IsPrefix v.ended history) visits → AllOf (IsLater left) visits → AllOf (IsLater (b ∷ left)) visits
+  pub later_more : (visits : List (Visit S K)) (b : Begun S K C H) (left : List (Begun S K C H)) (history : List Entry) → seen b.seat.value ≡ history → AllOf (λ v. IsPrefix v.ended history) visits → AllOf (IsLater left) visits → AllOf (IsLater (b ∷ left)) visits
   later_more visits b left history is known later =
       all_both (λ v. IsPrefix v.ended history) (IsLater left) (IsLater (b ∷ left)) (λ v ended all. ((λ before. subst (λ (s : List Entry). IsPrefix v.ended s) (sym is) ended), all)) visits known later
 
 -- what was known at the end of each is in the history
-pub ends_known : {S K C : Type 0} (source_at : S → End) (sink_at : K → End) (ended_at : K → LastEnd) (tick : C → ℕ → C → Type 0) (may : C → Type 0) (g : Setting) (history : List Entry) (visits : List (Visit S K)) → AllOf (IsWell source_at sink_at ended_at tick may g history) visits → AllOf (λ v. IsPrefix v.ended history) visits
-ends_known source_at sink_at ended_at tick may g history visits = all_map (IsWell source_at sink_at ended_at tick may g history) (λ v. IsPrefix v.ended history) (λ v w. served_ended tick g history w.0 v.began v.ended _ _ v.own v.served w.2) visits
+pub ends_known : {S K C H : Type 0} (source_at : S → End) (sink_at : K → End) (ended_at : K → LastEnd) (tick : C → ℕ → C → Type 0) (kept : H → ℕ → Type 0) (may : C → Type 0) (tie : H → Type 0) (g : Setting) (history : List Entry) (visits : List (Visit S K)) → AllOf (IsWell source_at sink_at ended_at tick kept may tie g history) visits → AllOf (λ v. IsPrefix v.ended history) visits
+ends_known source_at sink_at ended_at tick kept may tie g history visits = all_map (IsWell source_at sink_at ended_at tick kept may tie g history) (λ v. IsPrefix v.ended history) (λ v w. served_ended tick (kept w.2) g history w.0 v.began v.ended _ _ v.own v.served w.4) visits

@@ -37,7 +37,7 @@ use Rattle.turnstile.specs.Places.{AllOf, AreAt, Distinct}
 use Rattle.turnstile.proofs.PlaceLemmas.{all_append, all_left}
 use Rattle.turnstile.proofs.Prefixes.{prefix_self, prefix_trans}
 use Rattle.quaestor_serve.proofs.MatchLemmas.{matched_longer}
-use Rattle.quaestor_serve.proofs.VisitLemmas.{all_stay}
+use Rattle.quaestor_serve.proofs.VisitLemmas.{all_stay, all_tied}
 
 module _ {S K : Type 0} where
   -- a cause stays one while faults are counted
@@ -87,23 +87,23 @@ module _ {C : Type 0} (tick : C → ℕ → C → Type 0) (trim : Trim) (may : C
       let all : AllOf (λ (m : Matcher C). WorksAt tick trim may turnstile m) (first ∷ left) = subst (λ (ms : List (Matcher C)). AllOf (λ (m : Matcher C). WorksAt tick trim may turnstile m) ms) taken work in
       work_more turnstile left new last items all.1 works
 
-module _ {S K C : Type 0} (tick : C → ℕ → C → Type 0) (trim : Trim) (may : C → Type 0) where
+module _ {S K C H L : Type 0} (tick : C → ℕ → C → Type 0) (trim : Trim) (may : C → Type 0) where
   -- the matchers that are left still work in the hall, once the first has ended
-  pub work_rest : (h l : Hall S K C) (old new : List (Matcher C)) (first : Matcher C) → old ≡ first ∷ new → arc_value l.turnstile ≡ arc_value h.turnstile → WorkIn tick trim may h old → WorkIn tick trim may l new
+  pub work_rest : (h l : Hall S K C H L) (old new : List (Matcher C)) (first : Matcher C) → old ≡ first ∷ new → arc_value l.turnstile ≡ arc_value h.turnstile → WorkIn tick trim may h old → WorkIn tick trim may l new
   work_rest h l old new first left same work =
       let all : AllOf (λ (m : Matcher C). WorksAt tick trim may (arc_value h.turnstile) m) (first ∷ new) = subst (λ (ms : List (Matcher C)). AllOf (λ (m : Matcher C). WorksAt tick trim may (arc_value h.turnstile) m) ms) left work in
       subst (λ (t : HubTurnstile). AllOf (λ (m : Matcher C). WorksAt tick trim may t m) new) (sym same) all.1
 
   -- where there are none, all do
-  pub work_none : (h : Hall S K C) (matchers : List (Matcher C)) → matchers ≡ [] → WorkIn tick trim may h matchers
+  pub work_none : (h : Hall S K C H L) (matchers : List (Matcher C)) → matchers ≡ [] → WorkIn tick trim may h matchers
   work_none h matchers none = subst (λ (ms : List (Matcher C)). AllOf (λ (m : Matcher C). WorksAt tick trim may (arc_value h.turnstile) m) ms) (sym none) tt
 
   -- so do all, where the turnstile is the same
-  pub work_stays : (h l : Hall S K C) (matchers : List (Matcher C)) → arc_value l.turnstile ≡ arc_value h.turnstile → WorkIn tick trim may h matchers → WorkIn tick trim may l matchers
+  pub work_stays : (h l : Hall S K C H L) (matchers : List (Matcher C)) → arc_value l.turnstile ≡ arc_value h.turnstile → WorkIn tick trim may h matchers → WorkIn tick trim may l matchers
   work_stays h l matchers same work = subst (λ (t : HubTurnstile). AllOf (λ (m : Matcher C). WorksAt tick trim may t m) matchers) (sym same) work
 
   -- no matcher was joined
-  pub gathered_none : (h : Hall S K C) → Gathers tick trim may h h
+  pub gathered_none : (h : Hall S K C H L) → Gathers tick trim may h h
   gathered_none h = record {
     own = [];
     turnstile = refl;
@@ -114,7 +114,7 @@ module _ {S K C : Type 0} (tick : C → ℕ → C → Type 0) (trim : Trim) (may
   }
 
   -- no matcher was joined, though the main seat may have seen more
-  pub gathered_seen : (h l : Hall S K C) → arc_value l.turnstile ≡ arc_value h.turnstile → IsPrefix (seen_in h) (seen_in l) → met_in l ≡ met_in h → Gathers tick trim may h l
+  pub gathered_seen : (h l : Hall S K C H L) → arc_value l.turnstile ≡ arc_value h.turnstile → IsPrefix (seen_in h) (seen_in l) → met_in l ≡ met_in h → Gathers tick trim may h l
   gathered_seen h l same grew met_same = record {
     own = [];
     turnstile = same;
@@ -125,7 +125,7 @@ module _ {S K C : Type 0} (tick : C → ℕ → C → Type 0) (trim : Trim) (may
   }
 
   -- matchers were joined, and then others
-  pub gathered_both : (a b c : Hall S K C) → Gathers tick trim may a b → Gathers tick trim may b c → Gathers tick trim may a c
+  pub gathered_both : (a b c : Hall S K C H L) → Gathers tick trim may a b → Gathers tick trim may b c → Gathers tick trim may a c
   gathered_both a b c p q =
       let setting : setting_in c ≡ setting_in b = ap setting_at q.turnstile in
       record {
@@ -139,31 +139,31 @@ module _ {S K C : Type 0} (tick : C → ℕ → C → Type 0) (trim : Trim) (may
         once = λ once. q.once (p.once once);
       }
 
-module _ {S K C : Type 0} (source_at : S → End) (sink_at : K → End) (ended_at : K → LastEnd) (tick : C → ℕ → C → Type 0) (may : C → Type 0) where
+module _ {S K C H : Type 0} (source_at : S → End) (sink_at : K → End) (ended_at : K → LastEnd) (tick : C → ℕ → C → Type 0) (kept_by : H → ℕ → Type 0) (may : C → Type 0) (tie : H → Type 0) where
   -- a cause that was found is the cause
-  pub ended_by : (base : List (ℕ × Entry)) (first now : DoorsView S K) (h : Hall S K C) (count most : ℕ) (why found : ServeWhy) → why ≡ found → Going source_at sink_at ended_at tick may base first now h [] count (closings_by found) → EndsBy found first now count most → Going source_at sink_at ended_at tick may base first now h [] count (closings_by why) × EndsBy why first now count most
+  pub ended_by : {L : Type 0} (base : List (ℕ × Entry)) (first now : DoorsView S K) (h : Hall S K C H L) (count most : ℕ) (why found : ServeWhy) → why ≡ found → Going source_at sink_at ended_at tick kept_by may tie base first now h [] count (closings_by found) → EndsBy found first now count most → Going source_at sink_at ended_at tick kept_by may tie base first now h [] count (closings_by why) × EndsBy why first now count most
   ended_by base first now h count most why found is going ends = (
-    subst (λ (w : ServeWhy). Going source_at sink_at ended_at tick may base first now h [] count (closings_by w)) (sym is) going,
+    subst (λ (w : ServeWhy). Going source_at sink_at ended_at tick kept_by may tie base first now h [] count (closings_by w)) (sym is) going,
     subst (λ (w : ServeWhy). EndsBy w first now count most) (sym is) ends,
   )
 
   -- a server that has ended at once did not ask the doors
-  pub ends_at_once : (base : List (ℕ × Entry)) (first : DoorsView S K) (h : Hall S K C) (most : ℕ) (end : ServeEnd) → end.connections ≡ 0 → closings_by end.why ≡ 0 → EndsBy end.why first first end.connections most → Going source_at sink_at ended_at tick may base first first h [] 0 0 → Ends source_at sink_at ended_at tick may base first first h most end
+  pub ends_at_once : {L : Type 0} (base : List (ℕ × Entry)) (first : DoorsView S K) (h : Hall S K C H L) (most : ℕ) (end : ServeEnd) → end.connections ≡ 0 → closings_by end.why ≡ 0 → EndsBy end.why first first end.connections most → Going source_at sink_at ended_at tick kept_by may tie base first first h [] 0 0 → Ends source_at sink_at ended_at tick kept_by may tie base first first h most end
   ends_at_once base first h most end nobody not_closed ends going = (
-    subst (λ (n : ℕ). Going source_at sink_at ended_at tick may base first first h [] n (closings_by end.why)) (sym nobody) (subst (λ (n : ℕ). Going source_at sink_at ended_at tick may base first first h [] 0 n) (sym not_closed) going),
+    subst (λ (n : ℕ). Going source_at sink_at ended_at tick kept_by may tie base first first h [] n (closings_by end.why)) (sym nobody) (subst (λ (n : ℕ). Going source_at sink_at ended_at tick kept_by may tie base first first h [] 0 n) (sym not_closed) going),
     ends,
   )
 
   -- so has one that had no memory for the first connection
-  pub ends_none : (base : List (ℕ × Entry)) (first : DoorsView S K) (h : Hall S K C) (most : ℕ) (end : ServeEnd) → 0 < most → IsUnbegun end → Going source_at sink_at ended_at tick may base first first h [] 0 0 → Ends source_at sink_at ended_at tick may base first first h most end
+  pub ends_none : {L : Type 0} (base : List (ℕ × Entry)) (first : DoorsView S K) (h : Hall S K C H L) (most : ℕ) (end : ServeEnd) → 0 < most → IsUnbegun end → Going source_at sink_at ended_at tick kept_by may tie base first first h [] 0 0 → Ends source_at sink_at ended_at tick kept_by may tie base first first h most end
   ends_none base first h most end some unbegun going = ends_at_once base first h most end unbegun.0 (none_closed end unbegun) (ends_unbegun first most end some unbegun) going
 
   -- and one whose store could not be filled
-  pub ends_empty : (base : List (ℕ × Entry)) (first : DoorsView S K) (h : Hall S K C) (most : ℕ) (end : ServeEnd) → 0 < most → IsUnfilled end → Going source_at sink_at ended_at tick may base first first h [] 0 0 → Ends source_at sink_at ended_at tick may base first first h most end
+  pub ends_empty : {L : Type 0} (base : List (ℕ × Entry)) (first : DoorsView S K) (h : Hall S K C H L) (most : ℕ) (end : ServeEnd) → 0 < most → IsUnfilled end → Going source_at sink_at ended_at tick kept_by may tie base first first h [] 0 0 → Ends source_at sink_at ended_at tick kept_by may tie base first first h most end
   ends_empty base first h most end some unfilled going = ends_at_once base first h most end unfilled.0 (ap closings_by unfilled.1) (ends_unfilled first most end some unfilled) going
 
   -- a server that has ended at once has served no connection
-  pub serves_at_once : (kept : List (ℕ × Change) → Type 0) (g : Setting) (trim : Trim) (first : DoorsView S K) (most : ℕ) (end : ServeEnd) → end.connections ≡ 0 → closings_by end.why ≡ 0 → EndsBy end.why first first end.connections most → Serves source_at sink_at ended_at tick may kept g trim first first most end
+  pub serves_at_once : (kept : List (ℕ × Change) → Type 0) (g : Setting) (trim : Trim) (first : DoorsView S K) (most : ℕ) (end : ServeEnd) → end.connections ≡ 0 → closings_by end.why ≡ 0 → EndsBy end.why first first end.connections most → Serves source_at sink_at ended_at tick kept_by may tie kept g trim first first most end
   unfolding IsLegal
   serves_at_once kept g trim first most end nobody not_closed ends = record {
     history = [];
@@ -189,16 +189,17 @@ module _ {S K C : Type 0} (source_at : S → End) (sink_at : K → End) (ended_a
   }
 
   -- so has one that had no memory for the first connection
-  pub serves_none : (kept : List (ℕ × Change) → Type 0) (g : Setting) (trim : Trim) (first : DoorsView S K) (most : ℕ) (end : ServeEnd) → 0 < most → IsUnbegun end → Serves source_at sink_at ended_at tick may kept g trim first first most end
+  pub serves_none : (kept : List (ℕ × Change) → Type 0) (g : Setting) (trim : Trim) (first : DoorsView S K) (most : ℕ) (end : ServeEnd) → 0 < most → IsUnbegun end → Serves source_at sink_at ended_at tick kept_by may tie kept g trim first first most end
   serves_none kept g trim first most end some unbegun = serves_at_once kept g trim first most end unbegun.0 (none_closed end unbegun) (ends_unbegun first most end some unbegun)
 
   -- once all connections were handed back and the matchers joined, the server has served them
-  pub serves_all : (kept : List (ℕ × Change) → Type 0) (fails : Bool) (g : Setting) (trim : Trim) (first last : DoorsView S K) (h l : Hall S K C) (most : ℕ) (end : ServeEnd) (filled : List Entry) → (fails ≡ true → g.keeps ≡ true) → setting_in h ≡ g → h.running.items ≡ [] → IsLegal (setting_in l) (seen_in l) → IsWholeIn l → Gathers tick trim may h l → EndsBy end.why first last end.connections most → AreFilled kept fails filled end.connections
-      → Going source_at sink_at ended_at tick may (enumerate_from 0 filled) first last h [] end.connections (closings_by end.why) → Serves source_at sink_at ended_at tick may kept g trim first last most end
-  serves_all kept fails g trim first last h l most end filled only setting none legal whole gathers ends are going =
-      let nobody : begun_in h ≡ [] = ap (λ (rs : List (Running S K C)). map begun_of rs) none in
-      let given : map given_of going.visits ++ map began_with (open_in [] h) ≡ map given_of going.visits = ap (λ (bs : List (Begun S K C)). map given_of going.visits ++ map began_with bs) nobody ∙ append-nil (map given_of going.visits) in
+  pub serves_all : {L : Type 0} (kept : List (ℕ × Change) → Type 0) (fails : Bool) (g : Setting) (trim : Trim) (first last : DoorsView S K) (h l : Hall S K C H L) (most : ℕ) (end : ServeEnd) (filled : List Entry) (tied : H → Type 0) → (0 < end.connections → (hand : H) → tie hand → tied hand) → (fails ≡ true → g.keeps ≡ true) → setting_in h ≡ g → h.running.items ≡ [] → IsLegal (setting_in l) (seen_in l) → IsWholeIn l → Gathers tick trim may h l → EndsBy end.why first last end.connections most → AreFilled kept fails filled end.connections
+      → Going source_at sink_at ended_at tick kept_by may tie (enumerate_from 0 filled) first last h [] end.connections (closings_by end.why) → Serves source_at sink_at ended_at tick kept_by may tied kept g trim first last most end
+  serves_all {L} kept fails g trim first last h l most end filled tied ties only setting none legal whole gathers ends are going =
+      let nobody : begun_in h ≡ [] = ap (λ (rs : List (Running S K C H L)). map begun_of rs) none in
+      let given : map given_of going.visits ++ map began_with (open_in [] h) ≡ map given_of going.visits = ap (λ (bs : List (Begun S K C H)). map given_of going.visits ++ map began_with bs) nobody ∙ append-nil (map given_of going.visits) in
       let came_are : IsPermutation (enumerate_from 0 going.came) (map given_of going.visits) = subst (λ (xs : List (ℕ × (S × K))). IsPermutation (enumerate_from 0 going.came) xs) given going.came_are in
+      let count_is : length going.visits ≡ end.connections = sym (length-map going.visits given_of) ∙ length_permutation (enumerate_from 0 going.came) (map given_of going.visits) came_are ∙ length-enumerate_from 0 going.came ∙ going.count_is in
       let last_setting : setting_in l ≡ g = ap setting_at gathers.turnstile ∙ setting in
       let base : List (ℕ × Entry) = enumerate_from 0 filled in
       let all : met_in l ≡ base ++ (flat_map own_of going.visits ++ gathers.own) =
@@ -211,7 +212,7 @@ module _ {S K C : Type 0} (source_at : S → End) (sink_at : K → End) (ended_a
         visits = going.visits;
         came_are = came_are;
         passed = going.passed;
-        each = all_stay source_at sink_at ended_at tick may g (seen_in h) (seen_in l) going.visits gathers.grew (subst (λ (s : Setting). AllOf (IsWell source_at sink_at ended_at tick may s (seen_in h)) going.visits) setting going.each);
+        each = all_tied source_at sink_at ended_at tick kept_by may tie tied g (seen_in l) going.visits end.connections count_is ties (all_stay source_at sink_at ended_at tick kept_by may tie g (seen_in h) (seen_in l) going.visits gathers.grew (subst (λ (s : Setting). AllOf (IsWell source_at sink_at ended_at tick kept_by may tie s (seen_in h)) going.visits) setting going.each));
         ordered = going.ordered;
         filled = filled;
         begins = at_prefix (seen_in l) filled (all_left (λ (p : ℕ × Entry). slice_get (seen_in l) p.0 ≡ Some p.1) base (flat_map own_of going.visits ++ gathers.own) at);
@@ -223,6 +224,6 @@ module _ {S K C : Type 0} (source_at : S → End) (sink_at : K → End) (ended_a
         apart = subst (λ (ps : List (ℕ × Entry)). Distinct ps) all (gathers.once going.once);
         at_positions = at;
         whole = whole.0 ∙ ap length all;
-        count_is = sym (length-map going.visits given_of) ∙ length_permutation (enumerate_from 0 going.came) (map given_of going.visits) came_are ∙ length-enumerate_from 0 going.came ∙ going.count_is;
+        count_is = count_is;
         ends = ends;
       }

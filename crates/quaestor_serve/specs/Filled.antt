@@ -22,7 +22,7 @@ pub record HasFilledAt (turnstile : HubTurnstile) (seat : HubSeat) : Type 0 wher
   pub rises : Increasing (mine seat)
 
 -- The main seat has seen a history of entries that fill a store, and has met all of them; all else of the hall is as before.
-pub record HasFilled {S K C : Type 0} (old new : Hall S K C) : Type 0 where
+pub record HasFilled {S K C H L : Type 0} (old new : Hall S K C H L) : Type 0 where
   pub turnstile : arc_value new.turnstile ≡ arc_value old.turnstile
   pub places : new.places ≡ old.places
   pub running : new.running.items ≡ old.running.items

@@ -43,16 +43,16 @@ pub record IsFreshAt (turnstile : HubTurnstile) (seat : HubSeat) : Type 0 where
 abbrev pub MayBegin : HubTurnstile → HubSeat → Pool → Type 0
 MayBegin turnstile seat pool = IsFreshAt turnstile seat × (pool.config ≡ setting_at turnstile)
 
-module _ {S K C : Type 0} (source_at : S → End) (sink_at : K → End) (ended_at : K → LastEnd) (tick : C → ℕ → C → Type 0) where
-  -- A connection that began with these, and with all that this seat had seen, was well served in what its seat has seen, by the seat's own entries, and its sink was ended behind all that was given. The seat has no turn, has met no others, and none was split off it.
-  pub record Kept (turnstile : HubTurnstile) (seat : HubSeat) (source : S) (sink : K) (clock : C) (done : Done S K) : Type 0 where
+module _ {S K C H : Type 0} (source_at : S → End) (sink_at : K → End) (ended_at : K → LastEnd) (tick : C → ℕ → C → Type 0) (kept : H → ℕ → Type 0) where
+  -- A connection that began with these, a hand of who keeps its commits among them, and with all that this seat had seen, was well served in what its seat has seen, by the seat's own entries, and its sink was ended behind all that was given. The seat has no turn, has met no others, and none was split off it.
+  pub record Kept (turnstile : HubTurnstile) (seat : HubSeat) (source : S) (sink : K) (clock : C) (hand : H) (done : Done S K) : Type 0 where
     pub own : IsSeatOf hub_setting turnstile done.seat
     pub idle : IsIdle done.seat
     pub met : met done.seat ≡ []
     pub part : IsPart done.seat
-    pub served : IsServed tick (setting_at turnstile) (seen done.seat) clock (seen seat) (seen done.seat) (sides_of source_at sink_at source sink) (sides_of source_at sink_at done.source done.sink) (mine done.seat) done.served
+    pub served : IsServed tick (kept hand) (setting_at turnstile) (seen done.seat) clock (seen seat) (seen done.seat) (sides_of source_at sink_at source sink) (sides_of source_at sink_at done.source done.sink) (mine done.seat) done.served
     pub is_ended : HasEnded (ended_at done.sink) (sink_at done.sink).bytes
 
   -- the same of all that it began with
-  abbrev pub KeptOf : Begun S K C → Done S K → Type 0
-  KeptOf begun done = Kept begun.turnstile.value begun.seat.value begun.source.value begun.sink.value begun.clock.value done
+  abbrev pub KeptOf : Begun S K C H → Done S K → Type 0
+  KeptOf begun done = Kept begun.turnstile.value begun.seat.value begun.source.value begun.sink.value begun.clock.value begun.hand.value done

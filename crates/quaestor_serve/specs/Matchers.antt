@@ -38,11 +38,11 @@ module _ {C : Type 0} (tick : C → ℕ → C → Type 0) (trim : Trim) (may : C
   WorksAt turnstile (Here rested) = (clock : C) × may clock × HasRested tick trim turnstile clock rested
 
   -- all matchers work at the turnstile of the hall
-  abbrev pub WorkIn : {S K : Type 0} → Hall S K C → List (Matcher C) → Type 0
-  WorkIn {S} {K} h matchers = AllOf (λ (m : Matcher C). WorksAt (arc_value h.turnstile) m) matchers
+  abbrev pub WorkIn : {S K H L : Type 0} → Hall S K C H L → List (Matcher C) → Type 0
+  WorkIn {S} {K} {H} {L} h matchers = AllOf (λ (m : Matcher C). WorksAt (arc_value h.turnstile) m) matchers
 
   -- Matchers' seats were joined to the main seat: it has met their entries, which match all commits before them or drop old changes, each at a position of its own.
-  pub record Gathers {S K : Type 0} (old new : Hall S K C) : Type 0 where
+  pub record Gathers {S K H L : Type 0} (old new : Hall S K C H L) : Type 0 where
     pub own : List (ℕ × Entry)
     pub turnstile : arc_value new.turnstile ≡ arc_value old.turnstile
     pub grew : IsPrefix (seen_in old) (seen_in new)
@@ -51,5 +51,5 @@ module _ {C : Type 0} (tick : C → ℕ → C → Type 0) (trim : Trim) (may : C
     pub once : Distinct (met_in old) → Distinct (met_in new)
 
 -- the hall has the same connections, and the main seat has met the same entries
-abbrev pub IsAsBefore : {S K C : Type 0} → Hall S K C → Hall S K C → Type 0
+abbrev pub IsAsBefore : {S K C H L : Type 0} → Hall S K C H L → Hall S K C H L → Type 0
 IsAsBefore old new = (arc_value new.turnstile ≡ arc_value old.turnstile) × (new.places ≡ old.places) × (new.running.items ≡ old.running.items) × (met_in new ≡ met_in old) × (seen_in new ≡ seen_in old)

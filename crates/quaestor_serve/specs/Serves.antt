@@ -45,13 +45,13 @@ module _ {S K : Type 0} where
   EndsBy Memory first last came most = came < most
   EndsBy Unfilled first last came most = came < most
 
-module _ {S K C : Type 0} (source_at : S → End) (sink_at : K → End) (ended_at : K → LastEnd) (tick : C → ℕ → C → Type 0) (may : C → Type 0) where
+module _ {S K C H : Type 0} (source_at : S → End) (sink_at : K → End) (ended_at : K → LastEnd) (tick : C → ℕ → C → Type 0) (kept : H → ℕ → Type 0) (may : C → Type 0) (tie : H → Type 0) where
   -- no further connection is waited for, and this is why; `base` are the entries that were made before the first came
-  abbrev pub Ends : (base : List (ℕ × Entry)) (first now : DoorsView S K) → Hall S K C → ℕ → ServeEnd → Type 0
-  Ends base first now h most end = Going source_at sink_at ended_at tick may base first now h [] end.connections (closings_by end.why) × EndsBy end.why first now end.connections most
+  abbrev pub Ends : {L : Type 0} → (base : List (ℕ × Entry)) (first now : DoorsView S K) → Hall S K C H L → ℕ → ServeEnd → Type 0
+  Ends base first now h most end = Going source_at sink_at ended_at tick kept may tie base first now h [] end.connections (closings_by end.why) × EndsBy end.why first now end.connections most
 
   -- The history begins with the entries by which the store was filled with what was kept; without a keeper it began empty. Each connection that came was handed back once, in the order in which they ended, with how it was served: well, in one legal history, by entries of its own. Each knew at its beginning all that was known at the end of each that was handed back before it came. Matchers made entries that match all commits before them or drop old changes as far as the trim says, and no others. Each position of the history belongs to one of these: nobody else made entries. The cause of the end is exact.
-  pub record Serves (kept : List (ℕ × Change) → Type 0) (g : Setting) (trim : Trim) (first last : DoorsView S K) (most : ℕ) (end : ServeEnd) : Type 0 where
+  pub record Serves (restores : List (ℕ × Change) → Type 0) (g : Setting) (trim : Trim) (first last : DoorsView S K) (most : ℕ) (end : ServeEnd) : Type 0 where
     pub history : List Entry
     pub legal : IsLegal g history
     -- the connections in the order in which they came, and in that in which they were handed back
@@ -59,13 +59,13 @@ module _ {S K C : Type 0} (source_at : S → End) (sink_at : K → End) (ended_a
     pub visits : List (Visit S K)
     pub came_are : IsPermutation (enumerate_from 0 came) (map given_of visits)
     pub passed : Passes first last came (map back_of visits) (closings_by end.why)
-    pub each : AllOf (IsWell source_at sink_at ended_at tick may g history) visits
+    pub each : AllOf (IsWell source_at sink_at ended_at tick kept may tie g history) visits
     pub ordered : AreOrdered (given_at first) visits
     -- the entries by which the store was filled: they write all that was kept, where a connection came
     pub filled : List Entry
     pub begins : IsPrefix filled history
     pub filling : AllOf IsFilling filled
-    pub restored : 0 < end.connections → kept (flat_map written_by filled)
+    pub restored : 0 < end.connections → restores (flat_map written_by filled)
     pub none : g.keeps ≡ false → filled ≡ []
     -- the entries of the matchers, each with its position
     pub others : List (ℕ × Entry)

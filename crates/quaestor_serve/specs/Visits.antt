@@ -54,7 +54,7 @@ module _ {S K : Type 0} where
   abbrev pub AreOrdered : (start : ℕ) → List (Visit S K) → Type 0
   AreOrdered start visits = AllOf (λ v. AllOf (λ w. IsKnownTo start v w.number w.began) visits) visits
 
-module _ {S K C : Type 0} (source_at : S → End) (sink_at : K → End) (ended_at : K → LastEnd) (tick : C → ℕ → C → Type 0) (may : C → Type 0) where
-  -- the connection was well served in the history, at moments of a clock that it may have had, and its sink was ended behind all that was given
+module _ {S K C H : Type 0} (source_at : S → End) (sink_at : K → End) (ended_at : K → LastEnd) (tick : C → ℕ → C → Type 0) (kept : H → ℕ → Type 0) (may : C → Type 0) (tie : H → Type 0) where
+  -- the connection was well served in the history, at moments of a clock that it may have had, with a hand that it may have had of who keeps its commits, and its sink was ended behind all that was given
   abbrev pub IsWell : Setting → List Entry → Visit S K → Type 0
-  IsWell g history visit = (clock : C) × may clock × IsServed tick g history clock visit.began visit.ended (sides_of source_at sink_at visit.source visit.sink) (sides_of source_at sink_at visit.source_left visit.sink_left) visit.own visit.served × HasEnded (ended_at visit.sink_left) (sink_at visit.sink_left).bytes
+  IsWell g history visit = (clock : C) × may clock × (hand : H) × tie hand × IsServed tick (kept hand) g history clock visit.began visit.ended (sides_of source_at sink_at visit.source visit.sink) (sides_of source_at sink_at visit.source_left visit.sink_left) visit.own visit.served × HasEnded (ended_at visit.sink_left) (sink_at visit.sink_left).bytes

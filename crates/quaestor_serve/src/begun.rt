@@ -6,12 +6,14 @@ use std::snapshot::Snapshot;
 
 /// What a connection begins with. It has no bytes: only contracts see it.
 #[derive(Drop)]
-pub struct Begun<S, K, C> {
+pub struct Begun<S, K, C, H> {
     /// How many connections came before it.
     pub number: Snapshot<u64>,
     pub source: Snapshot<S>,
     pub sink: Snapshot<K>,
     pub clock: Snapshot<C>,
+    /// Its hand of who keeps the commits.
+    pub hand: Snapshot<H>,
     pub turnstile: Snapshot<Turnstile<HubValue>>,
     /// Its seat, which has seen all that the connection knows at first.
     pub seat: Snapshot<Seat<HubValue>>,
@@ -19,8 +21,8 @@ pub struct Begun<S, K, C> {
 
 /// The same as the promise of a thread, which may be made again where no thread could be.
 #[derive(Drop)]
-pub struct Beginning<S, K, C> {
-    pub begun: Snapshot<Begun<S, K, C>>,
+pub struct Beginning<S, K, C, H> {
+    pub begun: Snapshot<Begun<S, K, C, H>>,
 }
 
 /// What is left of a connection that has ended.

@@ -10,6 +10,7 @@ use crate::endings::Endings;
 use crate::pool::Pool;
 use crate::running::Running;
 use hub_desk::{HubValue, Seat, Turnstile};
+use kept_desk::Keeping;
 use q_outside::{Clock, Sink, Source};
 use std::alloc::Global;
 use std::collections::VecDeque;
@@ -19,10 +20,10 @@ use std::sync::Arc;
 /// the connections that are served, in no order. All the memory that connections need is here from the
 /// beginning.
 #[derive(Drop)]
-pub(crate) struct Hall<S: Source + Drop, K: Sink + Drop, C: Clock + Drop> {
+pub(crate) struct Hall<S: Source + Drop, K: Sink + Drop, C: Clock + Drop, H: Keeping + Drop> {
     pub turnstile: Arc<Turnstile<HubValue>, Global>,
     pub seat: Seat<HubValue>,
-    pub running: VecDeque<Running<S, K, C>>,
+    pub running: VecDeque<Running<S, K, C, H>>,
     /// For each place where among `running` its connection is. No clause reads it.
     pub positions: Vec<usize>,
     /// The places at which there is no connection, the next to be taken last.

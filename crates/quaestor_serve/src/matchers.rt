@@ -16,6 +16,7 @@ use crate::matching::{LastDrop, match_and_tell, work_until_stopped};
 use crate::monitor::Monitor;
 use crate::stop::Stop;
 use hub_desk::{HubValue, Seat, Seated, Trim, Turnstile};
+use kept_desk::Keeping;
 use q_base::Memory;
 use q_outside::{Clock, Sink, Source};
 use std::alloc::Global;
@@ -85,10 +86,10 @@ where
 }
 
 /// Starts the matchers of a crew. Where memory runs out, those that were started go on.
-pub(crate) fn start_matchers<S, K, C, R, M>(
+pub(crate) fn start_matchers<S, K, C, H, R, M>(
     rt: &R,
     alloc: Global,
-    hall: &mut Hall<S, K, C>,
+    hall: &mut Hall<S, K, C, H>,
     matchers: &mut VecDeque<Matcher<C>>,
     clock: &C,
     crew: Crew,
@@ -98,6 +99,7 @@ where
     S: Source + Drop,
     K: Sink + Drop,
     C: Clock + Clone + Send + Drop + 'static,
+    H: Keeping + Drop,
     R: Threads + Wait + rt::Clock + Copy + Send + 'static,
     M: Monitor + Clone + Send + Drop + 'static,
     requires ready { IsReady hall.old }
@@ -201,9 +203,9 @@ fn finish_matcher<C: Clock + Clone + Drop, R: Threads>(
 }
 
 /// Waits for the end of a matcher, and joins its seat to the main one.
-fn end_matcher<S, K, C, R>(
+fn end_matcher<S, K, C, H, R>(
     rt: &R,
-    hall: &mut Hall<S, K, C>,
+    hall: &mut Hall<S, K, C, H>,
     trim: Trim,
     matcher: Matcher<C>,
     given: &C,
@@ -212,6 +214,7 @@ where
     S: Source + Drop,
     K: Sink + Drop,
     C: Clock + Clone + Drop,
+    H: Keeping + Drop,
     R: Threads,
     requires ready { IsReady hall.old }
     requires work { WorksAt C.tick trim (C.is_clone given.now) (arc_value hall.old.turnstile) matcher }
@@ -224,9 +227,9 @@ where
 }
 
 /// Waits for the end of each matcher, and joins all their seats to the main one.
-fn join_matchers<S, K, C, R>(
+fn join_matchers<S, K, C, H, R>(
     rt: &R,
-    hall: &mut Hall<S, K, C>,
+    hall: &mut Hall<S, K, C, H>,
     trim: Trim,
     mut matchers: VecDeque<Matcher<C>>,
     given: &C,
@@ -235,6 +238,7 @@ where
     S: Source + Drop,
     K: Sink + Drop,
     C: Clock + Clone + Drop,
+    H: Keeping + Drop,
     R: Threads,
     requires ready { IsReady hall.old }
     requires work { WorkIn C.tick trim (C.is_clone given.now) hall.old matchers.items }
@@ -252,9 +256,9 @@ where
 
 /// Stops all matchers, and looks at the history as they left it. Where no connection is served any
 /// more, the main seat has met all its entries then.
-pub(crate) fn stop_matchers<S, K, C, R>(
+pub(crate) fn stop_matchers<S, K, C, H, R>(
     rt: &R,
-    hall: &mut Hall<S, K, C>,
+    hall: &mut Hall<S, K, C, H>,
     trim: Trim,
     matchers: VecDeque<Matcher<C>>,
     given: &C,
@@ -263,6 +267,7 @@ where
     S: Source + Drop,
     K: Sink + Drop,
     C: Clock + Clone + Drop,
+    H: Keeping + Drop,
     R: Threads,
     requires ready { IsReady hall.old }
     requires work { WorkIn C.tick trim (C.is_clone given.now) hall.old matchers.items }

@@ -1,5 +1,5 @@
 //! The rounds of a server: in each the connections that have ended leave, and then one comes.
-ghost use Rattle.std.specs.Prelude.{◌≡◌, ℕ, ◌+◌, ◌<◌, true, List, [], ◌∷◌, vec_len};
+ghost use Rattle.std.specs.Prelude.{◌≡◌, ℕ, ◌+◌, ◌<◌, true, List, [], ◌∷◌, Option, vec_len};
 ghost use Rattle.std.specs.Arc.{arc_value};
 ghost use Rattle.std.specs.VecDeque.{deque_len};
 ghost use Rattle.hub_model.specs.declared.entry.Entry.{Entry};
@@ -8,6 +8,7 @@ ghost use Rattle.quaestor_serve.specs.declared.begun.Done.{Done};
 ghost use Rattle.quaestor_serve.specs.Halls.{IsReady, Stays, KeepsOut, setting_in};
 ghost use Rattle.quaestor_serve.specs.Going.{Going, HaveRoom, GoesOn, HandsBack};
 ghost use Rattle.quaestor_serve.specs.Kept.{KeptOf};
+ghost use Rattle.quaestor_serve.specs.Served.{IsAtLog, KeptBy};
 
 use crate::begun::{Beginning, Begun, Done};
 use crate::endings::Endings;
@@ -39,15 +40,21 @@ pub(crate) enum Round {
 }
 
 /// Waits for the end of a connection and hands it back.
-fn hand_back<P, C, R>(rt: &R, doors: &mut P, hall: &mut Hall<P::From, P::To, C>, position: usize)
+fn hand_back<P, C, H, R>(
+    rt: &R,
+    doors: &mut P,
+    hall: &mut Hall<P::From, P::To, C, H>,
+    position: usize,
+)
 where
     P: Doors,
     C: Clock + Clone + Drop,
+    H: Keeping + Drop,
     R: Threads,
     requires some { position < deque_len hall.old.running }
     requires ready { IsReady hall.old }
     requires room { HaveRoom (P.at doors.old) hall.old 0 }
-    ensures { HandsBack P.From.at P.To.at P.To.ended C.tick C.is_clone (P.at doors.old) (P.at doors.new) hall.old hall.new }
+    ensures { HandsBack P.From.at P.To.at P.To.ended C.tick (KeptBy H.log H.keeps) C.is_clone (IsAtLog H.log) (P.at doors.old) (P.at doors.new) hall.old hall.new }
 {
     let Leaving {
         source,
@@ -59,14 +66,20 @@ where
 
 /// Hands back the connection at a place.
 #[tactic(auto, using(crate::proofs::GoingLemmas::handing))]
-fn hand_back_at<P, C, R>(rt: &R, doors: &mut P, hall: &mut Hall<P::From, P::To, C>, place: u32)
+fn hand_back_at<P, C, H, R>(
+    rt: &R,
+    doors: &mut P,
+    hall: &mut Hall<P::From, P::To, C, H>,
+    place: u32,
+)
 where
     P: Doors,
     C: Clock + Clone + Drop,
+    H: Keeping + Drop,
     R: Threads,
     requires ready { IsReady hall.old }
     requires room { HaveRoom (P.at doors.old) hall.old 0 }
-    ensures { HandsBack P.From.at P.To.at P.To.ended C.tick C.is_clone (P.at doors.old) (P.at doors.new) hall.old hall.new }
+    ensures { HandsBack P.From.at P.To.at P.To.ended C.tick (KeptBy H.log H.keeps) C.is_clone (IsAtLog H.log) (P.at doors.old) (P.at doors.new) hall.old hall.new }
 {
     let Some(&position) = hall.positions.get(place as usize) else {
         return;
@@ -78,14 +91,15 @@ where
 
 /// Hands back the connections that have ended, in the order in which they did.
 #[tactic(auto, using(crate::proofs::GoingLemmas::handing))]
-fn hand_back_ended<P, C, R>(rt: &R, doors: &mut P, hall: &mut Hall<P::From, P::To, C>)
+fn hand_back_ended<P, C, H, R>(rt: &R, doors: &mut P, hall: &mut Hall<P::From, P::To, C, H>)
 where
     P: Doors,
     C: Clock + Clone + Drop,
+    H: Keeping + Drop,
     R: Threads + Wait,
     requires ready { IsReady hall.old }
     requires room { HaveRoom (P.at doors.old) hall.old 0 }
-    ensures { HandsBack P.From.at P.To.at P.To.ended C.tick C.is_clone (P.at doors.old) (P.at doors.new) hall.old hall.new }
+    ensures { HandsBack P.From.at P.To.at P.To.ended C.tick (KeptBy H.log H.keeps) C.is_clone (IsAtLog H.log) (P.at doors.old) (P.at doors.new) hall.old hall.new }
 {
     hall.endings.silence();
     for _n in 0..hall.places {
@@ -98,15 +112,16 @@ where
 
 /// Hands all connections back, in the order in which they end.
 #[tactic(auto, using(crate::proofs::GoingLemmas::handing))]
-pub(crate) fn drain<P, C, R>(rt: &R, doors: &mut P, hall: &mut Hall<P::From, P::To, C>)
+pub(crate) fn drain<P, C, H, R>(rt: &R, doors: &mut P, hall: &mut Hall<P::From, P::To, C, H>)
 where
     P: Doors,
     C: Clock + Clone + Drop,
+    H: Keeping + Drop,
     R: Threads + Wait,
     requires ready { IsReady hall.old }
     requires room { HaveRoom (P.at doors.old) hall.old 0 }
     ensures empty { deque_len hall.new.running ≡ 0 }
-    ensures hands { HandsBack P.From.at P.To.at P.To.ended C.tick C.is_clone (P.at doors.old) (P.at doors.new) hall.old hall.new }
+    ensures hands { HandsBack P.From.at P.To.at P.To.ended C.tick (KeptBy H.log H.keeps) C.is_clone (IsAtLog H.log) (P.at doors.old) (P.at doors.new) hall.old hall.new }
 {
     for _ in rt.forever() {
         hand_back_ended(rt, doors, hall);
@@ -120,15 +135,16 @@ where
 
 /// Hands back the connections that have ended, and waits until a place is vacant.
 #[tactic(auto, using(crate::proofs::GoingLemmas::handing))]
-fn wait_for_place<P, C, R>(rt: &R, doors: &mut P, hall: &mut Hall<P::From, P::To, C>)
+fn wait_for_place<P, C, H, R>(rt: &R, doors: &mut P, hall: &mut Hall<P::From, P::To, C, H>)
 where
     P: Doors,
     C: Clock + Clone + Drop,
+    H: Keeping + Drop,
     R: Threads + Wait,
     requires ready { IsReady hall.old }
     requires room { HaveRoom (P.at doors.old) hall.old 0 }
     ensures vacant { 0 < vec_len hall.new.vacant }
-    ensures hands { HandsBack P.From.at P.To.at P.To.ended C.tick C.is_clone (P.at doors.old) (P.at doors.new) hall.old hall.new }
+    ensures hands { HandsBack P.From.at P.To.at P.To.ended C.tick (KeptBy H.log H.keeps) C.is_clone (IsAtLog H.log) (P.at doors.old) (P.at doors.new) hall.old hall.new }
 {
     for _ in rt.forever() {
         hand_back_ended(rt, doors, hall);
@@ -143,24 +159,25 @@ where
 /// Starts a thread that works for a connection. While none can be made, connections that end are
 /// handed back, and it is tried again when one has or after a tenth of a second.
 #[tactic(auto, using(crate::proofs::GoingLemmas::handing))]
-fn start<P, C, F, R>(
+fn start<P, C, H, F, R>(
     rt: &R,
     doors: &mut P,
-    hall: &mut Hall<P::From, P::To, C>,
-    begun: &Begun<P::From, P::To, C>,
+    hall: &mut Hall<P::From, P::To, C, H>,
+    begun: &Begun<P::From, P::To, C, H>,
     work: F,
-) -> PromisedHandle<Done<P::From, P::To>, Beginning<P::From, P::To, C>>
+) -> PromisedHandle<Done<P::From, P::To>, Beginning<P::From, P::To, C, H>>
 where
     P: Doors,
     C: Clock + Clone + Drop,
+    H: Keeping + Drop,
     F: FnOnce() -> Done<P::From, P::To> + Send + 'static,
     R: Threads + Wait,
     requires runs { F.pre work }
-    requires keeps { (done : Done P.From P.To) → F.post work done → KeptOf P.From.at P.To.at P.To.ended C.tick begun.now done }
+    requires keeps { (done : Done P.From P.To) → F.post work done → KeptOf P.From.at P.To.at P.To.ended C.tick (KeptBy H.log H.keeps) begun.now done }
     requires ready { IsReady hall.old }
     requires room { HaveRoom (P.at doors.old) hall.old 0 }
     ensures started { result.promise.begun.value ≡ begun.now }
-    ensures hands { HandsBack P.From.at P.To.at P.To.ended C.tick C.is_clone (P.at doors.old) (P.at doors.new) hall.old hall.new }
+    ensures hands { HandsBack P.From.at P.To.at P.To.ended C.tick (KeptBy H.log H.keeps) C.is_clone (IsAtLog H.log) (P.at doors.old) (P.at doors.new) hall.old hall.new }
 {
     let mut work = work;
     for _ in rt.forever() {
@@ -181,7 +198,7 @@ fn admit<P, C, G, H, R>(
     rt: &R,
     alloc: Global,
     doors: &mut P,
-    hall: &mut Hall<P::From, P::To, C>,
+    hall: &mut Hall<P::From, P::To, C, H>,
     turnstile: Arc<Turnstile<HubValue>, Global>,
     endings: Arc<Endings, Global>,
     pool: Arc<Pool, Global>,
@@ -208,7 +225,7 @@ where
     ensures ready { IsReady hall.new }
     ensures out { KeepsOut hall.old hall.new }
     ensures room { HaveRoom (P.at doors.new) hall.new 0 }
-    ensures going { (given : C) (base : List (ℕ × Entry)) (first before : DoorsView P.From P.To) → C.is_clone given clock → Passes before (P.at doors.old) ((source, sink) ∷ []) [] 0 → Going P.From.at P.To.at P.To.ended C.tick (C.is_clone given) base first before hall.old [] number 0 → Going P.From.at P.To.at P.To.ended C.tick (C.is_clone given) base first (P.at doors.new) hall.new [] (number + 1) 0 }
+    ensures going { (given : C) (place : Option H.Log) (base : List (ℕ × Entry)) (first before : DoorsView P.From P.To) → C.is_clone given clock → IsAtLog H.log place hand → Passes before (P.at doors.old) ((source, sink) ∷ []) [] 0 → Going P.From.at P.To.at P.To.ended C.tick (KeptBy H.log H.keeps) (C.is_clone given) (IsAtLog H.log place) base first before hall.old [] number 0 → Going P.From.at P.To.at P.To.ended C.tick (KeptBy H.log H.keeps) (C.is_clone given) (IsAtLog H.log place) base first (P.at doors.new) hall.new [] (number + 1) 0 }
 {
     let Some(place) = hall.vacant.pop() else {
         unreachable!()
@@ -219,6 +236,7 @@ where
         source: Snapshot::of(&source),
         sink: Snapshot::of(&sink),
         clock: Snapshot::of(&clock),
+        hand: Snapshot::of(&hand),
         turnstile: Snapshot::of(&*turnstile),
         seat: Snapshot::of(&seat),
     };
@@ -240,7 +258,7 @@ pub(crate) fn ring<P, C, G, Q, R>(
     rt: &R,
     alloc: Global,
     doors: &mut P,
-    hall: &mut Hall<P::From, P::To, C>,
+    hall: &mut Hall<P::From, P::To, C, Q::Hand>,
     clock: &C,
     gate: &G,
     keeper: &mut Q,
@@ -256,11 +274,12 @@ where
     requires room { HaveRoom (P.at doors.old) hall.old 0 }
     requires keeps { Q.may_fail keeper.old ≡ true → (setting_in hall.old).keeps ≡ true }
     ensures keeper { Q.may_fail keeper.new ≡ Q.may_fail keeper.old }
+    ensures log { Q.log keeper.new ≡ Q.log keeper.old }
     ensures stays { Stays hall.old hall.new }
     ensures ready { IsReady hall.new }
     ensures out { KeepsOut hall.old hall.new }
     ensures room { HaveRoom (P.at doors.new) hall.new 0 }
-    ensures going { (base : List (ℕ × Entry)) (first : DoorsView P.From P.To) → Going P.From.at P.To.at P.To.ended C.tick (C.is_clone clock.now) base first (P.at doors.old) hall.old [] number 0 → GoesOn P.From.at P.To.at P.To.ended C.tick (C.is_clone clock.now) base first (P.at doors.new) hall.new number result }
+    ensures going { (place : Option Q.Hand.Log) (base : List (ℕ × Entry)) (first : DoorsView P.From P.To) → Q.log keeper.old ≡ place → Going P.From.at P.To.at P.To.ended C.tick (KeptBy Q.Hand.log Q.Hand.keeps) (C.is_clone clock.now) (IsAtLog Q.Hand.log place) base first (P.at doors.old) hall.old [] number 0 → GoesOn P.From.at P.To.at P.To.ended C.tick (KeptBy Q.Hand.log Q.Hand.keeps) (C.is_clone clock.now) (IsAtLog Q.Hand.log place) base first (P.at doors.new) hall.new number result }
 {
     wait_for_place(rt, doors, hall);
     let Ok(clock) = clock.clone() else {

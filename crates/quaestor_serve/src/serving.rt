@@ -1,5 +1,5 @@
 //! A server from its beginning to its end.
-ghost use Rattle.std.specs.Prelude.{◌≡◌, ℕ, ◌+◌, ◌<◌, ◌≤◌, true, false, List, [], length, vec_len, vec_capacity, IfOk, OnOk};
+ghost use Rattle.std.specs.Prelude.{◌≡◌, ℕ, ◌+◌, ◌<◌, ◌≤◌, true, false, List, [], length, Some, vec_len, vec_capacity, IfOk, OnOk};
 ghost use Rattle.std.specs.List.{enumerate_from, flat_map};
 ghost use Rattle.std.specs.VecDeque.{deque_capacity};
 ghost use Rattle.hub_model.specs.declared.entry.Entry.{Entry};
@@ -10,6 +10,7 @@ ghost use Rattle.quaestor_serve.specs.Halls.{IsReady, Stays, KeepsOut, met_in, s
 ghost use Rattle.quaestor_serve.specs.Going.{Going, HaveRoom};
 ghost use Rattle.quaestor_serve.specs.Kept.{IsFreshAt};
 ghost use Rattle.quaestor_serve.specs.Matchers.{WorkIn};
+ghost use Rattle.quaestor_serve.specs.Served.{IsAtLog, IsOfKeeper, KeptBy};
 ghost use Rattle.quaestor_serve.specs.Serves.{Ends, IsUnbegun, IsUnfilled, Serves};
 ghost use Rattle.turnstile.specs.Places.{Distinct};
 ghost use Rattle.turnstile.specs.Seats.{HasOut, mine};
@@ -25,7 +26,7 @@ use crate::rounds::{Round, drain, ring};
 use crate::serve_end::{ServeEnd, ServeWhy};
 use hub_desk::{Config, HubValue, Seat, Seated, Trim, Turnstile};
 use hub_model::laws::no_entry_is_legal;
-use kept_desk::{Keeper, Unfilled};
+use kept_desk::{Keeper, Keeping, Unfilled};
 use q_base::{Memory, Moment};
 use q_outside::{Clock, Doors, Gate, Sink, Source};
 use std::alloc::Global;
@@ -54,11 +55,16 @@ fn positions_of(alloc: Global, places: u32) -> Result<Vec<usize>, Memory> {
 }
 
 /// The hall of a server, before the first connection.
-fn hall_of<S, K, C>(alloc: Global, config: Config, crew: Crew) -> Result<Hall<S, K, C>, Memory>
+fn hall_of<S, K, C, H>(
+    alloc: Global,
+    config: Config,
+    crew: Crew,
+) -> Result<Hall<S, K, C, H>, Memory>
 where
     S: Source + Drop,
     K: Sink + Drop,
     C: Clock + Drop,
+    H: Keeping + Drop,
     ensures ready { IfOk result (λ h. IsReady h) }
     ensures setting { IfOk result (λ h. setting_in h ≡ config) }
     ensures empty { IfOk result (λ h. (h.running.items ≡ []) × (met_in h ≡ [])) }
@@ -118,6 +124,7 @@ fn fill_at<Q: Keeper, R: Wait + rt::Clock>(
     requires { IsFreshAt turnstile.now seat }
     ensures filled { HasFilledAt turnstile.now result.0 }
     ensures written { OnOk result.1 (Q.kept keeper.old (writes_in (mine result.0))) }
+    ensures opened { OnOk result.1 ((place : Q.Hand.Log) → Q.log keeper.new ≡ Some place → Q.opens keeper.old place) }
     ensures none { Q.may_fail keeper.old ≡ false → mine result.0 ≡ [] }
     ensures keeper { Q.may_fail keeper.new ≡ Q.may_fail keeper.old }
 {
@@ -133,7 +140,7 @@ fn fill_at<Q: Keeper, R: Wait + rt::Clock>(
 #[tactic(auto, using(crate::proofs::HallLemmas::fresh_split))]
 fn fill<S, K, C, Q, R>(
     rt: &R,
-    hall: &mut Hall<S, K, C>,
+    hall: &mut Hall<S, K, C, Q::Hand>,
     keeper: &mut Q,
     moment: Moment,
 ) -> Result<(), Unfilled>
@@ -149,6 +156,7 @@ where
     ensures ready { IsReady hall.new }
     ensures filled { HasFilled hall.old hall.new }
     ensures written { OnOk result (Q.kept keeper.old (flat_map written_by (seen_in hall.new))) }
+    ensures opened { OnOk result ((place : Q.Hand.Log) → Q.log keeper.new ≡ Some place → Q.opens keeper.old place) }
     ensures none { Q.may_fail keeper.old ≡ false → seen_in hall.new ≡ [] }
     ensures keeper { Q.may_fail keeper.new ≡ Q.may_fail keeper.old }
 {
@@ -163,7 +171,7 @@ fn ring_all<P, C, G, Q, R, M>(
     rt: &R,
     alloc: Global,
     doors: &mut P,
-    hall: &mut Hall<P::From, P::To, C>,
+    hall: &mut Hall<P::From, P::To, C, Q::Hand>,
     clock: &C,
     gate: &G,
     keeper: &mut Q,
@@ -183,13 +191,14 @@ where
     requires keeps { Q.may_fail keeper.old ≡ true → (setting_in hall.old).keeps ≡ true }
     requires room { HaveRoom (P.at doors.old) hall.old 0 }
     requires work { WorkIn C.tick trim (C.is_clone clock.now) hall.old matchers.old.items }
+    ensures log { Q.log keeper.new ≡ Q.log keeper.old }
     ensures stays { Stays hall.old hall.new }
     ensures ready { IsReady hall.new }
     ensures room { HaveRoom (P.at doors.new) hall.new 0 }
     ensures out { KeepsOut hall.old hall.new }
     ensures count { length matchers.new.items ≡ length matchers.old.items }
     ensures work { WorkIn C.tick trim (C.is_clone clock.now) hall.new matchers.new.items }
-    ensures ends { (base : List (ℕ × Entry)) (first : DoorsView P.From P.To) → Going P.From.at P.To.at P.To.ended C.tick (C.is_clone clock.now) base first (P.at doors.old) hall.old [] 0 0 → Ends P.From.at P.To.at P.To.ended C.tick (C.is_clone clock.now) base first (P.at doors.new) hall.new connections result }
+    ensures ends { (base : List (ℕ × Entry)) (first : DoorsView P.From P.To) → Going P.From.at P.To.at P.To.ended C.tick (KeptBy Q.Hand.log Q.Hand.keeps) (C.is_clone clock.now) (IsAtLog Q.Hand.log (Q.log keeper.old)) base first (P.at doors.old) hall.old [] 0 0 → Ends P.From.at P.To.at P.To.ended C.tick (KeptBy Q.Hand.log Q.Hand.keeps) (C.is_clone clock.now) (IsAtLog Q.Hand.log (Q.log keeper.old)) base first (P.at doors.new) hall.new connections result }
 {
     for given in 0..connections {
         let why = match ring(rt, alloc, doors, hall, clock, gate, keeper, given) {
@@ -217,7 +226,7 @@ fn serve_filled<P, C, G, Q, R, M>(
     rt: &R,
     alloc: Global,
     doors: &mut P,
-    hall: &mut Hall<P::From, P::To, C>,
+    hall: &mut Hall<P::From, P::To, C, Q::Hand>,
     clock: &C,
     gate: &G,
     keeper: &mut Q,
@@ -239,12 +248,13 @@ where
     requires none { matchers.old.items ≡ [] }
     requires capacity { crew.matchers ≤ deque_capacity matchers.old }
     requires some { 0 < connections }
+    ensures log { Q.log keeper.new ≡ Q.log keeper.old }
     ensures setting { setting_in hall.new ≡ setting_in hall.old }
     ensures ready { IsReady hall.new }
     ensures room { HaveRoom (P.at doors.new) hall.new 0 }
     ensures out { HasOut 0 hall.old.seat → HasOut (length matchers.new.items + length hall.new.running.items) hall.new.seat }
     ensures work { WorkIn C.tick crew.trim (C.is_clone clock.now) hall.new matchers.new.items }
-    ensures ends { (base : List (ℕ × Entry)) → met_in hall.old ≡ base → Distinct base → Ends P.From.at P.To.at P.To.ended C.tick (C.is_clone clock.now) base (P.at doors.old) (P.at doors.new) hall.new connections result }
+    ensures ends { (base : List (ℕ × Entry)) → met_in hall.old ≡ base → Distinct base → Ends P.From.at P.To.at P.To.ended C.tick (KeptBy Q.Hand.log Q.Hand.keeps) (C.is_clone clock.now) (IsAtLog Q.Hand.log (Q.log keeper.old)) base (P.at doors.old) (P.at doors.new) hall.new connections result }
 {
     if start_matchers(rt, alloc, hall, matchers, clock, crew, monitor).is_err() {
         return no_memory();
@@ -269,7 +279,7 @@ fn serve_all<P, C, G, Q, R, M>(
     rt: &R,
     alloc: Global,
     doors: &mut P,
-    hall: &mut Hall<P::From, P::To, C>,
+    hall: &mut Hall<P::From, P::To, C, Q::Hand>,
     clock: &C,
     gate: &G,
     keeper: &mut Q,
@@ -298,7 +308,8 @@ where
     ensures room { HaveRoom (P.at doors.new) hall.new 0 }
     ensures out { HasOut (length matchers.new.items + length hall.new.running.items) hall.new.seat }
     ensures work { WorkIn C.tick crew.trim (C.is_clone clock.now) hall.new matchers.new.items }
-    ensures ends { (first : List Entry) × AreFilled (Q.kept keeper.old) (Q.may_fail keeper.old) first result.connections × Ends P.From.at P.To.at P.To.ended C.tick (C.is_clone clock.now) (enumerate_from 0 first) (P.at doors.old) (P.at doors.new) hall.new connections result }
+    ensures opened { 0 < result.connections → (place : Q.Hand.Log) → Q.log keeper.new ≡ Some place → Q.opens keeper.old place }
+    ensures ends { (first : List Entry) × AreFilled (Q.kept keeper.old) (Q.may_fail keeper.old) first result.connections × Ends P.From.at P.To.at P.To.ended C.tick (KeptBy Q.Hand.log Q.Hand.keeps) (C.is_clone clock.now) (IsAtLog Q.Hand.log (Q.log keeper.new)) (enumerate_from 0 first) (P.at doors.old) (P.at doors.new) hall.new connections result }
 {
     match fill(rt, hall, keeper, moment) {
         Ok(()) => serve_filled(
@@ -349,7 +360,7 @@ where
     requires places { 0 < crew.places }
     requires workers { 0 < crew.workers }
     requires keeps { Q.may_fail keeper.old ≡ true → config.keeps ≡ true }
-    ensures { Serves P.From.at P.To.at P.To.ended C.tick (C.is_clone clock.now) (Q.kept keeper.old) config crew.trim (P.at doors.old) (P.at doors.new) connections result }
+    ensures { Serves P.From.at P.To.at P.To.ended C.tick (KeptBy Q.Hand.log Q.Hand.keeps) (C.is_clone clock.now) (IsOfKeeper Q.opens Q.Hand.log keeper.old) (Q.kept keeper.old) config crew.trim (P.at doors.old) (P.at doors.new) connections result }
 {
     if connections == 0 {
         monitor.end();

@@ -4,6 +4,7 @@ ghost use Rattle.std.specs.Arc.{arc_value};
 ghost use Rattle.quaestor_serve.specs.declared.begun.Done.{Done};
 ghost use Rattle.quaestor_serve.specs.Kept.{Kept, KeptOf, MayBegin};
 ghost use Rattle.quaestor_serve.specs.Running.{begun_of};
+ghost use Rattle.quaestor_serve.specs.Served.{KeptBy};
 ghost use Rattle.hub_desk.specs.HubValue.{hub_setting};
 ghost use Rattle.turnstile.specs.Seats.{setting_of};
 
@@ -38,7 +39,7 @@ fn serve_at<R: Wait + rt::Clock, S: Source, K: Sink, C: Clock + Drop, H: Keeping
 ) -> Done<S, K>
     requires begin { MayBegin turnstile.now seat pool.now }
     requires keeps { H.may_fail hand ≡ true → (setting_of hub_setting turnstile.now).keeps ≡ true }
-    ensures { Kept S.at K.at K.ended C.tick turnstile.now seat source sink clock result }
+    ensures { Kept S.at K.at K.ended C.tick (KeptBy H.log H.keeps) turnstile.now seat source sink clock hand result }
 {
     let seated = Seated::new(rt, turnstile, seat);
     let mut desk = KeptDesk::new(seated, hand);
@@ -86,7 +87,7 @@ pub(crate) fn serve_there<
 ) -> Done<S, K>
     requires begin { MayBegin (arc_value turnstile) seat (arc_value pool) }
     requires keeps { H.may_fail hand ≡ true → (setting_of hub_setting (arc_value turnstile)).keeps ≡ true }
-    ensures { Kept S.at K.at K.ended C.tick (arc_value turnstile) seat source sink clock result }
+    ensures { Kept S.at K.at K.ended C.tick (KeptBy H.log H.keeps) (arc_value turnstile) seat source sink clock hand result }
 {
     gate.pass(place);
     let done = serve_at(
@@ -97,19 +98,20 @@ pub(crate) fn serve_there<
 }
 
 /// Starts a thread that works for a connection. Where none can be made the work comes back.
-pub(crate) fn try_start<S, K, C, F, R>(
+pub(crate) fn try_start<S, K, C, H, F, R>(
     rt: &R,
-    begun: &Begun<S, K, C>,
+    begun: &Begun<S, K, C, H>,
     work: F,
-) -> Result<PromisedHandle<Done<S, K>, Beginning<S, K, C>>, F>
+) -> Result<PromisedHandle<Done<S, K>, Beginning<S, K, C, H>>, F>
 where
     S: Source + Send + Drop + 'static,
     K: Sink + Send + Drop + 'static,
     C: Clock + Drop,
+    H: Keeping + Drop,
     F: FnOnce() -> Done<S, K> + Send + 'static,
     R: Threads,
     requires runs { F.pre work }
-    requires keeps { (done : Done S K) → F.post work done → KeptOf S.at K.at K.ended C.tick begun.now done }
+    requires keeps { (done : Done S K) → F.post work done → KeptOf S.at K.at K.ended C.tick (KeptBy H.log H.keeps) begun.now done }
     ensures started { IfOk result (λ handle. handle.promise.begun.value ≡ begun.now) }
     ensures refused { IfErr result (λ back. back ≡ work) }
 {
@@ -126,13 +128,14 @@ where
 }
 
 /// Waits for the end of a connection.
-pub(crate) fn finish<S, K, C, R>(rt: &R, running: Running<S, K, C>) -> Done<S, K>
+pub(crate) fn finish<S, K, C, H, R>(rt: &R, running: Running<S, K, C, H>) -> Done<S, K>
 where
     S: Source + Drop,
     K: Sink + Drop,
     C: Clock + Drop,
+    H: Keeping + Drop,
     R: Threads,
-    ensures { KeptOf S.at K.at K.ended C.tick (begun_of running) result }
+    ensures { KeptOf S.at K.at K.ended C.tick (KeptBy H.log H.keeps) (begun_of running) result }
 {
     let Running { place: _, handle } = running;
     handle.join(rt)

@@ -20,24 +20,24 @@ answered_of p q f each count first last (x ∷ xs) t =
     (f t.0, each first t.0 x.item (is_last count x) x.answer t.1, answered_of p q f each (count + 1) t.0 last xs t.2)
 
 -- What answers has a desk and a clock.
-module _ {A D C : Type 0} (desk : A → D) (clock : A → C) (setting : D → Setting) (unready : Bool) (seen : D → List Entry) (mine : D → List (ℕ × Entry)) (tick : C → ℕ → C → Type 0) where
+module _ {A D C T : Type 0} (desk : A → D) (clock : A → C) (setting : D → Setting) (unready : Bool) (seen : D → List Entry) (mine : D → List (ℕ × Entry)) (anchor : D → T) (is_kept : D → Type 0) (tick : C → ℕ → C → Type 0) where
   -- how it answers
   abbrev AnswersItem : A → Item → Bool → List ℕ → A → Type 0
-  AnswersItem a item close text b = AnswersAt setting unready seen mine tick (desk a) (desk b) (clock a) (clock b) item close text
+  AnswersItem a item close text b = AnswersAt setting unready seen mine anchor is_kept tick (desk a) (desk b) (clock a) (clock b) item close text
 
   -- both of them
   abbrev timed : A → Timed D C
   timed a = record { desk = desk a; clock = clock a }
 
   -- a visit with it is one to its desk
-  pub visited_by : (first last : A) (b c : Sides) (from : Pause) (end : VisitEnd) (d : D) (k : C) → Visited AnswersItem first last b c from end → d ≡ desk last → k ≡ clock last → Visited (answers_of setting unready seen mine tick) (timed first) (record { desk = d; clock = k }) b c from end
+  pub visited_by : (first last : A) (b c : Sides) (from : Pause) (end : VisitEnd) (d : D) (k : C) → Visited AnswersItem first last b c from end → d ≡ desk last → k ≡ clock last → Visited (answers_of setting unready seen mine anchor is_kept tick) (timed first) (record { desk = d; clock = k }) b c from end
   visited_by first last b c from end d k v same_desk same_clock =
-      let answered : Answered (answers_of setting unready seen mine tick) from.requests (timed first) v.xs (timed last) = answered_of AnswersItem (answers_of setting unready seen mine tick) timed (λ a b item close text t. t) from.requests first last v.xs v.answered in
+      let answered : Answered (answers_of setting unready seen mine anchor is_kept tick) from.requests (timed first) v.xs (timed last) = answered_of AnswersItem (answers_of setting unready seen mine anchor is_kept tick) timed (λ a b item close text t. t) from.requests first last v.xs v.answered in
       record {
         xs = v.xs;
         answered =
-            subst (λ (l : D). Answered (answers_of setting unready seen mine tick) from.requests (timed first) v.xs (record { desk = l; clock = k })) (sym same_desk)
-            (subst (λ (l : C). Answered (answers_of setting unready seen mine tick) from.requests (timed first) v.xs (record { desk = desk last; clock = l })) (sym same_clock) answered);
+            subst (λ (l : D). Answered (answers_of setting unready seen mine anchor is_kept tick) from.requests (timed first) v.xs (record { desk = l; clock = k })) (sym same_desk)
+            (subst (λ (l : C). Answered (answers_of setting unready seen mine anchor is_kept tick) from.requests (timed first) v.xs (record { desk = desk last; clock = l })) (sym same_clock) answered);
         goes = v.goes;
       }
 

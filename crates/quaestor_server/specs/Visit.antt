@@ -11,5 +11,5 @@ pub record Timed (D C : Type 0) : Type 0 where
   pub clock : C
 
 -- how they answer an item
-abbrev pub answers_of : {D C : Type 0} → (D → Setting) → (unready : Bool) → (D → List Entry) → (D → List (ℕ × Entry)) → (C → ℕ → C → Type 0) → Timed D C → Item → Bool → List ℕ → Timed D C → Type 0
-answers_of setting unready seen mine tick a item close text b = AnswersAt setting unready seen mine tick a.desk b.desk a.clock b.clock item close text
+abbrev pub answers_of : {D C A : Type 0} → (D → Setting) → (unready : Bool) → (D → List Entry) → (D → List (ℕ × Entry)) → (D → A) → (D → Type 0) → (C → ℕ → C → Type 0) → Timed D C → Item → Bool → List ℕ → Timed D C → Type 0
+answers_of setting unready seen mine anchor is_kept tick a item close text b = AnswersAt setting unready seen mine anchor is_kept tick a.desk b.desk a.clock b.clock item close text

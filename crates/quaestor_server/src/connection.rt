@@ -3,7 +3,7 @@ ghost use Rattle.std.specs.Prelude.{◌≡◌, true, IfOk};
 ghost use Rattle.http_front.specs.Routes.{all_routes};
 ghost use Rattle.hub_model.specs.Legal.{IsLegal};
 ghost use Rattle.q_outside.specs.Ends.{Ticks};
-ghost use Rattle.quaestor_server.specs.Conversation.{Conversation};
+ghost use Rattle.quaestor_server.specs.Conversation.{AreKept, Conversation};
 ghost use Rattle.quaestor_server.specs.Rooms.{IsFor};
 
 use crate::responder::Responder;
@@ -78,7 +78,7 @@ pub fn serve_connection<D: Desk, S: Source, K: Sink, C: Clock>(
     requires legal { IsLegal (D.setting desk.old) (D.seen desk.old) }
     requires room { IsFor (D.setting desk.old) room.old.pages room.old.config }
     ensures legal { IsLegal (D.setting desk.old) (D.seen desk.new) }
-    ensures conversation { Conversation (D.setting desk.old) D.may_be_unready (λ moments. Ticks C.tick clock.old moments clock.new) (D.seen desk.old) (D.seen desk.new) (D.mine desk.old) (D.mine desk.new)
+    ensures conversation { Conversation (D.setting desk.old) D.may_be_unready (λ moments. Ticks C.tick clock.old moments clock.new) (AreKept D.setting D.seen D.anchor D.is_kept (D.setting desk.old) (D.anchor desk.old)) (D.seen desk.old) (D.seen desk.new) (D.mine desk.old) (D.mine desk.new)
         (record { source = S.at source.old; sink = K.at sink.old }) (record { source = S.at source.new; sink = K.at sink.new }) result }
     ensures room { IsFor (D.setting desk.old) room.new.pages room.new.config }
     ensures anchor { D.anchor desk.new ≡ D.anchor desk.old }

@@ -38,7 +38,7 @@ pub(crate) struct Responder<'a, D: Desk, C: Clock> {
 impl<'a, D: Desk, C: Clock> Answers for Responder<'a, D, C> {
     ghost can = { λ t. IsLegal (D.setting t.desk.now) (D.seen t.desk.now) × IsRoomFor (D.setting t.desk.now) t.pages.now × (t.routes.now ≡ all_routes) × (t.origins.now ≡ (D.setting t.desk.now).origins) × (t.hosts.now ≡ (D.setting t.desk.now).hosts) };
 
-    ghost answers = { λ a item close text b. AnswersAt D.setting D.may_be_unready D.seen D.mine C.tick a.desk.now b.desk.now a.clock.now b.clock.now item close text };
+    ghost answers = { λ a item close text b. AnswersAt D.setting D.may_be_unready D.seen D.mine D.anchor D.is_kept C.tick a.desk.now b.desk.now a.clock.now b.clock.now item close text };
 
     ghost keeps = { λ a b. (b.desk.ghost_name ≡ a.desk.ghost_name) × (b.clock.ghost_name ≡ a.clock.ghost_name) × (b.documents.ghost_name ≡ a.documents.ghost_name) × (b.reply.ghost_name ≡ a.reply.ghost_name) × (b.pages.ghost_name ≡ a.pages.ghost_name) × (D.setting b.desk.now ≡ D.setting a.desk.now) × (D.anchor b.desk.now ≡ D.anchor a.desk.now) };
 

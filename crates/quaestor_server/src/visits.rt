@@ -7,7 +7,7 @@ ghost use Rattle.dialogue.specs.Visit.{MayGoOn, Rests, Visited};
 ghost use Rattle.hub_model.specs.Legal.{IsLegal};
 ghost use Rattle.hub_model.specs.Setting.{Setting};
 ghost use Rattle.q_outside.specs.Ends.{Ticks};
-ghost use Rattle.quaestor_server.specs.Conversation.{Conversation};
+ghost use Rattle.quaestor_server.specs.Conversation.{AreKept, Conversation};
 ghost use Rattle.quaestor_server.specs.Rooms.{IsFor};
 ghost use Rattle.quaestor_server.specs.Visit.{answers_of};
 
@@ -47,7 +47,7 @@ pub fn serve_visits<D: Desk, S: Source, K: Sink, C: Clock, P: Rooms>(
     requires legal { IsLegal (D.setting desk.old) (D.seen desk.old) }
     requires rooms { P.setting rooms.old ≡ D.setting desk.old }
     ensures legal { IsLegal (D.setting desk.old) (D.seen desk.new) }
-    ensures conversation { Conversation (D.setting desk.old) D.may_be_unready (λ moments. Ticks C.tick clock.old moments clock.new) (D.seen desk.old) (D.seen desk.new) (D.mine desk.old) (D.mine desk.new)
+    ensures conversation { Conversation (D.setting desk.old) D.may_be_unready (λ moments. Ticks C.tick clock.old moments clock.new) (AreKept D.setting D.seen D.anchor D.is_kept (D.setting desk.old) (D.anchor desk.old)) (D.seen desk.old) (D.seen desk.new) (D.mine desk.old) (D.mine desk.new)
         (record { source = S.at source.old; sink = K.at sink.old }) (record { source = S.at source.new; sink = K.at sink.new }) result }
     ensures rooms { P.setting rooms.new ≡ P.setting rooms.old }
     ensures anchor { D.anchor desk.new ≡ D.anchor desk.old }
@@ -81,7 +81,7 @@ fn serve_visit<D: Desk, S: Source, K: Sink, C: Clock>(
     requires room { IsFor (D.setting desk.old) room.old.pages room.old.config }
     requires more { MayGoOn from }
     ensures legal { IsLegal (D.setting desk.old) (D.seen desk.new) }
-    ensures visit { Visited (answers_of D.setting D.may_be_unready D.seen D.mine C.tick) (record { desk = desk.old; clock = clock.old }) (record { desk = desk.new; clock = clock.new })
+    ensures visit { Visited (answers_of D.setting D.may_be_unready D.seen D.mine D.anchor D.is_kept C.tick) (record { desk = desk.old; clock = clock.old }) (record { desk = desk.new; clock = clock.new })
         (record { source = S.at source.old; sink = K.at sink.old }) (record { source = S.at source.new; sink = K.at sink.new }) from result }
     ensures rests { Rests from result }
     ensures room { IsFor (D.setting desk.old) room.new.pages room.new.config }

@@ -1,5 +1,5 @@
 -- a record more was read, or the log came to its end
-use Rattle.std.proofs.Common.{Ok, Option, Some, None, refl, ap, ◌∙◌, subst}
+use Rattle.std.proofs.Common.{Ok, Option, refl, ap, ◌∙◌, subst}
 use Rattle.kept_desk.proofs.FillLemmas.{fills_none, fills_both}
 use Rattle.kept_desk.proofs.ReadLemmas.{reads_none, reads_more, reads_end}
 use Rattle.kept_desk.proofs.ResultLemmas.{on_ok, read_told}

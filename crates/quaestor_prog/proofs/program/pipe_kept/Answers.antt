@@ -18,5 +18,5 @@ returns-in-Ok-clause-kept g c = λ given.
     inr (inr (record {
       keeper = c.in-Ok.keeper;
       opened = rw c.longest_of.ensures at c.in-Ok.ensures.opens;
-      run = kept_as (g.P.Keeper.Keeper.kept c.in-Ok.keeper) _ _ _ _ _ _ _ same c.pipe_at-in-Ok.ensures.kept;
+      run = kept_as (g.P.Keeper.Keeper.opens c.in-Ok.keeper) g.P.Keeper.Hand.Keeping.log g.P.Keeper.Hand.Keeping.keeps (g.P.Keeper.Keeper.kept c.in-Ok.keeper) _ _ _ _ _ _ _ same c.pipe_at-in-Ok.ensures.kept;
     }))

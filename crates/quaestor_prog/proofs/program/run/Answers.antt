@@ -17,7 +17,7 @@ pub returns-in-Ok-Pipe-clause-pipe_kept : goal.returns-in-Ok-Pipe-clause-pipe_ke
 returns-in-Ok-Pipe-clause-pipe_kept g c = λ ask is some.
     let has = rw c.in-Ok-Pipe.field-0-is at c.in-Ok-Pipe.ensures in
     let given = data_of _ c.in-Ok-Pipe.options ask _ has is some in
-    run_over_of g.P.Places.opens g.P.Keeper.Keeper.kept g.P.Keeper.Keeper.moment g.C.Clock.tick _ _ _ (pipe_ask_of c.in-Ok-Pipe.options) ask _ _ _ _ _ _ has is (c.pipe_kept.ensures.kept given)
+    run_over_of g.P.Places.opens g.P.Keeper.Keeper.opens g.P.Keeper.Hand.Keeping.log g.P.Keeper.Hand.Keeping.keeps g.P.Keeper.Keeper.kept g.P.Keeper.Keeper.moment g.C.Clock.tick _ _ _ (pipe_ask_of c.in-Ok-Pipe.options) ask _ _ _ _ _ _ has is (c.pipe_kept.ensures.kept given)
 
 pub returns-in-Ok-Pipe-clause-serve : goal.returns-in-Ok-Pipe-clause-serve
 returns-in-Ok-Pipe-clause-serve g c = λ ask is. let pipe = rw c.in-Ok-Pipe.field-0-is at c.in-Ok-Pipe.ensures in absurd (pipe_serve _ pipe.named is.named)
@@ -46,7 +46,7 @@ pub returns-in-Ok-Serve-clause-pipe_kept : goal.returns-in-Ok-Serve-clause-pipe_
 returns-in-Ok-Serve-clause-pipe_kept g c = λ ask is file. let serve = rw c.in-Ok-Serve.field-0-is at c.in-Ok-Serve.ensures in absurd (pipe_serve _ is.named serve.named)
 
 pub returns-in-Ok-Serve-clause-serve : goal.returns-in-Ok-Serve-clause-serve
-returns-in-Ok-Serve-clause-serve g c = λ ask is. (refl, refl, inr (served_of _ _ _ _ _ _ _ _ _ _ _ _ _ _ _ ask _ _ _ _ _ _ (rw c.in-Ok-Serve.field-0-is at c.in-Ok-Serve.ensures) is c.serve_at.ensures))
+returns-in-Ok-Serve-clause-serve g c = λ ask is. (refl, refl, inr (served_of _ _ _ _ _ _ _ _ _ _ _ _ _ _ _ _ _ _ ask _ _ _ _ _ _ (rw c.in-Ok-Serve.field-0-is at c.in-Ok-Serve.ensures) is c.serve_at.ensures))
 
 pub returns-in-Ok-Serve-clause-read : goal.returns-in-Ok-Serve-clause-read
 returns-in-Ok-Serve-clause-read g c = λ ask is. let serve = rw c.in-Ok-Serve.field-0-is at c.in-Ok-Serve.ensures in absurd (serve_read _ serve.named is.named)

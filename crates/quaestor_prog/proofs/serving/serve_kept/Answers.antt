@@ -13,7 +13,7 @@ returns-in-Ok g c = inr (record {
   told = c.address.ensures;
   are_new = c.in-Ok.ensures.unused;
   kept = rw c.in-Ok.ensures.count at c.keep_doors.ensures;
-  through = through_ended _ _ _ _ _ _ _ _ _ _ _ _ _ _ _ _ c.end.ensures.keeps c.serve_through-status.ensures;
+  through = through_ended _ _ _ _ _ _ _ _ _ _ _ _ _ _ _ _ _ _ c.end.ensures.keeps c.serve_through-status.ensures;
   is_ended = c.end.ensures.ends;
 })
 

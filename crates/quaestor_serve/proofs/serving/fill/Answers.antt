@@ -2,7 +2,7 @@
 use Rattle.std.proofs.Common.{refl, ap, ◌∙◌}
 use Rattle.kept_desk.proofs.FillLemmas.{all_filling}
 use Rattle.quaestor_serve.proofs.FilledLemmas.{met_whole, all_written, none_numbered}
-use Rattle.turnstile.specs.Seats.{HasOut, seen, mine, met}
+use Rattle.turnstile.specs.Seats.{HasOut, seen, mine}
 use Rattle.quaestor_serve.proofs.serving.fill.Goals as goal
 
 pub returns-clause-filled : goal.returns-clause-filled

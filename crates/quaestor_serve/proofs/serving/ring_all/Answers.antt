@@ -1,4 +1,5 @@
 -- the cause is that of the last round
+use Rattle.quaestor_serve.specs.Served.{IsAtLog, KeptBy}
 use Rattle.std.proofs.Common.{◌≡◌, true, arith, rules, sym, ap, subst, ◌∙◌}
 use Rattle.hub_model.specs.Setting.{Setting}
 use Rattle.quaestor_serve.specs.Kept.{HubTurnstile, setting_at}
@@ -14,9 +15,9 @@ returns-in-loop-given-clause-ends g c = λ base first going.
     let before = c.loop-given.invariant.4 base first going in
     let less = c.loop-given-test.true in
     elim c.match-ring.branch [
-      | in-NoMemory w ↦ ended_by g.P.From.Source.at g.P.To.Sink.at g.P.To.Sink.ended g.C.Clock.tick (g.C.Clone.is_clone c.args.clock.now) base first _ _ c.loop-given.given c.args.connections c.match-ring.why Memory w.why-is (w.in-NoMemory.ensures.going base first before) (omega (arith, less))
-      | in-Closed w ↦ ended_by g.P.From.Source.at g.P.To.Sink.at g.P.To.Sink.ended g.C.Clock.tick (g.C.Clone.is_clone c.args.clock.now) base first _ _ c.loop-given.given c.args.connections c.match-ring.why Closed w.why-is (w.in-Closed.ensures.going base first before) less
-      | in-Fault w ↦ let failed = w.in-Fault.ensures.going base first before in ended_by g.P.From.Source.at g.P.To.Sink.at g.P.To.Sink.ended g.C.Clock.tick (g.C.Clone.is_clone c.args.clock.now) base first _ _ c.loop-given.given c.args.connections c.match-ring.why DoorFault w.why-is failed.0 (less, failed.1)
+      | in-NoMemory w ↦ ended_by g.P.From.Source.at g.P.To.Sink.at g.P.To.Sink.ended g.C.Clock.tick (KeptBy g.Q.Hand.Keeping.log g.Q.Hand.Keeping.keeps) (g.C.Clone.is_clone c.args.clock.now) (IsAtLog g.Q.Hand.Keeping.log (g.Q.Keeper.log c.args.keeper.now)) base first _ _ c.loop-given.given c.args.connections c.match-ring.why Memory w.why-is (w.in-NoMemory.ensures.going (g.Q.Keeper.log c.args.keeper.now) base first c.loop-given.invariant.8 before) (omega (arith, less))
+      | in-Closed w ↦ ended_by g.P.From.Source.at g.P.To.Sink.at g.P.To.Sink.ended g.C.Clock.tick (KeptBy g.Q.Hand.Keeping.log g.Q.Hand.Keeping.keeps) (g.C.Clone.is_clone c.args.clock.now) (IsAtLog g.Q.Hand.Keeping.log (g.Q.Keeper.log c.args.keeper.now)) base first _ _ c.loop-given.given c.args.connections c.match-ring.why Closed w.why-is (w.in-Closed.ensures.going (g.Q.Keeper.log c.args.keeper.now) base first c.loop-given.invariant.8 before) less
+      | in-Fault w ↦ let failed = w.in-Fault.ensures.going (g.Q.Keeper.log c.args.keeper.now) base first c.loop-given.invariant.8 before in ended_by g.P.From.Source.at g.P.To.Sink.at g.P.To.Sink.ended g.C.Clock.tick (KeptBy g.Q.Hand.Keeping.log g.Q.Hand.Keeping.keeps) (g.C.Clone.is_clone c.args.clock.now) (IsAtLog g.Q.Hand.Keeping.log (g.Q.Keeper.log c.args.keeper.now)) base first _ _ c.loop-given.given c.args.connections c.match-ring.why DoorFault w.why-is failed.0 (less, failed.1)
     ]
 
 pub loop-given-preserved : goal.loop-given-preserved
@@ -25,10 +26,11 @@ loop-given-preserved g c = (
   search rules,
   search rules,
   subst (λ (t : HubTurnstile). AllOf (λ m. WorksAt g.C.Clock.tick c.args.trim (g.C.Clone.is_clone c.args.clock.now) t m) c.step_all.new.matchers.items) c.deref.ensures c.step_all.ensures.work,
-  search rules,
+  λ base first going. c.in-Came.ensures.going (g.Q.Keeper.log c.args.keeper.now) base first c.loop-given.invariant.8 (c.loop-given.invariant.4 base first going),
   λ others was. c.ring.ensures.out others (c.loop-given.invariant.5 others was),
   c.step_all.ensures.count ∙ c.loop-given.invariant.6,
   c.ring.ensures.keeper ∙ c.loop-given.invariant.7,
+  c.ring.ensures.log ∙ c.loop-given.invariant.8,
 )
 
 pub returns-in-loop-given-clause-out : goal.returns-in-loop-given-clause-out

@@ -1,5 +1,7 @@
 -- the store was filled, and then connections were served
-use Rattle.std.proofs.Common.{◌≡◌, ℕ, true, List, length, sym, ap, ◌∙◌, subst, arith}
+use Rattle.quaestor_serve.specs.Serves.{Ends}
+use Rattle.quaestor_serve.specs.Served.{IsAtLog, KeptBy}
+use Rattle.std.proofs.Common.{◌≡◌, ℕ, true, List, Option, length, sym, ap, ◌∙◌, subst, arith}
 use Rattle.std.specs.List.{enumerate_from}
 use Rattle.hub_model.specs.declared.entry.Entry.{Entry}
 use Rattle.hub_model.specs.Setting.{Setting}
@@ -18,8 +20,8 @@ returns-in-Err-clause-ends g c =
     let nobody = c.unfilled.ensures.0 in (
       first,
       record { filling = c.fill.ensures.filled.filling; restored = λ some. absurd (omega (arith, some, nobody)); none = c.fill.ensures.none },
-      ends_empty g.P.From.Source.at g.P.To.Sink.at g.P.To.Sink.ended g.C.Clock.tick (g.C.Clone.is_clone c.args.clock.now) (enumerate_from 0 first) (g.P.Doors.at c.args.doors.now) c.fill.new.hall c.args.connections c.unfilled.result c.requires.some c.unfilled.ensures
-          (going_begins g.P.From.Source.at g.P.To.Sink.at g.P.To.Sink.ended g.C.Clock.tick (g.C.Clone.is_clone c.args.clock.now) (enumerate_from 0 first) (g.P.Doors.at c.args.doors.now) c.fill.new.hall (c.fill.ensures.filled.running ∙ c.requires.empty.0) c.fill.ensures.filled.met (rises_once (enumerate_from 0 first) (places_rise 0 first))),
+      ends_empty g.P.From.Source.at g.P.To.Sink.at g.P.To.Sink.ended g.C.Clock.tick (KeptBy g.Q.Hand.Keeping.log g.Q.Hand.Keeping.keeps) (g.C.Clone.is_clone c.args.clock.now) (IsAtLog g.Q.Hand.Keeping.log (g.Q.Keeper.log c.fill.new.keeper)) (enumerate_from 0 first) (g.P.Doors.at c.args.doors.now) c.fill.new.hall c.args.connections c.unfilled.result c.requires.some c.unfilled.ensures
+          (going_begins g.P.From.Source.at g.P.To.Sink.at g.P.To.Sink.ended g.C.Clock.tick (KeptBy g.Q.Hand.Keeping.log g.Q.Hand.Keeping.keeps) (g.C.Clone.is_clone c.args.clock.now) (IsAtLog g.Q.Hand.Keeping.log (g.Q.Keeper.log c.fill.new.keeper)) (enumerate_from 0 first) (g.P.Doors.at c.args.doors.now) c.fill.new.hall (c.fill.ensures.filled.running ∙ c.requires.empty.0) c.fill.ensures.filled.met (rises_once (enumerate_from 0 first) (places_rise 0 first))),
     )
 
 pub returns-in-Err-clause-out : goal.returns-in-Err-clause-out
@@ -51,8 +53,15 @@ returns-in-Ok-clause-ends g c =
     let first : List Entry = seen_in c.fill.new.hall in (
       first,
       record { filling = c.fill.ensures.filled.filling; restored = λ some. c.in-Ok.ensures.written; none = c.fill.ensures.none },
-      c.serve_filled.ensures.ends (enumerate_from 0 first) c.fill.ensures.filled.met (rises_once (enumerate_from 0 first) (places_rise 0 first)),
+      subst (λ (l : Option g.row.Q-Hand-Log.Denot). Ends g.P.From.Source.at g.P.To.Sink.at g.P.To.Sink.ended g.C.Clock.tick (KeptBy g.Q.Hand.Keeping.log g.Q.Hand.Keeping.keeps) (g.C.Clone.is_clone c.args.clock.now) (IsAtLog g.Q.Hand.Keeping.log l) (enumerate_from 0 first) (g.P.Doors.at c.args.doors.now) (g.P.Doors.at c.serve_filled.new.doors) c.serve_filled.new.hall c.args.connections c.serve_filled.result) (sym c.serve_filled.ensures.log)
+          (c.serve_filled.ensures.ends (enumerate_from 0 first) c.fill.ensures.filled.met (rises_once (enumerate_from 0 first) (places_rise 0 first))),
     )
 
 pub returns-in-Err-clause-work : goal.returns-in-Err-clause-work
 returns-in-Err-clause-work g c = work_none g.C.Clock.tick c.args.crew.trim (g.C.Clone.is_clone c.args.clock.now) c.fill.new.hall c.args.matchers.now.items c.requires.none
+
+pub returns-in-Err-clause-opened : goal.returns-in-Err-clause-opened
+returns-in-Err-clause-opened g c = λ some. let nobody = c.unfilled.ensures.0 in absurd (omega (arith, some, nobody))
+
+pub returns-in-Ok-clause-opened : goal.returns-in-Ok-clause-opened
+returns-in-Ok-clause-opened g c = λ some place is. c.in-Ok.ensures.opened place (sym c.serve_filled.ensures.log ∙ is)

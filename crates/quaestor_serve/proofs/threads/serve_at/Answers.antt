@@ -1,9 +1,10 @@
 -- the conversation was at the thread's seat
-use Rattle.std.proofs.Common.{◌≡◌, true, ap, sym, ◌∙◌, subst}
+use Rattle.quaestor_serve.specs.Served.{KeptBy}
+use Rattle.std.proofs.Common.{◌≡◌, true, refl, ap, sym, ◌∙◌, subst}
 use Rattle.hub_desk.specs.HubValue.{hub_setting}
 use Rattle.hub_desk.specs.Seated.{turnstile_of, seat_of}
 use Rattle.quaestor_serve.specs.Kept.{HubTurnstile, setting_at}
-use Rattle.quaestor_serve.proofs.KeptLemmas.{kept_after}
+use Rattle.quaestor_serve.proofs.KeptLemmas.{kept_after, kept_by_hand}
 use Rattle.turnstile.specs.Seats.{IsSeatOf}
 use Rattle.quaestor_serve.proofs.threads.serve_at.Goals as goal
 
@@ -19,5 +20,6 @@ returns g c =
     let at = ap turnstile_of c.new-desk.ensures.desk ∙ c.new-seated.ensures.turnstile in
     let here = ap seat_of c.new-desk.ensures.desk ∙ c.new-seated.ensures.seat in
     let own = subst (λ (t : HubTurnstile). IsSeatOf hub_setting t c.into_seat.result) (ap turnstile_of c.into_parts-seated.ensures.desk) c.into_seat.ensures.own in
-    kept_after g.S.Source.at g.K.Sink.at g.K.Sink.ended g.C.Clock.tick c.args.turnstile.now (turnstile_of first) (turnstile_of last) c.args.seat (seat_of first) (seat_of last) c.into_seat.result c.args.source c.serve_visits-served.new.source c.args.sink c.serve_visits-served.new.sink c.end.new.self c.args.clock c.serve_visits-served.new.clock c.serve_visits-served.result
-    at here (ap (λ a. a.0) tied) (ap (λ a. a.1.1.0) tied) (ap (λ a. a.1.1.1.1.1) tied) (c.into_seat.ensures.seat ∙ ap seat_of c.into_parts-seated.ensures.desk) own c.into_seat.ensures.idle c.requires.begin.0 c.end.ensures.keeps c.end.ensures.ends c.serve_visits-served.ensures.conversation
+    kept_after g.S.Source.at g.K.Sink.at g.K.Sink.ended g.C.Clock.tick (KeptBy g.H.Keeping.log g.H.Keeping.keeps) _ c.args.turnstile.now (turnstile_of first) (turnstile_of last) c.args.seat (seat_of first) (seat_of last) c.into_seat.result c.args.source c.serve_visits-served.new.source c.args.sink c.serve_visits-served.new.sink c.end.new.self c.args.clock c.serve_visits-served.new.clock c.args.hand c.serve_visits-served.result
+    (λ n stood. subst (λ (h : g.row.H.Denot). KeptBy g.H.Keeping.log g.H.Keeping.keeps h n) c.new-desk.ensures.hand (kept_by_hand (λ d. d.hand) _ _ _ _ g.H.Keeping.log g.H.Keeping.keeps _ _ c.new-desk.result.hand (λ d. refl) (λ d all. all.0) n stood))
+    at here (ap (λ a. a.0.0) tied) (ap (λ a. a.0.1.1.0) tied) (ap (λ a. a.0.1.1.1.1.1) tied) (c.into_seat.ensures.seat ∙ ap seat_of c.into_parts-seated.ensures.desk) own c.into_seat.ensures.idle c.requires.begin.0 c.end.ensures.keeps c.end.ensures.ends c.serve_visits-served.ensures.conversation

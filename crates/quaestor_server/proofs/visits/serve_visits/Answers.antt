@@ -50,5 +50,5 @@ loop-visit-preserved g c =
 pub returns-in-Ended-clause-conversation : goal.returns-in-Ended-clause-conversation
 returns-in-Ended-clause-conversation g c =
     let i = c.loop-visit.invariant in
-    conversation (λ a. a.desk) (λ a. a.clock) g.D.Desk.setting g.D.Desk.may_be_unready g.D.Desk.seen g.D.Desk.mine g.C.Clock.tick _ _ _ _ _ _ _
+    conversation (λ a. a.desk) (λ a. a.clock) g.D.Desk.setting g.D.Desk.may_be_unready g.D.Desk.seen g.D.Desk.mine g.D.Desk.anchor g.D.Desk.is_kept g.C.Clock.tick _ _ _ _ _ _ _
     (speaks_to_the_end _ _ _ _ _ _ _ _ _ _ (waited _ _ _ _ _ _ _ c.wait.ensures i.speaking) c.in-Ended.is c.serve_visit-end.ensures.visit) refl refl

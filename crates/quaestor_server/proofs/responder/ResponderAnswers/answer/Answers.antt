@@ -15,4 +15,4 @@ returns-clause-can g c =
 pub returns-clause-reply : goal.returns-clause-reply
 returns-clause-reply g c =
     let answered = c.answer-told.ensures.answer _ _ (early_all _ _ _ _ _ c.requires.2 c.requires.4 c.ask_to-read.ensures.early) (read_all _ _ _ _ _ c.requires.2 c.requires.4 c.ask_to-read.ensures.asked) in
-    replies g.D.Desk.setting g.D.Desk.may_be_unready g.D.Desk.seen g.D.Desk.mine g.C.Clock.tick _ _ _ _ (request c.args.request.now) c.args.close _ _ _ _ _ _ _ _ c.answer-told.ensures.setting c.now-moment.ensures (c.shape_of-shape.ensures ∙ ap (λ (o : List ℕ). shape_by o (request c.args.request.now)) c.requires.3) c.bytes.ensures answered c.give_noted.ensures.reply
+    replies g.D.Desk.setting g.D.Desk.may_be_unready g.D.Desk.seen g.D.Desk.mine g.D.Desk.anchor g.D.Desk.is_kept g.C.Clock.tick _ _ _ _ (request c.args.request.now) c.args.close _ _ _ _ _ _ _ _ c.answer-told.ensures.setting c.answer-told.ensures.anchor c.answer-told.ensures.kept c.now-moment.ensures (c.shape_of-shape.ensures ∙ ap (λ (o : List ℕ). shape_by o (request c.args.request.now)) c.requires.3) c.bytes.ensures answered c.give_noted.ensures.reply

@@ -15,4 +15,4 @@ returns-clause-can g c =
 pub returns-clause-reply : goal.returns-clause-reply
 returns-clause-reply g c = λ called.
     let answered = c.answer-told.ensures.answer true (asked_by [] (unframed c.args.refused called c.args.head)) (λ known. refl) refl in
-    replies g.D.Desk.setting g.D.Desk.may_be_unready g.D.Desk.seen g.D.Desk.mine g.C.Clock.tick _ _ _ _ (unframed c.args.refused called c.args.head) true _ _ _ _ _ _ _ _ c.answer-told.ensures.setting c.now-moment.ensures (c.unframed-shape.ensures ∙ ap (λ (o : List ℕ). shape_by o (unframed c.args.refused called c.args.head)) c.requires.3) c.bytes.ensures answered c.give_noted.ensures.reply
+    replies g.D.Desk.setting g.D.Desk.may_be_unready g.D.Desk.seen g.D.Desk.mine g.D.Desk.anchor g.D.Desk.is_kept g.C.Clock.tick _ _ _ _ (unframed c.args.refused called c.args.head) true _ _ _ _ _ _ _ _ c.answer-told.ensures.setting c.answer-told.ensures.anchor c.answer-told.ensures.kept c.now-moment.ensures (c.unframed-shape.ensures ∙ ap (λ (o : List ℕ). shape_by o (unframed c.args.refused called c.args.head)) c.requires.3) c.bytes.ensures answered c.give_noted.ensures.reply
